@@ -1,0 +1,40 @@
+//! The program: `cube try` reads a schema and a script and answers the lines of the script.
+#![tactic(auto)]
+
+use cube_base::{StdSink, StdSource};
+use cube_cli::{End, cube};
+use std::env::Env;
+use std::io::ErrorKind;
+use std::process::ExitCode;
+use std::{env, io};
+
+/// The last status of a run that was done to its end.
+const LAST_DONE: u8 = 1;
+
+fn main(rt: HostRuntime) -> ExitCode {
+    let end = run(&rt);
+    let status = end.status();
+    if status > LAST_DONE {
+        // Where standard error takes nothing, the status still tells.
+        let _ = eprintln!(rt; "cube: {end}");
+    }
+    ExitCode::from(status)
+}
+
+/// Runs the command that the words name, over the standard streams.
+fn run(rt: &(impl Env + AllocGlobal + Input + Print)) -> End {
+    let alloc = rt.alloc();
+    let args = match env::args(rt) {
+        Ok(args) => args,
+        Err(error) if error.kind() == ErrorKind::OutOfMemory => return End::Memory { done: 0 },
+        // A word that is not UTF-8 is no command.
+        Err(_) => return End::Usage,
+    };
+    let words: Result<Vec<String>, _> = args.skip(1).collect(alloc);
+    let Ok(words) = words else {
+        return End::Memory { done: 0 };
+    };
+    let mut source = StdSource::new(rt.reader());
+    let mut sink = StdSink::new(io::writer(rt));
+    cube(alloc, &words, &mut source, &mut sink)
+}

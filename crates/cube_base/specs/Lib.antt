@@ -1,0 +1,6 @@
+pub mod Code
+pub mod InPlace
+pub mod MemoryIo
+pub mod Name
+pub mod Outside
+pub mod StandardIo

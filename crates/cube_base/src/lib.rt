@@ -1,0 +1,21 @@
+//! What every crate of the cube stands on: the traits of the outside with their counts of faults,
+//! the plain lists that contracts see as lists, names, columns of values, and the codes of refusals.
+#![tactic(auto)]
+
+mod code;
+mod cols;
+mod fault;
+mod memory_io;
+mod name;
+mod outside;
+mod plain_list;
+mod standard_io;
+
+pub use code::Code;
+pub use cols::{Cols, MAX_COLS};
+pub use fault::{Failed, Memory, SinkError};
+pub use memory_io::{MemSink, MemSource};
+pub use name::{MAX_NAME_LEN, Name, has_name_bytes};
+pub use outside::{Sink, Source, write_from, write_whole};
+pub use plain_list::{Bytes, Ids, Names, Nums, Pairs, PlainList};
+pub use standard_io::{StdSink, StdSource};

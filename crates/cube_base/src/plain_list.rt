@@ -1,0 +1,103 @@
+//! A plain list, which contracts see as the list of its items.
+ghost use Rattle.std.specs.Prelude.{◌≡◌, [], ◌∷◌, ◌++◌, List, OnOk, OnErr};
+
+use crate::{Memory, Name};
+use std::alloc::Global;
+use std::marker::Model;
+
+/// A list of items in order. It is made from a `Vec` and gives it back without taking memory.
+#[derive(Debug, Drop)]
+pub struct PlainList<T> {
+    items: Vec<T>,
+}
+
+/// Bytes, as of a text.
+pub type Bytes = PlainList<u8>;
+/// Ids of facts, or numbers of calls.
+pub type Ids = PlainList<u64>;
+/// Names.
+pub type Names = PlainList<Name>;
+/// Whole numbers.
+pub type Nums = PlainList<i128>;
+/// Pairs of two numbers, as a cell and its weight.
+pub type Pairs = PlainList<(u64, u64)>;
+
+impl<T> Model for PlainList<T> {
+    ghost Value = { List T };
+
+    ghost view = { λ l. l.items.items };
+}
+
+impl<T> PlainList<T> {
+    /// The empty list.
+    pub fn new(alloc: Global) -> Self
+        ensures { result ≡ [] }
+    {
+        PlainList {
+            items: Vec::new(alloc),
+        }
+    }
+
+    /// The items in order.
+    pub fn as_slice(&self) -> &[T]
+        ensures { result.now ≡ self.now }
+    {
+        self.items.as_slice()
+    }
+}
+
+impl<T: Drop> PlainList<T> {
+    /// Appends an item. An error drops it and leaves the list as it was.
+    pub fn push(&mut self, x: T) -> Result<(), Memory>
+        ensures ok { OnOk result (self.new ≡ self.old ++ x ∷ []) }
+        ensures err { OnErr result (self.new ≡ self.old) }
+    {
+        self.items.push(x)?;
+        Ok(())
+    }
+}
+
+impl<T> From<Vec<T>> for PlainList<T> {
+    ghost from_gives = { λ v l. l ≡ v.items };
+
+    fn from(items: Vec<T>) -> Self {
+        PlainList { items }
+    }
+}
+
+impl<T> PlainList<T> {
+    /// The items as a `Vec`.
+    pub fn into_vec(self) -> Vec<T>
+        ensures { result.items ≡ self }
+    {
+        let PlainList { items } = self;
+        items
+    }
+}
+
+#[cfg(test)]
+mod tests {
+    use super::*;
+    use std::test::Fail;
+
+    #[test]
+    fn lists_of_each_item_take_one_more(rt: HostRuntime) -> Result<(), Fail> {
+        let mut bytes = Bytes::new(rt.alloc());
+        bytes.push(b'a')?;
+        assert_eq!(rt; bytes.as_slice(), [b'a'].as_slice());
+        let mut ids = Ids::from([1].to_vec(rt.alloc())?);
+        ids.push(u64::MAX)?;
+        assert_eq!(rt; ids.as_slice(), [1, u64::MAX].as_slice());
+        let mut nums = Nums::new(rt.alloc());
+        nums.push(i128::MIN)?;
+        assert_eq!(rt; nums.as_slice(), [i128::MIN].as_slice());
+        let mut pairs = Pairs::new(rt.alloc());
+        pairs.push((1, 2))?;
+        assert_eq!(rt; pairs.into_vec().as_slice(), [(1, 2)].as_slice());
+        let mut names = Names::new(rt.alloc());
+        names.push(Name::new(rt.alloc(), "Austin")?.ok_or("a name")?)?;
+        let first = names.as_slice().first().map(|name| name.text());
+        assert_eq!(rt; first, Some("Austin"));
+        Ok(())
+    }
+}

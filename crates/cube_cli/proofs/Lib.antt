@@ -1,0 +1,15 @@
+pub mod Answering
+pub mod Counts
+pub mod Ends
+pub mod Entries
+pub mod EvenRows
+pub mod LineEnds
+pub mod OneDimension
+pub mod Puts
+pub mod Ranges
+pub mod Refreshed
+pub mod ReplyLines
+pub mod Runs
+pub mod Turns
+pub mod Uniform
+pub mod Writing

@@ -1,0 +1,110 @@
+-- What each end of a run says of the words, of the input and of what was written.
+use Rattle.std.specs.Prelude.{◌≡◌, ℕ, ◌-◌, ◌<◌, ◌≤◌, Bool, true, false, List, [], ◌∷◌, length, take, drop, ⊤, Option, Some, None, IfSome, IsSome, IsSomeAnd, codes}
+use Rattle.std.specs.Option.{option_map_or}
+use Rattle.std.specs.Io.{StartsWith}
+use Rattle.std.specs.Io.KnownBytes.{Appends, IsAtEnd, Keeps}
+use Rattle.std.specs.Cmp.Lexicographic.{pointwise}
+use Rattle.std.specs.Str.{bytes_eq}
+use Rattle.cube_base.specs.Outside.{Rose}
+use Rattle.cube_base.specs.declared.code.Code.TheVariants.{Order}
+use Rattle.cube_model.specs.Text.{lines_of}
+use Rattle.cube_model.specs.FirstText.{FirstSchema, first_schema}
+use Rattle.cube_model.specs.Run.{run, outcome_of}
+use Rattle.cube_cli.specs.Input.{INPUT_LIMIT, GoesOn}
+use Rattle.cube_cli.specs.declared.end.End.{End}
+use Rattle.cube_cli.specs.declared.end.End.TheVariants.{Finished, Usage, Schema, ReadFault, WriteFault, Memory, TooLong}
+
+-- the words of a command
+abbrev pub is_command : List (List ℕ) → Bool
+is_command words = pointwise bytes_eq words (codes "try" ∷ [])
+
+-- what the source and the sink tell, before a call and after it
+pub record Seen : Type 0 where
+  pub left : Option (List ℕ)
+  pub left_after : Option (List ℕ)
+  pub read_faults : ℕ
+  pub read_faults_after : ℕ
+  pub taken : Option (List ℕ)
+  pub taken_after : Option (List ℕ)
+  pub write_faults : ℕ
+  pub write_faults_after : ℕ
+
+-- no fault of the outside was met
+pub record NoFault (seen : Seen) : Type 0 where
+  pub read : seen.read_faults_after ≡ seen.read_faults
+  pub write : seen.write_faults_after ≡ seen.write_faults
+
+-- nothing was written
+abbrev pub WroteNothing : Seen → Type 0
+WroteNothing seen = Keeps seen.taken seen.taken_after
+
+-- what was written, where the sink tells it
+abbrev pub Wrote : Option (List ℕ) → Option (List ℕ) → (List ℕ → Type 0) → Type 0
+Wrote None after P = ⊤
+Wrote (Some before) after P = IsSomeAnd after (λ now. StartsWith now before × P (drop (length before) now))
+
+-- the input was read to its end, where the source tells it
+abbrev pub WasRead : Seen → (List ℕ → Type 0) → Type 0
+WasRead seen P = IfSome seen.left (λ input. (length input ≤ INPUT_LIMIT) × IsAtEnd seen.left_after × P input)
+
+-- the lines of an input's script
+abbrev pub script_of : List ℕ → FirstSchema → List (List ℕ)
+script_of input schema = lines_of (drop schema.size input)
+
+-- the number of script lines, and the replies to the first n of them; there are none without a schema
+abbrev pub script_len : List ℕ → ℕ
+script_len input = option_map_or (λ schema. length (script_of input schema)) (first_schema input) 0
+
+abbrev pub first_replies : List ℕ → ℕ → List ℕ
+first_replies input n = option_map_or (λ schema. (run schema.dim [] (take n (script_of input schema))).reply) (first_schema input) []
+
+-- What was written when a run stopped: a part of the replies to the lines that were done, with all but the
+-- last whole.
+pub record Stopped (input : List ℕ) (done : ℕ) (written : List ℕ) : Type 0 where
+  pub among : done ≤ script_len input
+  pub prefix : StartsWith (first_replies input done) written
+  pub holds : StartsWith written (first_replies input (done - 1))
+
+-- the last reply is not whole
+pub record Broken (input : List ℕ) (done : ℕ) (written : List ℕ) : Type 0 where
+  pub stopped : Stopped input done written
+  pub part : length written < length (first_replies input done)
+
+-- What each end says.
+abbrev pub Says : List (List ℕ) → Seen → End → Type 0
+-- the words are no command: nothing was read, nothing written
+Says words seen Usage = (is_command words ≡ false) × NoFault seen × Keeps seen.left seen.left_after × WroteNothing seen
+-- the input does not begin with a schema
+Says words seen (Schema line why) = (is_command words ≡ true) × NoFault seen × WroteNothing seen × (line ≡ 0) × (why ≡ Order)
+    × WasRead seen (λ input. first_schema input ≡ None)
+-- the bytes written are the replies of the run, which refuses so many lines
+Says words seen (Finished refused) = (is_command words ≡ true) × NoFault seen
+    × WasRead seen (λ input. IsSomeAnd (outcome_of input) (λ outcome. (refused ≡ outcome.refused) × Appends seen.taken seen.taken_after outcome.reply))
+-- a read failed before any line was done
+Says words seen (ReadFault done) = (is_command words ≡ true) × Rose seen.read_faults seen.read_faults_after × (seen.write_faults_after ≡ seen.write_faults)
+    × WroteNothing seen × (done ≡ 0)
+-- 2^30 bytes were taken before any line was done, and one more came
+Says words seen (TooLong done) = (is_command words ≡ true) × NoFault seen × WroteNothing seen × (done ≡ 0) × GoesOn seen.left seen.left_after
+-- a write failed: the reply to the last line is not whole
+Says words seen (WriteFault done) = (is_command words ≡ true) × Rose seen.write_faults seen.write_faults_after × (seen.read_faults_after ≡ seen.read_faults)
+    × WasRead seen (λ input. Wrote seen.taken seen.taken_after (Broken input done))
+-- memory was wanting
+Says words seen (Memory done) = (is_command words ≡ true) × NoFault seen
+    × IfSome seen.left (λ input. Wrote seen.taken seen.taken_after (Stopped input done))
+
+-- the run was done to its end, or memory was wanting
+abbrev pub IsDone : End → Type 0
+IsDone (Finished refused) = ⊤
+IsDone Usage = ⊥
+IsDone (Schema _ _) = ⊥
+IsDone (ReadFault done) = ⊥
+IsDone (WriteFault done) = ⊥
+IsDone (Memory done) = ⊤
+IsDone (TooLong done) = ⊥
+
+-- Where the words are a command, the input is not too long and begins with a schema, and no fault of the outside
+-- comes, the run is done to its end unless memory is wanting.
+abbrev pub IsComplete : List (List ℕ) → Seen → End → Type 0
+IsComplete words seen end = is_command words ≡ true
+    → (Rose seen.read_faults seen.read_faults_after → ⊥) → (Rose seen.write_faults seen.write_faults_after → ⊥)
+    → IfSome seen.left (λ input. length input ≤ INPUT_LIMIT → IsSome (first_schema input) → IsDone end)

@@ -1,0 +1,11 @@
+pub mod Broken
+pub mod End
+pub mod Entries
+pub mod Input
+pub mod LineEnds
+pub mod Replies
+pub mod Rows
+pub mod Serves
+pub mod Serving
+pub mod Session
+pub mod Status

@@ -1,0 +1,64 @@
+//! How a run of the program ends.
+ghost use Rattle.std.specs.Prelude.{◌≡◌};
+ghost use Rattle.cube_cli.specs.Status.{status_of};
+
+use cube_base::Code;
+use std::fmt;
+
+/// How a run ended. `done` is the number of script lines that were done.
+#[derive(Clone, Copy, Debug, PartialEq, Eq)]
+pub enum End {
+    /// The input was read to its end, and this many of its lines were answered `error`.
+    Finished { refused: u64 },
+    /// The words of the command line are none that the program knows.
+    Usage,
+    /// The schema is refused: the first faulty line, counted from 1, or 0 where none is told, and why.
+    Schema { line: u64, code: Code },
+    /// Reading failed.
+    ReadFault { done: u64 },
+    /// Writing failed.
+    WriteFault { done: u64 },
+    /// An allocation was refused.
+    Memory { done: u64 },
+    /// The input has more than 2^30 bytes.
+    TooLong { done: u64 },
+}
+
+impl End {
+    /// The exit status of the program: 0 where no line was refused, 1 where some were, and one from 2 on for
+    /// each other end.
+    pub fn status(&self) -> u8
+        ensures { result ≡ status_of self.now }
+    {
+        match *self {
+            End::Finished { refused: 0 } => 0,
+            End::Finished { refused: _ } => 1,
+            End::Usage => 2,
+            End::Schema { line: _, code: _ } => 3,
+            End::ReadFault { done: _ } => 6,
+            End::WriteFault { done: _ } => 7,
+            End::Memory { done: _ } => 9,
+            End::TooLong { done: _ } => 10,
+        }
+    }
+}
+
+/// What the program says of the end on standard error.
+impl fmt::Display for End {
+    fn fmt<W: fmt::Write>(&self, f: &mut fmt::Formatter<W>) -> fmt::Result {
+        match *self {
+            End::Finished { refused } => write!(f, "finished, {refused} lines refused"),
+            End::Usage => f.write_str(
+                "usage: cube try, init NAME, run NAME, check NAME, import NAME, export NAME, drill N",
+            ),
+            End::Schema { line, code } => {
+                let word = code.word();
+                write!(f, "schema line {line}: {word}")
+            }
+            End::ReadFault { done } => write!(f, "read fault after line {done}"),
+            End::WriteFault { done } => write!(f, "write fault after line {done}"),
+            End::Memory { done } => write!(f, "out of memory after line {done}"),
+            End::TooLong { done } => write!(f, "input too long after line {done}"),
+        }
+    }
+}

@@ -1,0 +1,33 @@
+-- Which edits are accepted.
+use Rattle.std.specs.Prelude.{ℕ, Bool, false, List, [], ◌∷◌, length, nat_le, if◌then◌else◌, Option, Some, None}
+use Rattle.cube_base.specs.declared.code.Code.{Code}
+use Rattle.cube_base.specs.declared.code.Code.TheVariants.{Exists, Facts}
+use Rattle.cube_model.specs.declared.edit.Fact.{Fact}
+use Rattle.cube_model.specs.declared.edit.Edit.{Edit}
+use Rattle.cube_model.specs.declared.edit.Edit.TheVariants.{Put, Change, Withdraw}
+use Rattle.cube_model.specs.Facts.{has_id}
+
+-- the most facts
+abbrev pub MAX_FACTS : ℕ
+MAX_FACTS = 1048576
+
+-- the code of the first condition that holds
+abbrev pub first_that_holds : List (Bool × Code) → Option Code
+first_that_holds [] = None
+first_that_holds ((holds, code) ∷ rest) = if holds then Some code else first_that_holds rest
+
+-- an edit is a put of an id that is there
+abbrev pub is_repeat : Edit → List Fact → Bool
+is_repeat (Put fact) facts = has_id fact.id facts
+is_repeat (Change fact) facts = false
+is_repeat (Withdraw id) facts = false
+
+-- an edit is a put where there is no room for a fact
+abbrev pub is_over : Edit → List Fact → Bool
+is_over (Put fact) facts = nat_le MAX_FACTS (length facts)
+is_over (Change fact) facts = false
+is_over (Withdraw id) facts = false
+
+-- why an edit is refused: the first of these conditions that holds
+abbrev pub refusal : Edit → List Fact → Option Code
+refusal edit facts = first_that_holds ((is_repeat edit facts, Exists) ∷ (is_over edit facts, Facts) ∷ [])

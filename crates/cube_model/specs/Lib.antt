@@ -1,0 +1,12 @@
+pub mod Accepted
+pub mod Allocation
+pub mod Answer
+pub mod Cells
+pub mod Cut
+pub mod Difference
+pub mod Examples
+pub mod Facts
+pub mod FirstText
+pub mod Run
+pub mod Text
+pub mod Tree

@@ -1,0 +1,87 @@
+//! Regions of the space.
+ghost use Rattle.std.specs.Prelude.{◌≡◌, ◌↔◌, ◌<◌, [], ◌∷◌, length, slice_get, Some, IsNone, IfSome};
+
+use std::marker::Model;
+
+/// The most dimensions of a space.
+pub const MAX_DIMS: usize = 6;
+
+/// A region: the number of one node per dimension, which contracts see as their list.
+#[derive(Clone, Copy, Debug)]
+pub struct Region {
+    len: u32,
+    nodes: [u32; 6],
+}
+
+impl Model for Region {
+    ghost use Rattle.std.specs.Prelude.{ℕ, List, length, take};
+    ghost use Rattle.cube_base.specs.InPlace.{IsPadded, padded, length-take-places, padded-take-places};
+
+    ghost Value = { List ℕ };
+
+    ghost view = { λ r. take r.len r.nodes };
+
+    ghost invariant = { λ r. IsPadded 0 6 r.len r.nodes };
+
+    ghost inverse = { λ l. record { len = length l; nodes = padded 0 6 l } };
+
+    ghost inverse_ok = { λ r h i. record {
+      len = length-take-places h i;
+      nodes = padded-take-places h i;
+    } };
+}
+
+impl Region {
+    /// The region of these nodes, one per dimension: None exactly above six of them.
+    pub fn new(nodes: &[u32]) -> Option<Self>
+        ensures refused { IsNone result ↔ (6 < length nodes.now) }
+        ensures held { IfSome result (λ region. region ≡ nodes.now) }
+    {
+        if nodes.len() > MAX_DIMS {
+            return None;
+        }
+        let mut held = [0; 6];
+        held[..nodes.len()].copy_from_slice(nodes);
+        Some(Region {
+            len: nodes.len() as u32,
+            nodes: held,
+        })
+    }
+
+    /// The region of a space of one dimension.
+    pub fn of_node(node: u32) -> Self
+        ensures { result ≡ node ∷ [] }
+    {
+        Region {
+            len: 1,
+            nodes: [node, 0, 0, 0, 0, 0],
+        }
+    }
+
+    /// The node of dimension `d`.
+    pub fn node(self, d: u32) -> u32
+        requires { d < length self }
+        ensures { slice_get self d ≡ Some result }
+    {
+        self.nodes[d as usize]
+    }
+}
+
+#[cfg(test)]
+mod tests {
+    use super::*;
+    use std::test::Fail;
+
+    #[test]
+    fn a_region_has_up_to_six_nodes(rt: HostRuntime) -> Result<(), Fail> {
+        let nodes = [7, 0, 65_535, 3, 2, 1, 9];
+        assert_eq!(rt; Region::new(&nodes).is_none(), true);
+        assert_eq!(rt; Region::new(&nodes[..0]).is_some(), true);
+        let region = Region::new(&nodes[..6]).ok_or("six nodes")?;
+        assert_eq!(rt; region.node(0), 7);
+        assert_eq!(rt; region.node(2), 65_535);
+        assert_eq!(rt; region.node(5), 1);
+        assert_eq!(rt; Region::of_node(4).node(0), 4);
+        Ok(())
+    }
+}

@@ -1,0 +1,11 @@
+pub mod Climbing
+pub mod Families
+pub mod Judging
+pub mod Leaves
+pub mod Nodes
+pub mod Outlines
+pub mod Parents
+pub mod Passes
+pub mod Queries
+pub mod Rising
+pub mod Siblings

@@ -1,0 +1,75 @@
+//! Reading the lines of a dimension: each is judged, and its name is kept.
+ghost use Rattle.std.specs.Prelude.{◌≡◌, ◌≤◌, ◌++◌, ◌∷◌, [], length, map, true, None, IfOk, OnOk, IfErr, string_bytes};
+ghost use Rattle.std.specs.List.{list_all};
+ghost use Rattle.cube_base.specs.Name.{is_name};
+ghost use Rattle.cube_model.specs.Tree.{first_fault};
+ghost use Rattle.dim_tree.specs.Fault.{IsCause};
+ghost use Rattle.dim_tree.specs.Outline.{depth_fault, name_fault};
+
+use cube_model::{DimFault, NodeLine};
+use indexmap::IndexSet;
+use std::alloc::{AllocError, Global};
+
+/// The deepest that a node may lie.
+const MAX_DEPTH: u8 = 8;
+
+/// The names of the lines, in order, where the lines are a tree.
+pub fn names_of(alloc: Global, lines: &[NodeLine]) -> Result<IndexSet<String>, DimFault>
+    requires { length lines.now ≤ 65536 }
+    ensures names { IfOk result (λ names. map string_bytes names.keys ≡ map (λ line. line.name) lines.now) }
+    ensures are_names { OnOk result (list_all (λ line. is_name line.name) lines.now ≡ true) }
+    ensures accepted { OnOk result (first_fault [] 0 lines.now ≡ None) }
+    ensures refused { IfErr result (IsCause (first_fault [] 0 lines.now)) }
+{
+    let mut names = IndexSet::with_capacity(alloc, lines.len())?;
+    let mut before = None;
+    for (place, line) in lines.iter().enumerate() {
+        judge_depth(before, place as u32, line.depth)?;
+        add_name(alloc, &mut names, place as u32, line)?;
+        before = Some(line.depth);
+    }
+    Ok(names)
+}
+
+/// Judges the depth of the line at a place, behind a line of the depth `before`.
+fn judge_depth(before: Option<u8>, place: u32, depth: u8) -> Result<(), DimFault>
+    ensures accepted { OnOk result (depth_fault before place depth ≡ None) }
+    ensures refused { IfErr result (IsCause (depth_fault before place depth)) }
+{
+    match before {
+        None if depth != 0 => Err(DimFault::Root),
+        None => Ok(()),
+        Some(before) if depth == 0 || depth > MAX_DEPTH || depth > before.saturating_add(1) => {
+            Err(DimFault::Depth { line: place })
+        }
+        Some(_) => Ok(()),
+    }
+}
+
+/// Keeps the name of the line at a place, if no line before it has it.
+fn add_name(
+    alloc: Global,
+    names: &mut IndexSet<String>,
+    place: u32,
+    line: &NodeLine,
+) -> Result<(), DimFault>
+    ensures accepted { OnOk result (name_fault (map string_bytes names.old.keys) place line.now.name ≡ None) }
+    ensures added { OnOk result (map string_bytes names.new.keys ≡ map string_bytes names.old.keys ++ line.now.name ∷ []) }
+    ensures is_name { is_name line.now.name ≡ true }
+    ensures refused { IfErr result (IsCause (name_fault (map string_bytes names.old.keys) place line.now.name)) }
+{
+    let name = String::from_str(alloc, line.name.text())?;
+    let added = names.insert(name)?;
+    if added {
+        Ok(())
+    } else {
+        Err(DimFault::Name { line: place })
+    }
+}
+
+/// The depths of the lines, in order.
+pub fn depths_of(alloc: Global, lines: &[NodeLine]) -> Result<Vec<u8>, AllocError>
+    ensures { IfOk result (λ depths. depths.items ≡ map (λ line. line.depth) lines.now) }
+{
+    lines.iter().map(|line| line.depth).collect(alloc)
+}

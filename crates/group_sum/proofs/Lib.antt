@@ -1,0 +1,5 @@
+pub mod Ascending
+pub mod Search
+pub mod Scaled
+pub mod Adding
+pub mod Determined

@@ -1,0 +1,3 @@
+pub mod Terms
+pub mod Share
+pub mod Place
