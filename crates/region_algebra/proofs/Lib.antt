@@ -1,0 +1,10 @@
+pub mod Codes
+pub mod Places
+pub mod Intervals
+pub mod Meets
+pub mod Turns
+pub mod Tuples
+pub mod Spaces
+pub mod Children
+pub mod Partition
+pub mod Lines

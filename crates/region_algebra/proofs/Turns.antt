@@ -1,0 +1,205 @@
+-- One dimension more or less: what cells and regions over the dimensions from d on are by those from d + 1 on.
+use Rattle.std.proofs.Common.{◌≡◌, ℕ, zero, suc, ◌+◌, ◌-◌, ◌*◌, ◌/◌, ◌%◌, ◌<◌, ◌≤◌, Bool, true, false, List, [], ◌∷◌, length, drop, get_or, refl, sym, ap, ◌∙◌, true≢false, arith}
+use Rattle.std.specs.Prelude.{if◌then◌else◌, All, Some, slice_get}
+use Rattle.std.specs.Option.{option_map}
+use Rattle.std.specs.List.{flat_map, range_with_len}
+use Rattle.std.proofs.lemmas.List.{length-map, drop_more, drop_all}
+use Rattle.std.proofs.lemmas.List.FromFn.{length-range_with_len}
+use Rattle.std.proofs.lemmas.Nat.{div-add-mod', mul-le, mod_below}
+use Rattle.std.proofs.lemmas.Option.{slice_get-map, slice_get_within, get_or_from_slice_get, slice_get_read}
+use Rattle.cube_model.specs.Tree.{Dimension, IsTree, leaves}
+use Rattle.cube_model.specs.Cells.{all_cells, is_inside, places_from, cells_of, leaf_places}
+use Rattle.region_algebra.specs.Fault.{LIMIT}
+use Rattle.region_algebra.specs.Space.{cell_total, is_region, region_total}
+use Rattle.region_algebra.specs.Stepped.{IsStepped}
+use Rattle.region_algebra.proofs.Codes.{shifted, cells_of-cons, cells_of-nil, length-all_cells, length-cells_of-cons, slice_get-back, slice_get-front}
+use Rattle.region_algebra.proofs.Intervals.{some_leaf, some_node}
+use Rattle.region_algebra.proofs.Meets.{All-head, All-tail, is_region-cons}
+
+pub drop-at : {X : Type 0} (xs : List X) (d : ℕ) (x : X) → slice_get xs d ≡ Some x → drop d xs ≡ x ∷ drop (d + 1) xs
+drop-at xs d x is = drop_more xs d x (slice_get_within xs d x is) ∙ ap (λ y. y ∷ drop (d + 1) xs) (get_or_from_slice_get xs d x x is)
+
+pub is_region-length : (dims : List Dimension) (nodes : List ℕ) → is_region dims nodes ≡ true → length nodes ≡ length dims
+is_region-length [] [] names = refl
+is_region-length [] (node ∷ nodes) names = absurd (true≢false (sym names))
+is_region-length (dim ∷ dims) [] names = absurd (true≢false (sym names))
+is_region-length (dim ∷ dims) (node ∷ nodes) names = ap suc (is_region-length dims nodes (is_region-cons dim dims node nodes names).1)
+
+pub node-within : (dims : List Dimension) (nodes : List ℕ) (d : ℕ) (dim : Dimension) (node : ℕ) → is_region dims nodes ≡ true → slice_get dims d ≡ Some dim → slice_get nodes d ≡ Some node → node < length dim
+node-within [] nodes d dim node names is has = absurd (grind arith)
+node-within (e ∷ dims) [] d dim node names is has = absurd (true≢false (sym names))
+node-within (e ∷ dims) (m ∷ nodes) zero dim node names is has =
+    let same : e ≡ dim = grind arith in
+    let named : m ≡ node = grind arith in
+    rw (← same, ← named) ((is_region-cons e dims m nodes names).0)
+node-within (e ∷ dims) (m ∷ nodes) (suc d) dim node names is has = node-within dims nodes d dim node (is_region-cons e dims m nodes names).1 is has
+
+-- a dimension that was read, with a region's node there
+pub record Here (dims : List Dimension) (nodes : List ℕ) (d e : ℕ) (dim : Dimension) (node : ℕ) : Type 0 where
+  pub dims_are : drop d dims ≡ dim ∷ drop e dims
+  pub nodes_are : drop d nodes ≡ node ∷ drop e nodes
+  pub within : node < length dim
+
+pub here : (dims : List Dimension) (nodes : List ℕ) (d e : ℕ) (dim : Dimension) (node : ℕ) → is_region dims nodes ≡ true → d < length dims → e ≡ d + 1 → dim ≡ get_or dims d dim → slice_get nodes d ≡ Some node → Here dims nodes d e dim node
+here dims nodes d e dim node names inside next read has =
+    let is : slice_get dims d ≡ Some dim = slice_get_read dims (length dims) d dim refl inside read in
+    rw next (record { dims_are = drop-at dims d dim is; nodes_are = drop-at nodes d node has; within = node-within dims nodes d dim node names is has })
+
+-- cells that may be over fewer dimensions
+
+pub cell_total-drop : (dims : List Dimension) (d : ℕ) → All IsTree dims → cell_total (drop d dims) ≤ cell_total dims
+cell_total-drop dims zero trees = omega arith
+cell_total-drop [] (suc d) trees = omega arith
+cell_total-drop (dim ∷ dims) (suc d) trees =
+    omega (arith, cell_total-drop dims d (All-tail IsTree dim dims trees), mul-le 1 (cell_total dims) (length (leaves dim)) (cell_total dims) (some_leaf dim (All-head IsTree dim dims trees)) (omega arith))
+
+pub region_total-drop : (dims : List Dimension) (d : ℕ) → All IsTree dims → region_total (drop d dims) ≤ region_total dims
+region_total-drop dims zero trees = omega arith
+region_total-drop [] (suc d) trees = omega arith
+region_total-drop (dim ∷ dims) (suc d) trees =
+    omega (arith, region_total-drop dims d (All-tail IsTree dim dims trees), mul-le 1 (region_total dims) (length dim) (region_total dims) (some_node dim (All-head IsTree dim dims trees)) (omega arith))
+
+-- at least one cell over any dimensions
+pub cell_total-some : (dims : List Dimension) → All IsTree dims → 1 ≤ cell_total dims
+cell_total-some dims trees = omega (arith, cell_total-drop dims (length dims) trees, ap cell_total (drop_all (length dims) dims (omega arith)))
+
+pub region_total-some : (dims : List Dimension) → All IsTree dims → 1 ≤ region_total dims
+region_total-some dims trees = omega (arith, region_total-drop dims (length dims) trees, ap region_total (drop_all (length dims) dims (omega arith)))
+
+pub All-drop : {X : Type 0} (P : X → Type 0) (xs : List X) (d : ℕ) → All P xs → All P (drop d xs)
+All-drop P xs zero each = each
+All-drop P [] (suc d) each = each
+All-drop P (x ∷ xs) (suc d) each = All-drop P xs d (All-tail P x xs each)
+
+All-cons : {X : Type 0} (P : X → Type 0) (x : X) (xs : List X) → P x → All P xs → All P (x ∷ xs)
+All-cons P x xs first rest zero d within = first
+All-cons P x xs first rest (suc k) d within = rest k d (omega arith)
+
+All-if : (b : Bool) (P : ℕ → Type 0) (k : ℕ) (xs : List ℕ) → P k → All P xs → All P (if b then k ∷ xs else xs)
+All-if true P k xs first rest = All-cons P k xs first rest
+All-if false P k xs first rest = rest
+
+places_from-below : {X : Type 0} (p : X → Bool) (k n : ℕ) (xs : List X) → k + length xs ≤ n → All (λ c. c < n) (places_from p k xs)
+places_from-below p k n [] within = λ i d inside. absurd (omega arith)
+places_from-below p k n (x ∷ xs) within = All-if (p x) (λ c. c < n) k (places_from p (k + 1) xs) (omega arith) (places_from-below p (k + 1) n xs (omega arith))
+
+-- cells are below their number
+pub cells-below : (dims : List Dimension) (nodes : List ℕ) → All (λ c. c < cell_total dims) (cells_of dims nodes)
+unfolding cells_of
+cells-below dims nodes = places_from-below (is_inside dims nodes) 0 (cell_total dims) (all_cells dims) (omega (arith, length-all_cells dims))
+
+length-if : (b : Bool) (k n : ℕ) (xs : List ℕ) → length xs ≤ n → length (if b then k ∷ xs else xs) ≤ suc n
+length-if true k n xs few = omega arith
+length-if false k n xs few = omega arith
+
+length-places_from : {X : Type 0} (p : X → Bool) (k : ℕ) (xs : List X) → length (places_from p k xs) ≤ length xs
+length-places_from p k [] = omega arith
+length-places_from p k (x ∷ xs) = length-if (p x) k (length xs) (places_from p (k + 1) xs) (length-places_from p (k + 1) xs)
+
+pub cells-few : (dims : List Dimension) (nodes : List ℕ) → length (cells_of dims nodes) ≤ cell_total dims
+unfolding cells_of
+cells-few dims nodes = omega (arith, length-places_from (is_inside dims nodes) 0 (all_cells dims), length-all_cells dims)
+
+-- the number of cells, one dimension before
+pub count_turn : (dims : List Dimension) (nodes : List ℕ) (d e : ℕ) (dim : Dimension) (node first n count : ℕ) → Here dims nodes d e dim node → leaf_places dim node ≡ range_with_len first n → count ≡ length (cells_of (drop e dims) (drop e nodes))
+    → count * n ≡ length (cells_of (drop d dims) (drop d nodes))
+count_turn dims nodes d e dim node first n count at range is =
+    let turned : count * n ≡ n * count = omega arith in
+    turned ∙ rw (at.dims_are, at.nodes_are, is) (sym (length-cells_of-cons dim (drop e dims) node (drop e nodes) ∙ rw range (ap (λ m. m * length (cells_of (drop e dims) (drop e nodes))) (length-range_with_len first n))))
+
+-- the first of the cells behind so many runs
+nth-runs : (n : ℕ) (cells : List ℕ) (first w i j k cell : ℕ) → i < w → slice_get cells j ≡ Some cell → j < length cells → k ≡ i * length cells + j → slice_get (flat_map (shifted n cells) (range_with_len first w)) k ≡ Some ((first + i) * n + cell)
+nth-runs n cells first zero i j k cell within is inside place = absurd (omega arith)
+nth-runs n cells first (suc w) zero j k cell within is inside place =
+    let at : k ≡ j = omega (arith, place) in
+    let now : first + 0 ≡ first = omega arith in
+    rw (at, now) (slice_get-front (shifted n cells first) (flat_map (shifted n cells) (range_with_len (first + 1) w)) j (omega (arith, length-map cells (λ (c : ℕ). first * n + c))) ∙ slice_get-map (λ c. first * n + c) cells j ∙ ap (option_map (λ c. first * n + c)) is)
+nth-runs n cells first (suc w) (suc i) j k cell within is inside place =
+    let behind : k ≡ length (shifted n cells first) + (i * length cells + j) = rw (length-map cells (λ (c : ℕ). first * n + c)) (grind (arith, place)) in
+    let now : first + suc i ≡ first + 1 + i = omega arith in
+    rw now (slice_get-back (shifted n cells first) (flat_map (shifted n cells) (range_with_len (first + 1) w)) (i * length cells + j) k behind ∙ nth-runs n cells (first + 1) w i j (i * length cells + j) cell (omega arith) is inside refl)
+
+-- a place among the cells, taken apart: so many runs of the others, and a place in the next
+pub record IsNth (dims : List Dimension) (nodes : List ℕ) (d place left code : ℕ) : Type 0 where
+  pub low : left * length (cells_of (drop d dims) (drop d nodes)) ≤ place
+  pub high : place < left * length (cells_of (drop d dims) (drop d nodes)) + length (cells_of (drop d dims) (drop d nodes))
+  pub at : slice_get (cells_of (drop d dims) (drop d nodes)) (place - left * length (cells_of (drop d dims) (drop d nodes))) ≡ Some code
+
+split_place : (left n m place : ℕ) → 0 < n → left * m ≤ place → place < left * m + m
+    → ((left / n) * (n * m) ≤ place) × (place < (left / n) * (n * m) + n * m) × (place - (left / n) * (n * m) ≡ (left % n) * m + (place - left * m))
+split_place left n m place some low high =
+    let whole : left / n * n + left % n ≡ left = div-add-mod' left n in
+    let parts : left * m ≡ (left / n) * (n * m) + (left % n) * m = ap (λ l. l * m) (sym whole) ∙ grind arith in
+    let most : (left % n) * m + m ≤ n * m = omega (arith, mul-le (suc (left % n)) m n m (mod_below left n some) (omega arith)) in
+    (omega (arith, parts), omega (arith, parts, most), omega (arith, parts))
+
+pub nth_turn : (dims : List Dimension) (nodes : List ℕ) (d e place left code first n step : ℕ) (dim : Dimension) (node : ℕ) → Here dims nodes d e dim node → leaf_places dim node ≡ range_with_len first n → 0 < n → step ≡ cell_total (drop e dims)
+    → IsNth dims nodes e place left code → IsNth dims nodes d place (left / n) (code + (first + left % n) * step)
+nth_turn dims nodes d e place left code first n step dim node at range some steps nth =
+    let cells = cells_of (drop e dims) (drop e nodes) in
+    let these : cells_of (drop d dims) (drop d nodes) ≡ flat_map (shifted step cells) (range_with_len first n) = rw (at.dims_are, at.nodes_are) (cells_of-cons dim (drop e dims) node (drop e nodes) ∙ rw (range, length-all_cells (drop e dims), steps) refl) in
+    let many : length (cells_of (drop d dims) (drop d nodes)) ≡ n * length cells = sym (count_turn dims nodes d e dim node first n (length cells) at range refl) ∙ omega arith in
+    let parts = split_place left n (length cells) place some nth.low nth.high in
+    let found : slice_get (flat_map (shifted step cells) (range_with_len first n)) (place - (left / n) * (n * length cells)) ≡ Some ((first + left % n) * step + code) = nth-runs step cells first n (left % n) (place - left * length cells) (place - (left / n) * (n * length cells)) code (mod_below left n some) nth.at (omega (arith, nth.low, nth.high)) parts.2 in
+    record {
+      low = rw many parts.0;
+      high = rw many parts.1;
+      at = rw (many, these, found) (ap Some (omega arith));
+    }
+
+-- over no dimension there is one cell
+pub cells-at_end : (dims : List Dimension) (nodes : List ℕ) (d : ℕ) → is_region dims nodes ≡ true → length dims ≤ d → cells_of (drop d dims) (drop d nodes) ≡ 0 ∷ []
+cells-at_end dims nodes d names all = rw (drop_all d dims all, drop_all d nodes (omega (arith, is_region-length dims nodes names))) cells_of-nil
+
+pub nth_start : (dims : List Dimension) (nodes : List ℕ) (d place : ℕ) → is_region dims nodes ≡ true → d ≡ length dims → IsNth dims nodes d place place 0
+nth_start dims nodes d place names all =
+    let one = cells-at_end dims nodes d names (omega (arith, all)) in
+    let start : place - place * 1 ≡ 0 = omega arith in
+    record { low = rw one (omega arith); high = rw one (omega arith); at = rw (one, start) refl }
+
+none_left : (left m place : ℕ) → left * m ≤ place → place < m → left ≡ 0
+none_left zero m place low within = refl
+none_left (suc left) m place low within =
+    let more : suc left * m ≡ m + left * m = grind arith in
+    absurd (omega (arith, more))
+
+pub nth_done : (dims : List Dimension) (nodes : List ℕ) (place left code : ℕ) → IsNth dims nodes 0 place left code → place < length (cells_of dims nodes) → slice_get (cells_of dims nodes) place ≡ Some code
+nth_done dims nodes place left code nth within =
+    let none : left ≡ 0 = none_left left (length (cells_of dims nodes)) place nth.low within in
+    let all : place - left * length (cells_of dims nodes) ≡ place = rw none (omega arith) in
+    ap (slice_get (cells_of dims nodes)) (sym all) ∙ nth.at
+
+-- the code so far is below the number of cells there, and so is the next
+pub nth_below : (dims : List Dimension) (nodes : List ℕ) (d place left code : ℕ) → IsNth dims nodes d place left code → code < cell_total (drop d dims)
+nth_below dims nodes d place left code nth =
+    let cells = cells_of (drop d dims) (drop d nodes) in
+    let index = place - left * length cells in
+    let inside : index < length cells = slice_get_within cells index code nth.at in
+    let read : get_or cells index 0 ≡ code = get_or_from_slice_get cells index code 0 nth.at in
+    omega (arith, read, cells-below (drop d dims) (drop d nodes) index 0 inside)
+
+-- the next dimension before, as it is read
+pub before : (dims : List Dimension) (nodes : List ℕ) (d e : ℕ) (dim : Dimension) (node : ℕ) → is_region dims nodes ≡ true → e ≤ length dims → 0 < e → d ≡ e - 1 → dim ≡ get_or dims d dim → slice_get nodes d ≡ Some node → Here dims nodes d e dim node
+before dims nodes d e dim node names within some next read has = here dims nodes d e dim node names (omega arith) (omega arith) read has
+
+pub step-before : (total : List Dimension → ℕ) (dims : List Dimension) (steps : List ℕ) (d e : ℕ) → IsStepped total dims steps → e ≤ length dims → 0 < e → d ≡ e - 1 → get_or steps d 0 ≡ total (drop e dims)
+step-before total dims steps d e stepped within some next =
+    let behind : d + 1 ≡ e = omega arith in
+    stepped.each d (omega arith) ∙ ap (λ k. total (drop k dims)) behind
+
+pub range-of : (dim : Dimension) (node first end n : ℕ) → leaf_places dim node ≡ range_with_len first (end - first) → n ≡ end - first → leaf_places dim node ≡ range_with_len first n
+range-of dim node first end n range is = range ∙ ap (range_with_len first) (sym is)
+
+pub count_next : (dims : List Dimension) (steps nodes : List ℕ) (d e first end n count : ℕ) (dim : Dimension) (node : ℕ) → IsStepped cell_total dims steps → Here dims nodes d e dim node
+    → leaf_places dim node ≡ range_with_len first (end - first) → n ≡ end - first → count ≡ length (cells_of (drop e dims) (drop e nodes))
+    → (count * n ≡ length (cells_of (drop d dims) (drop d nodes))) × (count * n < LIMIT)
+count_next dims steps nodes d e first end n count dim node stepped at range is counted =
+    let next = count_turn dims nodes d e dim node first n count at (range-of dim node first end n range is) counted in
+    (next, omega (arith, next, cells-few (drop d dims) (drop d nodes), cell_total-drop dims d stepped.trees, stepped.limit))
+
+pub nth_next : (dims : List Dimension) (steps nodes : List ℕ) (d e place left code low first end n : ℕ) (dim : Dimension) (node : ℕ) → IsStepped cell_total dims steps → Here dims nodes d e dim node → e ≤ length dims → 0 < e → d ≡ e - 1
+    → leaf_places dim node ≡ range_with_len first (end - first) → first < end → n ≡ end - first → low ≡ first → IsNth dims nodes e place left code
+    → IsNth dims nodes d place (left / n) (code + (low + left % n) * get_or steps d 0) × (code + (low + left % n) * get_or steps d 0 < LIMIT)
+nth_next dims steps nodes d e place left code low first end n dim node stepped at within behind next range some is same nth =
+    let turned = nth_turn dims nodes d e place left code first n (get_or steps d 0) dim node at (range-of dim node first end n range is) (omega arith) (step-before cell_total dims steps d e stepped within behind next) nth in
+    rw same (turned, omega (arith, nth_below dims nodes d place (left / n) (code + (first + left % n) * get_or steps d 0) turned, cell_total-drop dims d stepped.trees, stepped.limit))

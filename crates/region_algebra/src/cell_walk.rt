@@ -1,0 +1,64 @@
+//! A walk through the cells of a region.
+ghost use Rattle.std.specs.Prelude.{◌≡◌, true};
+ghost use Rattle.std.specs.Iterator.{YieldsFirst, item_count};
+ghost use Rattle.region_algebra.specs.Space.{cells_left, is_region};
+ghost use Rattle.cube_model.specs.Cells.{cells_of};
+
+use crate::Space;
+use cube_model::Region;
+use std::marker::Model;
+
+/// The codes of a region's cells, ascending, each once. The walk keeps its place in a fixed number of words.
+/// Contracts see the list of the codes that are left.
+#[derive(Drop)]
+pub struct CellWalk<'a> {
+    space: &'a Space,
+    region: Region,
+    // The place among the region's cells of the next, and how many cells there are.
+    next: u64,
+    count: u64,
+}
+
+impl<'a> Model for CellWalk<'a> {
+    ghost use Rattle.std.specs.Prelude.{ℕ, List, drop};
+    ghost use Rattle.cube_model.specs.Cells.{cells_of};
+    ghost use Rattle.region_algebra.specs.Stepped.{IsPlace};
+
+    ghost Value = { List ℕ };
+
+    ghost view = { λ w. drop w.next (cells_of w.space.now w.region) };
+
+    ghost invariant = { λ w. IsPlace w.space.now w.region w.next w.count };
+}
+
+impl<'a> CellWalk<'a> {
+    /// The walk through the cells of a region.
+    pub(crate) fn new(space: &'a Space, region: Region) -> Self
+        requires { is_region space.now region ≡ true }
+        ensures { cells_left result ≡ cells_of space.now region }
+    {
+        CellWalk {
+            space,
+            region,
+            next: 0,
+            count: space.cell_count(region),
+        }
+    }
+}
+
+impl Iterator for CellWalk<'_> {
+    type Item = u64;
+
+    ghost next_gives = { YieldsFirst cells_left };
+
+    ghost remaining = { item_count cells_left };
+
+    fn next(&mut self) -> Option<u64> {
+        if self.next == self.count {
+            return None;
+        }
+        let cell = self.space.cell_of(self.region, self.next);
+        self.next += 1;
+        Some(cell)
+    }
+}

@@ -1,0 +1,97 @@
+//! The cells of a region, each by its code.
+ghost use Rattle.std.specs.Prelude.{◌≡◌, ◌<◌, ◌≤◌, Some, true, length, nat_le, nat_lt, slice_get, take, ◌&&◌};
+ghost use Rattle.cube_model.specs.Cells.{all_cells, cells_of};
+ghost use Rattle.region_algebra.specs.Space.{cell_total, is_among, is_region};
+ghost use Rattle.region_algebra.specs.Stepped.{IsStepped};
+
+use cube_model::{MAX_DIMS, Region};
+use dim_tree::Dim;
+
+/// The number of a region's cells.
+pub fn count(dims: &[Dim], steps: &[u64; 6], r: Region) -> u64
+    requires steps { IsStepped cell_total dims.now steps.now }
+    requires few { length dims.now ≤ 6 }
+    requires region { is_region dims.now r ≡ true }
+    ensures count { result ≡ length (cells_of dims.now r) }
+    ensures some { 1 ≤ result }
+{
+    let mut count = 1;
+    let mut d = dims.len();
+    while d > 0 {
+        d -= 1;
+        let (first, end) = dims[d].leaf_range(r.node(d as u32));
+        count *= u64::from(end - first);
+    }
+    count
+}
+
+/// The cell at a place among a region's cells.
+pub fn nth(dims: &[Dim], steps: &[u64; 6], r: Region, place: u64) -> u64
+    requires steps { IsStepped cell_total dims.now steps.now }
+    requires few { length dims.now ≤ 6 }
+    requires region { is_region dims.now r ≡ true }
+    requires place { place < length (cells_of dims.now r) }
+    ensures { slice_get (cells_of dims.now r) place ≡ Some result }
+{
+    let mut left = place;
+    let mut code = 0;
+    let mut d = dims.len();
+    while d > 0 {
+        d -= 1;
+        let (first, end) = dims[d].leaf_range(r.node(d as u32));
+        let count = u64::from(end - first);
+        code += (u64::from(first) + left % count) * steps[d];
+        left /= count;
+    }
+    code
+}
+
+/// Whether a leaf lies in a range.
+fn is_within(leaf: u64, first: u32, end: u32) -> bool
+    ensures { result ≡ (nat_le first leaf && nat_lt leaf end) }
+{
+    u64::from(first) <= leaf && leaf < u64::from(end)
+}
+
+/// Whether a cell is one of a region's.
+pub fn contains(dims: &[Dim], steps: &[u64; 6], r: Region, cell: u64) -> bool
+    requires steps { IsStepped cell_total dims.now steps.now }
+    requires few { length dims.now ≤ 6 }
+    requires region { is_region dims.now r ≡ true }
+    ensures { result ≡ is_among (cells_of dims.now r) cell }
+{
+    let mut rest = cell;
+    for d in 0..dims.len() {
+        let (first, end) = dims[d].leaf_range(r.node(d as u32));
+        if !is_within(rest / steps[d], first, end) {
+            return false;
+        }
+        rest %= steps[d];
+    }
+    rest == 0
+}
+
+/// The leaves of a cell.
+pub fn cell_at(dims: &[Dim], steps: &[u64; 6], cell: u64) -> Region
+    requires steps { IsStepped cell_total dims.now steps.now }
+    requires few { length dims.now ≤ 6 }
+    requires cell { cell < length (all_cells dims.now) }
+    ensures cell { slice_get (all_cells dims.now) cell ≡ Some result }
+    ensures region { is_region dims.now result ≡ true }
+{
+    let mut nodes = [0; MAX_DIMS];
+    let mut rest = cell;
+    for d in 0..dims.len() {
+        nodes[d] = dims[d].leaf_node((rest / steps[d]) as u32);
+        rest %= steps[d];
+    }
+    first_nodes(&nodes, dims.len())
+}
+
+/// The region of the first of these nodes.
+pub fn first_nodes(nodes: &[u32; 6], n: usize) -> Region
+    requires { n ≤ 6 }
+    ensures { result ≡ take n nodes.now }
+{
+    Region::new(&nodes[..n]).unwrap()
+}

@@ -1,0 +1,15 @@
+//! Regions, cells and codes over several dimensions.
+#![tactic(auto)]
+
+mod cell_walk;
+mod cells;
+mod copies;
+mod laws;
+mod regions;
+mod space;
+mod steps;
+
+pub use cell_walk::CellWalk;
+pub use cube_model::{MAX_DIMS, Region};
+pub use laws::{cells_are_a_product, cells_are_those_of_the_children, nested_or_apart};
+pub use space::{Space, SpaceFault};

@@ -1,0 +1,232 @@
+//! The space over the dimensions of a cube.
+ghost use Rattle.std.specs.Prelude.{◌≡◌, ◌↔◌, ◌<◌, ◌≤◌, ℕ, List, [], true, All, None, Some, length, map, slice_get, slice_set, IsSome, IfOk, IfErr, IfNone, IfSome, OnOk};
+ghost use Rattle.cube_model.specs.Tree.{Dimension, IsTree, parent};
+ghost use Rattle.cube_model.specs.Cells.{all_cells, cells_of};
+ghost use Rattle.region_algebra.specs.Fault.{space_fault};
+ghost use Rattle.region_algebra.specs.Space.{all_regions, cells_left, common_cells, is_among, is_region, meet_of, only_cell, cell_total, region_total};
+
+#[cfg(test)]
+mod tests;
+
+use crate::cell_walk::CellWalk;
+use crate::copies::copies_of;
+use crate::steps::{leaf_counts, node_counts, steps_of};
+use crate::{cells, regions};
+use cube_base::Memory;
+use cube_model::{MAX_DIMS, Region};
+use dim_tree::Dim;
+use std::alloc::Global;
+use std::marker::Model;
+
+/// Why dimensions are refused as a space.
+#[derive(Clone, Copy, Debug, PartialEq, Eq)]
+pub enum SpaceFault {
+    /// Their number is not 1 to 6.
+    Dims { n: u64 },
+    /// The product of their numbers of leaves is 2^62 or more.
+    Cells,
+    /// The product of their numbers of nodes is 2^62 or more.
+    Nodes,
+}
+
+/// The dimensions of a cube, in schema order. A region is one node number per dimension; a cell goes by its code,
+/// its place among all tuples of one leaf per dimension, the first dimension slowest. Contracts see the list of
+/// dimensions. No call but `copy` takes memory, and each costs a few operations a dimension.
+#[derive(Drop)]
+pub struct Space {
+    dims: Vec<Dim>,
+    // For each dimension the number of cells, and of regions, over the dimensions behind it.
+    cell_steps: [u64; 6],
+    region_steps: [u64; 6],
+}
+
+impl Model for Space {
+    ghost use Rattle.std.specs.Prelude.{List};
+    ghost use Rattle.cube_model.specs.Tree.{Dimension};
+
+    ghost Value = { List Dimension };
+
+    ghost use Rattle.region_algebra.specs.Stepped.{IsSteppedSpace};
+
+    ghost view = { λ s. s.dims.items };
+
+    ghost invariant = { λ s. IsSteppedSpace s.dims.items s.cell_steps s.region_steps };
+}
+
+impl Space {
+    /// The space over these dimensions. The first of these that holds is answered: `Dims`, their number is not 1 to 6;
+    /// `Cells`, the product of the leaf counts is 2^62 or more; `Nodes`, the product of the node counts is.
+    /// On a refusal the dimensions are dropped.
+    pub fn new(alloc: Global, dims: Vec<Dim>) -> Result<Self, SpaceFault>
+        ensures made { IfOk result (λ space. space ≡ dims.items) }
+        ensures accepted { OnOk result (space_fault dims.items ≡ None) }
+        ensures refused { IfErr result (λ fault. space_fault dims.items ≡ Some fault) }
+    {
+        let n = dims.len();
+        if n == 0 || n > MAX_DIMS {
+            return Err(SpaceFault::Dims { n: n as u64 });
+        }
+        let leaves = leaf_counts(&dims);
+        let nodes = node_counts(&dims);
+        let Some(cell_steps) = steps_of(&leaves[..n]) else {
+            return Err(SpaceFault::Cells);
+        };
+        let Some(region_steps) = steps_of(&nodes[..n]) else {
+            return Err(SpaceFault::Nodes);
+        };
+        Ok(Space {
+            dims,
+            cell_steps,
+            region_steps,
+        })
+    }
+
+    /// The number of dimensions, from 1 to 6.
+    pub fn dims(&self) -> u32
+        ensures count { result ≡ length self.now }
+        ensures accepted { space_fault self.now ≡ None }
+        ensures trees { All IsTree self.now }
+    {
+        self.dims.len() as u32
+    }
+
+    /// A dimension.
+    pub fn dim(&self, d: u32) -> &Dim
+        requires { d < length self.now }
+        ensures { slice_get self.now d ≡ Some result.now }
+    {
+        &self.dims[d as usize]
+    }
+
+    /// The region of these nodes: None exactly where their number is not that of the dimensions or a node is none.
+    pub fn region(&self, nodes: &[u32]) -> Option<Region>
+        ensures regions { IsSome result ↔ (is_region self.now nodes.now ≡ true) }
+        ensures held { IfSome result (λ region. region ≡ nodes.now) }
+    {
+        if regions::is_region(&self.dims, nodes) {
+            Region::new(nodes)
+        } else {
+            None
+        }
+    }
+
+    /// The number of cells of a region, at least 1.
+    pub fn cell_count(&self, r: Region) -> u64
+        requires { is_region self.now r ≡ true }
+        ensures count { result ≡ length (cells_of self.now r) }
+        ensures some { 1 ≤ result }
+    {
+        cells::count(&self.dims, &self.cell_steps, r)
+    }
+
+    /// Whether a cell is one of a region's.
+    pub fn contains(&self, r: Region, cell: u64) -> bool
+        requires region { is_region self.now r ≡ true }
+        requires cell { cell < length (all_cells self.now) }
+        ensures { result ≡ is_among (cells_of self.now r) cell }
+    {
+        cells::contains(&self.dims, &self.cell_steps, r, cell)
+    }
+
+    /// The number of cells that two regions share.
+    pub fn overlap_count(&self, a: Region, b: Region) -> u64
+        requires first { is_region self.now a ≡ true }
+        requires second { is_region self.now b ≡ true }
+        ensures { result ≡ length (common_cells self.now a b) }
+    {
+        self.meet(a, b).map_or(0, |r| self.cell_count(r))
+    }
+
+    /// The region of the cells that two regions share, which has the lower node in each dimension: None exactly where
+    /// no cell is shared, which is where in some dimension neither node is under the other.
+    pub fn meet(&self, a: Region, b: Region) -> Option<Region>
+        requires first { is_region self.now a ≡ true }
+        requires second { is_region self.now b ≡ true }
+        ensures meet { result ≡ meet_of self.now a b }
+        ensures common { IfSome result (λ region. cells_of self.now region ≡ common_cells self.now a b) }
+        ensures some { IfSome result (λ region. is_region self.now region ≡ true) }
+        ensures none { IfNone result (common_cells self.now a b ≡ []) }
+    {
+        regions::meet(&self.dims, a, b)
+    }
+
+    /// A region with a child of its node in a dimension.
+    pub fn child(&self, r: Region, d: u32, node: u32) -> Region
+        requires region { is_region self.now r ≡ true }
+        requires dim { d < length self.now }
+        requires child { IfSome (slice_get self.now d) (λ dim. (node < length dim) × (parent dim node ≡ slice_get r d)) }
+        ensures child { result ≡ slice_set r d node }
+        ensures region { is_region self.now result ≡ true }
+    {
+        regions::child(r, self.dims.len(), d as usize, node)
+    }
+
+    /// A region's code: its place among all regions, the first dimension slowest.
+    pub fn code(&self, r: Region) -> u64
+        requires { is_region self.now r ≡ true }
+        ensures place { slice_get (all_regions self.now) result ≡ Some r }
+        ensures within { result < region_total self.now }
+    {
+        regions::code(&self.dims, &self.region_steps, r)
+    }
+
+    /// The region of a code: None exactly at or above the number of regions.
+    pub fn uncode(&self, code: u64) -> Option<Region>
+        ensures region { result ≡ slice_get (all_regions self.now) code }
+        ensures none { IsSome result ↔ (code < region_total self.now) }
+        ensures some { IfSome result (λ region. is_region self.now region ≡ true) }
+    {
+        regions::uncode(&self.dims, &self.region_steps, code)
+    }
+
+    /// The code of a region's cell: None exactly where it has more than one.
+    pub fn cell_code(&self, r: Region) -> Option<u64>
+        requires { is_region self.now r ≡ true }
+        ensures only { result ≡ only_cell (cells_of self.now r) }
+        ensures within { IfSome result (λ cell. cell < length (all_cells self.now)) }
+    {
+        if self.cell_count(r) == 1 {
+            Some(self.cell_of(r, 0))
+        } else {
+            None
+        }
+    }
+
+    /// The region of a cell: its leaves.
+    pub fn cell_at(&self, cell: u64) -> Region
+        requires { cell < length (all_cells self.now) }
+        ensures cell { slice_get (all_cells self.now) cell ≡ Some result }
+        ensures region { is_region self.now result ≡ true }
+    {
+        cells::cell_at(&self.dims, &self.cell_steps, cell)
+    }
+
+    /// The codes of a region's cells, ascending, each once.
+    pub fn cells(&self, r: Region) -> CellWalk<'_>
+        requires { is_region self.now r ≡ true }
+        ensures cells { cells_left result ≡ cells_of self.now r }
+        ensures within { All (λ cell. cell < length (all_cells self.now)) (cells_left result) }
+    {
+        CellWalk::new(self, r)
+    }
+
+    /// An equal space. It costs as much as building the dimensions anew.
+    pub fn copy(&self) -> Result<Self, Memory>
+        ensures { IfOk result (λ space. space ≡ self.now) }
+    {
+        Ok(Space {
+            dims: copies_of(*self.dims.allocator(), &self.dims)?,
+            cell_steps: self.cell_steps,
+            region_steps: self.region_steps,
+        })
+    }
+
+    /// The cell at a place among a region's cells.
+    pub(crate) fn cell_of(&self, r: Region, place: u64) -> u64
+        requires region { is_region self.now r ≡ true }
+        requires place { place < length (cells_of self.now r) }
+        ensures { slice_get (cells_of self.now r) place ≡ Some result }
+    {
+        cells::nth(&self.dims, &self.cell_steps, r, place)
+    }
+}

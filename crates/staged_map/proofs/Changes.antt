@@ -1,0 +1,54 @@
+-- What a write at a key does to a map in which keys have places.
+use Rattle.std.proofs.Common.{◌≡◌, ℕ, true, false, cond, List, [], ◌∷◌, ◌||◌, ◌+◌, ◌<◌, take, drop, get_or, length, Some, None, eqb, ap, sym, ◌∙◌, arith}
+use Rattle.std.proofs.lemmas.Bool.{or_left}
+use Rattle.std.proofs.lemmas.Grind.{common_steps}
+use Rattle.std.proofs.lemmas.List.{take-append-drop, take_more}
+use Rattle.std.proofs.lemmas.List.Folds.{list_any-append}
+use Rattle.std.specs.Cmp.{nat_eq_equiv}
+use Rattle.std.specs.List.{list_any}
+use Rattle.staged_map.specs.Staged.{Places, Reserves, ReservesSome, Sets, has_place, place_of}
+
+module _ {V : Type 0} (old new : Places V) (key : ℕ) where
+  -- a key that has a place gets a value
+  pub Sets-written : (value : V) → has_place old key ≡ true
+      → ((k : ℕ) → place_of new k ≡ cond (eqb key k) (Some (Some value)) (place_of old k))
+      → Sets old new key value
+  Sets-written value there writes = record {
+    values = λ k. grind (arith, common_steps, writes k);
+    places = λ k. grind (arith, common_steps, there, writes k);
+  }
+
+  -- a key that has no place gets one
+  pub Reserves-new : has_place old key ≡ false
+      → ((k : ℕ) → place_of new k ≡ cond (eqb key k) (Some None) (place_of old k))
+      → Reserves old new (key ∷ [])
+  Reserves-new absent writes = record {
+    values = λ k. grind (arith, common_steps, absent, writes k);
+    places = λ k. grind (arith, common_steps, absent, writes k, nat_eq_equiv.symm key k);
+  }
+
+module _ {V : Type 0} (old new : Places V) where
+  -- the next of the keys, behind those before it
+  pub Reserves-next : (between : Places V) (keys : List ℕ) (i : ℕ) → i < length keys
+      → Reserves old between (take i keys) → Reserves between new (get_or keys i 0 ∷ []) → Reserves old new (take (i + 1) keys)
+  Reserves-next between keys i below before last = record {
+    values = λ k. last.values k ∙ before.values k;
+    places = λ k. grind (arith, common_steps, last.places k, before.places k, one_more k);
+  }
+    where
+      one_more : (k : ℕ) → list_any (eqb k) (take (i + 1) keys) ≡ (list_any (eqb k) (take i keys) || list_any (eqb k) (get_or keys i 0 ∷ []))
+      one_more k = ap (list_any (eqb k)) (take_more keys i 0 below) ∙ list_any-append (eqb k) (take i keys) (get_or keys i 0 ∷ [])
+
+  -- a part of the keys is some of them
+  pub ReservesSome-part : (keys : List ℕ) (count : ℕ) → Reserves old new (take count keys) → ReservesSome old new keys
+  ReservesSome-part keys count part = record {
+    values = part.values;
+    kept = λ k there. part.places k ∙ or_left _ _ there;
+    among = λ k there. among k (sym (part.places k) ∙ there);
+  }
+    where
+      whole : (k : ℕ) → list_any (eqb k) keys ≡ (list_any (eqb k) (take count keys) || list_any (eqb k) (drop count keys))
+      whole k = sym (ap (list_any (eqb k)) (take-append-drop count keys)) ∙ list_any-append (eqb k) (take count keys) (drop count keys)
+
+      among : (k : ℕ) → (has_place old k || list_any (eqb k) (take count keys)) ≡ true → (has_place old k || list_any (eqb k) keys) ≡ true
+      among k part_has = grind (arith, common_steps, part_has, whole k)

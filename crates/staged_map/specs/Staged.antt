@@ -1,0 +1,47 @@
+-- A map in which keys have places, with or without a value.
+use Rattle.std.specs.Prelude.{◌≡◌, ℕ, ◌+◌, ◌<◌, Bool, true, List, length, not, ◌&&◌, ◌||◌, ◌==◌, if◌then◌else◌, Option, Some, None, is_some, slice_index}
+use Rattle.std.specs.Option.{option_flatten}
+use Rattle.std.specs.List.{list_any}
+use Rattle.std.specs.Map.{lookup}
+
+-- each key that has a place, with its value if it has one
+abbrev pub Places : Type 0 → Type 0
+Places V = List (ℕ × Option V)
+
+-- the place of a key, if it has one: what it holds is the key's value, if it has one
+abbrev pub place_of : {V : Type 0} → Places V → ℕ → Option (Option V)
+place_of places key = lookup (λ k. key == k) places
+
+-- the value at a key
+abbrev pub value_at : {V : Type 0} → Places V → ℕ → Option V
+value_at places key = option_flatten (place_of places key)
+
+-- the key has a place
+abbrev pub has_place : {V : Type 0} → Places V → ℕ → Bool
+has_place places key = is_some (place_of places key)
+
+-- the key has this value, and every other key what it had; all places stay
+pub record Sets {V : Type 0} (old new : Places V) (key : ℕ) (value : V) : Type 0 where
+  pub values : (k : ℕ) → value_at new k ≡ (if key == k then Some value else value_at old k)
+  pub places : (k : ℕ) → has_place new k ≡ has_place old k
+
+-- the key has neither value nor place, and every other key has what it had
+pub record Removes {V : Type 0} (old new : Places V) (key : ℕ) : Type 0 where
+  pub values : (k : ℕ) → value_at new k ≡ (if key == k then None else value_at old k)
+  pub places : (k : ℕ) → has_place new k ≡ (not (key == k) && has_place old k)
+
+-- these keys have places too, and all values stay
+pub record Reserves {V : Type 0} (old new : Places V) (keys : List ℕ) : Type 0 where
+  pub values : (k : ℕ) → value_at new k ≡ value_at old k
+  pub places : (k : ℕ) → has_place new k ≡ (has_place old k || list_any (λ key. k == key) keys)
+
+-- some of these keys may have got a place; all places and all values stay
+pub record ReservesSome {V : Type 0} (old new : Places V) (keys : List ℕ) : Type 0 where
+  pub values : (k : ℕ) → value_at new k ≡ value_at old k
+  pub kept : (k : ℕ) → has_place old k ≡ true → has_place new k ≡ true
+  pub among : (k : ℕ) → has_place new k ≡ true → (has_place old k || list_any (λ key. k == key) keys) ≡ true
+
+-- the keys that have a value, ascending
+pub record AreKeys {V : Type 0} (places : Places V) (keys : List ℕ) : Type 0 where
+  pub ascending : (i : ℕ) → i + 1 < length keys → slice_index keys i < slice_index keys (i + 1)
+  pub among : (k : ℕ) → list_any (λ key. k == key) keys ≡ is_some (value_at places k)

@@ -1,0 +1,107 @@
+//! A map from numbers in which keys can have a place before they have a value.
+ghost use Rattle.std.specs.Prelude.{◌≡◌, ◌∷◌, [], true, map, filter, is_some, nat_eq, IfOk, OnOk, OnErr};
+ghost use Rattle.std.specs.List.{IsDistinct};
+ghost use Rattle.std.specs.Map.{keys_of};
+ghost use Rattle.std.specs.Option.{option_copied};
+ghost use Rattle.staged_map.specs.Staged.{AreKeys, Removes, Reserves, ReservesSome, Sets, has_place, value_at};
+
+#[cfg(test)]
+mod tests;
+
+use cube_base::{Ids, Memory};
+use indexmap::IndexMap;
+use std::alloc::{AllocError, Global};
+use std::marker::Model;
+
+/// A finite map from u64, and the keys that have a place. Every key with a value has a place; a place without a
+/// value is an entry of the map beneath that holds None. Contracts see the places with their values.
+#[derive(Drop)]
+pub struct Staged<V> {
+    places: IndexMap<u64, Option<V>>,
+}
+
+impl<V> Model for Staged<V> {
+    ghost use Rattle.staged_map.specs.Staged.{Places};
+
+    ghost Value = { Places V };
+
+    ghost view = { λ s. s.places.entries };
+}
+
+impl<V: Drop> Staged<V> {
+    /// No key has a place. It takes no memory.
+    pub fn new(alloc: Global) -> Self
+        ensures { result ≡ [] }
+    {
+        Staged {
+            places: IndexMap::new(alloc),
+        }
+    }
+
+    /// The value at a key. It takes no memory.
+    pub fn get(&self, key: u64) -> Option<&V>
+        ensures { option_copied result ≡ value_at self.now key }
+    {
+        self.places.get(&key)?.as_ref()
+    }
+
+    /// Gives a key that has a place a value, and hands back the one that it had. It takes no memory.
+    pub fn set(&mut self, key: u64, value: V) -> Option<V>
+        requires { has_place self.old key ≡ true }
+        ensures had { result ≡ value_at self.old key }
+        ensures sets { Sets self.old self.new key value }
+    {
+        self.places.get_mut(&key).unwrap().replace(value)
+    }
+
+    /// Takes a key's value and its place away, and hands back the value. It takes no memory.
+    pub fn remove(&mut self, key: u64) -> Option<V>
+        ensures had { result ≡ value_at self.old key }
+        ensures removes { Removes self.old self.new key }
+    {
+        self.places.swap_remove(&key).flatten()
+    }
+
+    /// Gives each of the keys a place. On an error some of them may have got one.
+    pub fn reserve(&mut self, keys: &[u64]) -> Result<(), Memory>
+        ensures ok { OnOk result (Reserves self.old self.new keys.now) }
+        ensures err { OnErr result (ReservesSome self.old self.new keys.now) }
+    {
+        for key in keys {
+            self.give_place(*key)?;
+        }
+        Ok(())
+    }
+
+    /// Gives a key a place. On an error it got none.
+    fn give_place(&mut self, key: u64) -> Result<(), Memory>
+        ensures ok { OnOk result (Reserves self.old self.new (key ∷ [])) }
+        ensures err { OnErr result (self.new ≡ self.old) }
+    {
+        if !self.places.contains_key(&key) {
+            self.places.insert(key, None)?;
+        }
+        Ok(())
+    }
+
+    /// The keys that have a value, ascending.
+    pub fn keys(&self) -> Result<Ids, Memory>
+        ensures { IfOk result (AreKeys self.now) }
+    {
+        let mut keys = self.keys_in_any_order()?;
+        keys.sort_unstable();
+        Ok(Ids::from(keys))
+    }
+
+    /// The keys that have a value.
+    fn keys_in_any_order(&self) -> Result<Vec<u64>, AllocError>
+        ensures keys { IfOk result (λ keys. keys.items ≡ map (λ place. place.0) (filter (λ place. is_some place.1) self.now)) }
+        ensures places_of_different_keys { IsDistinct nat_eq (keys_of self.now) }
+    {
+        self.places
+            .iter()
+            .filter(|(_, value)| value.is_some())
+            .map(|(key, _)| *key)
+            .collect(*self.places.allocator())
+    }
+}
