@@ -111,4 +111,5 @@ row 100000 shuffled 0
 row 200000 shuffled 0
 row 1000000 shuffled 0
 row 200000 ascending 100
+row 200000 ascending 1000
 row 10000 ascending 1000
