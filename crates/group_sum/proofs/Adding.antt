@@ -27,7 +27,7 @@ get_or-zeros (suc n) zero = refl
 get_or-zeros (suc n) (suc k) = get_or-zeros n k
 
 -- a test that each element passes
-list_all_passes : {X : Type 0} (p : X → Bool) (d : X) (xs : List X) → ((k : ℕ) → k < length xs → p (get_or xs k d) ≡ true) → list_all p xs ≡ true
+pub list_all_passes : {X : Type 0} (p : X → Bool) (d : X) (xs : List X) → ((k : ℕ) → k < length xs → p (get_or xs k d) ≡ true) → list_all p xs ≡ true
 list_all_passes p d [] each = refl
 list_all_passes p d (x ∷ xs) each = grind (arith, each 0 (omega arith), list_all_passes p d xs (λ k lt. each (suc k) (omega arith)))
 

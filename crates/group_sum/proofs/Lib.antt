@@ -3,3 +3,9 @@ pub mod Search
 pub mod Scaled
 pub mod Adding
 pub mod Determined
+pub mod Written
+pub mod Fronts
+pub mod Walk
+pub mod Merging
+pub mod Subtracting
+pub mod SmallTerms

@@ -1,3 +1,6 @@
 pub mod Terms
 pub mod Share
 pub mod Place
+pub mod Merge
+pub mod Heads
+pub mod Small

@@ -4,12 +4,16 @@ ghost use Rattle.std.specs.Option.{option_copied, option_map};
 ghost use Rattle.cube_model.specs.Answer.{count_of, numerator_of, term_of};
 ghost use Rattle.group_sum.specs.Terms.{AddsShare, AreTerms, Fits, WIDE, is_term};
 ghost use Rattle.group_sum.specs.Place.{IsAt, IsGapFor};
+ghost use Rattle.group_sum.specs.Merge.{Faults, FitsDifference, FitsMerge, IsLawful, Merges, Subtracts};
 
+use crate::difference::{SubFault, difference};
+use crate::merge::{copied, merged};
 use crate::share::{raise, share};
 use cube_base::{Cols, Memory};
 use cube_model::Term;
 use std::alloc::Global;
 use std::marker::Model;
+use std::mem;
 
 /// The most columns of an answer, the count included.
 pub const MAX_COLUMNS: u32 = 8;
@@ -72,6 +76,15 @@ impl Terms {
         self.terms[i as usize].den
     }
 
+    /// The numerator of a column of the term at a place, from 0.
+    pub fn num_at(&self, i: u64, col: u32) -> i128
+        requires place { i < length self.now.terms }
+        requires column { col < self.now.columns }
+        ensures { option_map (λ t. slice_index_or (pos t.count ∷ t.sums) col (pos 0)) (slice_get self.now.terms i) ≡ Some result }
+    {
+        numerator(&self.terms[i as usize], col)
+    }
+
     /// The numerator of the count at a denominator: 0 where there is no term.
     pub fn count_num(&self, den: u64) -> i128
         ensures { result ≡ pos (count_of self.now.terms den) }
@@ -119,6 +132,39 @@ impl Terms {
         }
     }
 
+    /// The terms of both, numerators of equal denominators added up. An error leaves the terms as they were.
+    pub fn add(&mut self, other: &Terms) -> Result<(), Memory>
+        requires columns { self.old.columns ≡ other.now.columns }
+        requires within { FitsMerge self.old other.now }
+        ensures ok { OnOk result (Merges self.old other.now self.new) }
+        ensures err { OnErr result (self.new ≡ self.old) }
+        ensures terms { AreTerms self.new }
+    {
+        let copies = copied(self.alloc, &other.terms)?;
+        let room = Vec::with_capacity(self.alloc, self.terms.len() + copies.len())?;
+        let terms = mem::replace(&mut self.terms, Vec::new(self.alloc));
+        self.terms = merged(self.columns, room, terms, copies);
+        Ok(())
+    }
+
+    /// The terms that merged with `other` give these. `Less` names the smallest denominator at which the difference
+    /// has a count below 0, or a count of 0 beside another numerator.
+    pub fn sub(&self, other: &Terms) -> Result<Terms, SubFault>
+        requires columns { self.now.columns ≡ other.now.columns }
+        requires within { FitsDifference self.now other.now }
+        ensures difference { IfOk result (λ difference. Subtracts self.now other.now difference) }
+        ensures less { IfErr result (Faults self.now other.now) }
+        ensures lawful { OnOk result (IsLawful self.now other.now) }
+        ensures terms { IfOk result AreTerms }
+    {
+        let terms = difference(self.alloc, self.columns, &self.terms, &other.terms)?;
+        Ok(Terms {
+            alloc: self.alloc,
+            columns: self.columns,
+            terms,
+        })
+    }
+
     // The term of a denominator, if there is one.
     fn find(&self, den: u64) -> Option<&Term>
         ensures found { option_copied result ≡ term_of self.now.terms den }
@@ -164,6 +210,9 @@ mod tests {
         assert_eq!(rt; terms.len(), 2);
         assert_eq!(rt; terms.den_at(0), 1);
         assert_eq!(rt; terms.den_at(1), 3);
+        assert_eq!(rt; terms.columns(), 2);
+        assert_eq!(rt; terms.num_at(0, 1), 400);
+        assert_eq!(rt; terms.num_at(1, 0), 2);
         for (den, count, sum) in [(1, 2, 400), (2, 0, 0), (3, 2, 1200)] {
             assert_eq!(rt; terms.count_num(den), count, "count over {den}");
             assert_eq!(rt; terms.columns(), 2);

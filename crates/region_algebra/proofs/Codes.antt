@@ -111,7 +111,7 @@ unfolding all_regions
 length-all_regions [] = refl
 length-all_regions (dim ∷ dims) = length-blocks (map (λ e. e.number) dim) (all_regions dims) ∙ rw (length-map dim (λ (e : Entry). e.number)) (ap (λ n. length dim * n) (length-all_regions dims))
 
-length-shifted : (n : ℕ) (cells is : List ℕ) → length (flat_map (shifted n cells) is) ≡ length is * length cells
+pub length-shifted : (n : ℕ) (cells is : List ℕ) → length (flat_map (shifted n cells) is) ≡ length is * length cells
 length-shifted n cells [] = omega arith
 length-shifted n cells (i ∷ is) = length-append (shifted n cells i) (flat_map (shifted n cells) is) ∙ grind (arith, length-map cells (λ (c : ℕ). i * n + c), length-shifted n cells is)
 

@@ -8,3 +8,4 @@ pub mod Spaces
 pub mod Children
 pub mod Partition
 pub mod Lines
+pub mod Runs

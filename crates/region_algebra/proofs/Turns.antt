@@ -108,7 +108,7 @@ count_turn dims nodes d e dim node first n count at range is =
     turned ∙ rw (at.dims_are, at.nodes_are, is) (sym (length-cells_of-cons dim (drop e dims) node (drop e nodes) ∙ rw range (ap (λ m. m * length (cells_of (drop e dims) (drop e nodes))) (length-range_with_len first n))))
 
 -- the first of the cells behind so many runs
-nth-runs : (n : ℕ) (cells : List ℕ) (first w i j k cell : ℕ) → i < w → slice_get cells j ≡ Some cell → j < length cells → k ≡ i * length cells + j → slice_get (flat_map (shifted n cells) (range_with_len first w)) k ≡ Some ((first + i) * n + cell)
+pub nth-runs : (n : ℕ) (cells : List ℕ) (first w i j k cell : ℕ) → i < w → slice_get cells j ≡ Some cell → j < length cells → k ≡ i * length cells + j → slice_get (flat_map (shifted n cells) (range_with_len first w)) k ≡ Some ((first + i) * n + cell)
 nth-runs n cells first zero i j k cell within is inside place = absurd (omega arith)
 nth-runs n cells first (suc w) zero j k cell within is inside place =
     let at : k ≡ j = omega (arith, place) in
@@ -197,9 +197,9 @@ count_next dims steps nodes d e first end n count dim node stepped at range is c
     let next = count_turn dims nodes d e dim node first n count at (range-of dim node first end n range is) counted in
     (next, omega (arith, next, cells-few (drop d dims) (drop d nodes), cell_total-drop dims d stepped.trees, stepped.limit))
 
-pub nth_next : (dims : List Dimension) (steps nodes : List ℕ) (d e place left code low first end n : ℕ) (dim : Dimension) (node : ℕ) → IsStepped cell_total dims steps → Here dims nodes d e dim node → e ≤ length dims → 0 < e → d ≡ e - 1
-    → leaf_places dim node ≡ range_with_len first (end - first) → first < end → n ≡ end - first → low ≡ first → IsNth dims nodes e place left code
-    → IsNth dims nodes d place (left / n) (code + (low + left % n) * get_or steps d 0) × (code + (low + left % n) * get_or steps d 0 < LIMIT)
-nth_next dims steps nodes d e place left code low first end n dim node stepped at within behind next range some is same nth =
+pub nth_next : (dims : List Dimension) (steps nodes : List ℕ) (d e place left code low first end n quotient rest : ℕ) (dim : Dimension) (node : ℕ) → IsStepped cell_total dims steps → Here dims nodes d e dim node → e ≤ length dims → 0 < e → d ≡ e - 1
+    → leaf_places dim node ≡ range_with_len first (end - first) → first < end → n ≡ end - first → low ≡ first → quotient ≡ left / n → rest ≡ left % n → IsNth dims nodes e place left code
+    → IsNth dims nodes d place quotient (code + (low + rest) * get_or steps d 0) × (code + (low + rest) * get_or steps d 0 < LIMIT)
+nth_next dims steps nodes d e place left code low first end n quotient rest dim node stepped at within behind next range some is same divides remains nth =
     let turned = nth_turn dims nodes d e place left code first n (get_or steps d 0) dim node at (range-of dim node first end n range is) (omega arith) (step-before cell_total dims steps d e stepped within behind next) nth in
-    rw same (turned, omega (arith, nth_below dims nodes d place (left / n) (code + (first + left % n) * get_or steps d 0) turned, cell_total-drop dims d stepped.trees, stepped.limit))
+    rw (same, divides, remains) (turned, omega (arith, nth_below dims nodes d place (left / n) (code + (first + left % n) * get_or steps d 0) turned, cell_total-drop dims d stepped.trees, stepped.limit))

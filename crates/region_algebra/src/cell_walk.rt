@@ -17,18 +17,21 @@ pub struct CellWalk<'a> {
     // The place among the region's cells of the next, and how many cells there are.
     next: u64,
     count: u64,
+    // The cell that was given last, and how many behind it have the codes that follow it.
+    cell: u64,
+    left: u64,
 }
 
 impl<'a> Model for CellWalk<'a> {
     ghost use Rattle.std.specs.Prelude.{ℕ, List, drop};
     ghost use Rattle.cube_model.specs.Cells.{cells_of};
-    ghost use Rattle.region_algebra.specs.Stepped.{IsPlace};
+    ghost use Rattle.region_algebra.specs.Stepped.{IsWalk};
 
     ghost Value = { List ℕ };
 
     ghost view = { λ w. drop w.next (cells_of w.space.now w.region) };
 
-    ghost invariant = { λ w. IsPlace w.space.now w.region w.next w.count };
+    ghost invariant = { λ w. IsWalk w.space.now w.region w.next w.count w.cell w.left };
 }
 
 impl<'a> CellWalk<'a> {
@@ -42,6 +45,8 @@ impl<'a> CellWalk<'a> {
             region,
             next: 0,
             count: space.cell_count(region),
+            cell: 0,
+            left: 0,
         }
     }
 }
@@ -57,8 +62,13 @@ impl Iterator for CellWalk<'_> {
         if self.next == self.count {
             return None;
         }
-        let cell = self.space.cell_of(self.region, self.next);
+        if self.left == 0 {
+            (self.cell, self.left) = self.space.run_at(self.region, self.next);
+        } else {
+            self.cell += 1;
+            self.left -= 1;
+        }
         self.next += 1;
-        Some(cell)
+        Some(self.cell)
     }
 }

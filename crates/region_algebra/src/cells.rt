@@ -1,8 +1,9 @@
 //! The cells of a region, each by its code.
-ghost use Rattle.std.specs.Prelude.{◌≡◌, ◌<◌, ◌≤◌, Some, true, length, nat_le, nat_lt, slice_get, take, ◌&&◌};
+ghost use Rattle.std.specs.Prelude.{◌≡◌, ◌+◌, ◌/◌, ◌%◌, ◌<◌, ◌≤◌, Some, true, length, nat_le, nat_lt, slice_get, take, ◌&&◌};
 ghost use Rattle.cube_model.specs.Cells.{all_cells, cells_of};
+ghost use Rattle.region_algebra.specs.Fault.{LIMIT};
 ghost use Rattle.region_algebra.specs.Space.{cell_total, is_among, is_region};
-ghost use Rattle.region_algebra.specs.Stepped.{IsStepped};
+ghost use Rattle.region_algebra.specs.Stepped.{IsRun, IsStepped};
 
 use cube_model::{MAX_DIMS, Region};
 use dim_tree::Dim;
@@ -25,6 +26,22 @@ pub fn count(dims: &[Dim], steps: &[u64; 6], r: Region) -> u64
     count
 }
 
+/// A number divided by another, and what is left over. A division takes long: it is spared where the number is the
+/// smaller one, and where the other is 1, as it is where a region has one leaf in a dimension.
+fn divided(n: u64, by: u64) -> (u64, u64)
+    requires { 0 < by }
+    ensures quotient { result.0 ≡ n / by }
+    ensures rest { result.1 ≡ n % by }
+{
+    if n < by {
+        (0, n)
+    } else if by == 1 {
+        (n, 0)
+    } else {
+        (n / by, n % by)
+    }
+}
+
 /// The cell at a place among a region's cells.
 pub fn nth(dims: &[Dim], steps: &[u64; 6], r: Region, place: u64) -> u64
     requires steps { IsStepped cell_total dims.now steps.now }
@@ -40,10 +57,30 @@ pub fn nth(dims: &[Dim], steps: &[u64; 6], r: Region, place: u64) -> u64
         d -= 1;
         let (first, end) = dims[d].leaf_range(r.node(d as u32));
         let count = u64::from(end - first);
-        code += (u64::from(first) + left % count) * steps[d];
-        left /= count;
+        let (quotient, rest) = divided(left, count);
+        code += (u64::from(first) + rest) * steps[d];
+        left = quotient;
     }
     code
+}
+
+/// The cell at a place among a region's cells, and how many behind it have the codes that follow: those with the same
+/// leaves but for the last dimension.
+pub fn run_at(dims: &[Dim], steps: &[u64; 6], r: Region, place: u64) -> (u64, u64)
+    requires steps { IsStepped cell_total dims.now steps.now }
+    requires some { 1 ≤ length dims.now }
+    requires few { length dims.now ≤ 6 }
+    requires region { is_region dims.now r ≡ true }
+    requires place { place < length (cells_of dims.now r) }
+    ensures cell { slice_get (cells_of dims.now r) place ≡ Some result.0 }
+    ensures run { IsRun (cells_of dims.now r) (place + 1) result.0 result.1 }
+    ensures small { result.0 + result.1 < LIMIT }
+{
+    let last = dims.len() - 1;
+    let (first, end) = dims[last].leaf_range(r.node(last as u32));
+    let width = u64::from(end - first);
+    let cell = nth(dims, steps, r, place);
+    (cell, width - 1 - divided(place, width).1)
 }
 
 /// Whether a leaf lies in a range.

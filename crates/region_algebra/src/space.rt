@@ -1,9 +1,10 @@
 //! The space over the dimensions of a cube.
-ghost use Rattle.std.specs.Prelude.{◌≡◌, ◌↔◌, ◌<◌, ◌≤◌, ℕ, List, [], true, All, None, Some, length, map, slice_get, slice_set, IsSome, IfOk, IfErr, IfNone, IfSome, OnOk};
+ghost use Rattle.std.specs.Prelude.{◌≡◌, ◌↔◌, ◌+◌, ◌<◌, ◌≤◌, ℕ, List, [], true, All, None, Some, length, map, slice_get, slice_set, IsSome, IfOk, IfErr, IfNone, IfSome, OnOk};
 ghost use Rattle.cube_model.specs.Tree.{Dimension, IsTree, parent};
 ghost use Rattle.cube_model.specs.Cells.{all_cells, cells_of};
-ghost use Rattle.region_algebra.specs.Fault.{space_fault};
+ghost use Rattle.region_algebra.specs.Fault.{LIMIT, space_fault};
 ghost use Rattle.region_algebra.specs.Space.{all_regions, cells_left, common_cells, is_among, is_region, meet_of, only_cell, cell_total, region_total};
+ghost use Rattle.region_algebra.specs.Stepped.{IsRun};
 
 #[cfg(test)]
 mod tests;
@@ -228,5 +229,16 @@ impl Space {
         ensures { slice_get (cells_of self.now r) place ≡ Some result }
     {
         cells::nth(&self.dims, &self.cell_steps, r, place)
+    }
+
+    /// The cell at a place among a region's cells, and how many behind it have the codes that follow.
+    pub(crate) fn run_at(&self, r: Region, place: u64) -> (u64, u64)
+        requires region { is_region self.now r ≡ true }
+        requires place { place < length (cells_of self.now r) }
+        ensures cell { slice_get (cells_of self.now r) place ≡ Some result.0 }
+        ensures run { IsRun (cells_of self.now r) (place + 1) result.0 result.1 }
+        ensures small { result.0 + result.1 < LIMIT }
+    {
+        cells::run_at(&self.dims, &self.cell_steps, r, place)
     }
 }

@@ -22,7 +22,7 @@ Keeps-front old known between new parts keeps =
     ap (take (length old)) whole ∙ take-append_seam old (known ++ rest)
 
 -- fields behind fields
-appended : (fields more all : List (List ℕ)) (old between new : List ℕ) → between ≡ old ++ fields_text fields → new ≡ between ++ fields_text more → all ≡ fields ++ more → new ≡ old ++ fields_text all
+pub appended : (fields more all : List (List ℕ)) (old between new : List ℕ) → between ≡ old ++ fields_text fields → new ≡ between ++ fields_text more → all ≡ fields ++ more → new ≡ old ++ fields_text all
 appended fields more all old between new parts added joined =
     added ∙ ap (λ l. l ++ fields_text more) parts ∙ append_assoc old (fields_text fields) (fields_text more)
     ∙ ap (λ l. old ++ l) (sym (flat_map-append (λ (field : List ℕ). 9 ∷ field) fields more)) ∙ ap (λ l. old ++ fields_text l) (sym joined)

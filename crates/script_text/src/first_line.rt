@@ -5,11 +5,11 @@ ghost use Rattle.cube_model.specs.Tree.{node_named};
 ghost use Rattle.script_text.specs.Within.{NamesNode};
 
 use crate::fields::{Fields, fields_of};
-use crate::number::number_in;
 use crate::slices::is_text;
 use cube_base::Memory;
 use cube_model::FirstLine;
 use dim_tree::Dim;
+use fact_records::number_in;
 use std::str;
 
 /// The least id of a fact.

@@ -11,10 +11,10 @@ ghost use Rattle.script_text.specs.Nodes.{IsNodesToEnd};
 use crate::fields::{Fields, fields_of};
 use crate::lines::first_line_of;
 use crate::name::read_name;
-use crate::number::number_in;
 use crate::slices::is_text;
 use cube_base::Memory;
 use cube_model::NodeLine;
+use fact_records::number_in;
 use std::alloc::Global;
 
 /// The most nodes of a dimension.

@@ -2,9 +2,9 @@
 ghost use Rattle.std.specs.Prelude.{◌≡◌, ◌∷◌, ◌++◌, ◌<◌, length, OnOk, OnErr};
 ghost use Rattle.group_sum.specs.Place.{term_at};
 ghost use Rattle.cube_model.specs.FirstText.{term_fields};
-ghost use Rattle.script_text.specs.Reply.{Keeps, fields_of_reply, fields_text, reply_text, terms_fields, word_of_reply};
+ghost use Rattle.script_text.specs.Reply.{Keeps, NamesNoCells, fields_of_reply, fields_text, reply_text, terms_fields, word_of_reply};
 
-use cube_base::{Code, Memory};
+use cube_base::{Code, Memory, Pairs};
 use group_sum::Terms;
 use itoa::{Buffer, Integer};
 
@@ -17,12 +17,15 @@ pub enum Reply {
     Error(Code),
     /// What the facts in a region add up to.
     Terms(Terms),
+    /// How a fact is spread: the denominator, and rows of a cell and its weight.
+    Rows { den: u64, rows: Pairs },
 }
 
-/// Appends the text of a reply: the word and its fields with TABs between, and LF. `ok` has the number of
-/// refreshed facts, `error` the word of the code, `terms` the number of terms and then, for each, its
+/// Appends the text of a reply that names no cells: the word and its fields with TABs between, and LF. `ok` has the
+/// number of refreshed facts, `error` the word of the code, `terms` the number of terms and then, for each, its
 /// denominator and its numerators, the count first. An error leaves the text as it was.
 pub fn append_reply(out: &mut Vec<u8>, reply: &Reply) -> Result<(), Memory>
+    requires { NamesNoCells reply.now }
     ensures ok { OnOk result (out.new.items ≡ out.old.items ++ reply_text reply.now) }
     ensures err { OnErr result (out.new.items ≡ out.old.items) }
 {
@@ -36,8 +39,9 @@ pub fn append_reply(out: &mut Vec<u8>, reply: &Reply) -> Result<(), Memory>
 
 // Each of the following appends what it says, or, where memory is wanting, a part of it.
 
-/// Appends the line of a reply.
-fn append_line(out: &mut Vec<u8>, reply: &Reply) -> Result<(), Memory>
+/// Appends the line of a reply that names no cells.
+pub(crate) fn append_line(out: &mut Vec<u8>, reply: &Reply) -> Result<(), Memory>
+    requires { NamesNoCells reply.now }
     ensures ok { OnOk result (out.new.items ≡ out.old.items ++ reply_text reply.now) }
     ensures err { OnErr result (Keeps out.old.items out.new.items) }
 {
@@ -55,11 +59,13 @@ fn word_of(reply: &Reply) -> &'static str
         Reply::Ok(_) => "ok",
         Reply::Error(_) => "error",
         Reply::Terms(_) => "terms",
+        Reply::Rows { .. } => "rows",
     }
 }
 
-/// Appends the further fields of a reply.
+/// Appends the further fields of a reply that names no cells.
 fn append_fields(out: &mut Vec<u8>, reply: &Reply) -> Result<(), Memory>
+    requires { NamesNoCells reply.now }
     ensures ok { OnOk result (out.new.items ≡ out.old.items ++ fields_text (fields_of_reply reply.now)) }
     ensures err { OnErr result (Keeps out.old.items out.new.items) }
 {
@@ -67,6 +73,7 @@ fn append_fields(out: &mut Vec<u8>, reply: &Reply) -> Result<(), Memory>
         Reply::Ok(refreshed) => append_number(out, *refreshed),
         Reply::Error(code) => append_field(out, code.word().as_bytes()),
         Reply::Terms(terms) => append_terms(out, terms),
+        Reply::Rows { .. } => unreachable!(),
     }
 }
 
@@ -97,7 +104,7 @@ fn append_term(out: &mut Vec<u8>, terms: &Terms, i: u64) -> Result<(), Memory>
 }
 
 /// Appends a field: TAB and a number.
-fn append_number<I: Integer>(out: &mut Vec<u8>, number: I) -> Result<(), Memory>
+pub(crate) fn append_number<I: Integer>(out: &mut Vec<u8>, number: I) -> Result<(), Memory>
     ensures ok { OnOk result (out.new.items ≡ out.old.items ++ 9 ∷ I.text number) }
     ensures err { OnErr result (Keeps out.old.items out.new.items) }
 {
@@ -105,7 +112,7 @@ fn append_number<I: Integer>(out: &mut Vec<u8>, number: I) -> Result<(), Memory>
 }
 
 /// Appends a field: TAB and these bytes.
-fn append_field(out: &mut Vec<u8>, field: &[u8]) -> Result<(), Memory>
+pub(crate) fn append_field(out: &mut Vec<u8>, field: &[u8]) -> Result<(), Memory>
     ensures ok { OnOk result (out.new.items ≡ out.old.items ++ 9 ∷ field.now) }
     ensures err { OnErr result (Keeps out.old.items out.new.items) }
 {

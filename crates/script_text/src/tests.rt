@@ -1,4 +1,6 @@
 //! Texts worked out by hand.
+ghost use Rattle.script_text.specs.Reply.{NamesNoCells};
+
 use crate::{FirstLine, Reply, append_reply, first_line_of, read_first_line, read_first_schema};
 use cube_base::{Code, Cols, Memory};
 use group_sum::Terms;
@@ -169,7 +171,9 @@ fn lines_of_a_text(rt: HostRuntime) {
 }
 
 // The text of a reply, behind that of another.
-fn printed(alloc: Global, reply: &Reply) -> Result<Vec<u8>, Memory> {
+fn printed(alloc: Global, reply: &Reply) -> Result<Vec<u8>, Memory>
+    requires { NamesNoCells reply.now }
+{
     let mut out = Vec::new(alloc);
     append_reply(&mut out, &Reply::Error(Code::Exists))?;
     append_reply(&mut out, reply)?;

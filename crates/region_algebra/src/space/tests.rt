@@ -79,6 +79,19 @@ fn region_of(space: &Space, nodes: &[u32]) -> Result<Region, Fail>
     Ok(space.region(nodes).ok_or("no region")?)
 }
 
+/// The region with a child of its node in a dimension.
+fn child_of(space: &Space, region: Region, d: u32, node: u32) -> Result<Region, Fail>
+    requires region { is_region space.now region ≡ true }
+    requires dim { d < length space.now }
+    ensures { IfOk result (λ child. is_region space.now child ≡ true) }
+{
+    let dim = space.dim(d);
+    if node >= dim.len() || dim.parent(node) != Some(region.node(d)) {
+        return Err(Fail::from("no child"));
+    }
+    Ok(space.child(region, d, node))
+}
+
 #[test]
 fn cells_of_places_and_autos(rt: HostRuntime) -> Result<(), Fail> {
     let space = places_and_autos(rt.alloc())?;
@@ -105,6 +118,26 @@ fn cells_of_places_and_autos(rt: HostRuntime) -> Result<(), Fail> {
 
     assert!(rt; space.region(&[8, 0]).is_none());
     assert!(rt; space.region(&[0]).is_none());
+    Ok(())
+}
+
+#[test]
+fn children_of_regions(rt: HostRuntime) -> Result<(), Fail> {
+    let space = places_and_autos(rt.alloc())?;
+    assert_eq!(rt; space.dims(), 2);
+    let texan_sedans = region_of(&space, &[1, 1])?;
+    let austins = child_of(&space, texan_sedans, 0, 2)?;
+    let named = region_of(&space, &[2, 1])?;
+    assert_eq!(rt; space.code(austins), space.code(named));
+    let codes: Vec<u64> = space.cells(austins).collect(rt.alloc())?;
+    assert_eq!(rt; codes.as_slice(), [0, 1].as_slice());
+
+    let texas = region_of(&space, &[1, 0])?;
+    assert_eq!(rt; space.cell_count(texas), 12);
+    for city in [2, 3, 4] {
+        let child = child_of(&space, texas, 0, city)?;
+        assert_eq!(rt; space.cell_count(child), 4);
+    }
     Ok(())
 }
 

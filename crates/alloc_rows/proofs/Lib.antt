@@ -1,0 +1,4 @@
+pub mod Ascending
+pub mod Spreading
+pub mod Weighed
+pub mod WithinSum

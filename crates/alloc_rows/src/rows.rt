@@ -1,0 +1,76 @@
+//! An allocation, and how much of it lies inside a region.
+ghost use Rattle.std.specs.Prelude.{◌≡◌, ◌≤◌, true};
+ghost use Rattle.cube_model.specs.Answer.{weight_inside};
+ghost use Rattle.cube_model.specs.Cells.{cells_of};
+ghost use Rattle.region_algebra.specs.Space.{is_region};
+ghost use Rattle.alloc_rows.specs.Alloc.{AreRows, IsAllocation};
+
+use cube_base::Pairs;
+use cube_model::Region;
+use region_algebra::Space;
+use std::marker::Model;
+
+/// How a fact is spread: rows of a cell and its weight, ascending by cell, and the denominator, which is the sum of the
+/// weights. It is at least 1 and below 2^60. Contracts see the denominator and the list of rows.
+#[derive(Debug, Drop)]
+pub struct Alloc {
+    den: u64,
+    rows: Pairs,
+}
+
+impl Model for Alloc {
+    ghost use Rattle.cube_model.specs.Allocation.{Allocation};
+    ghost use Rattle.alloc_rows.specs.Alloc.{IsAllocation};
+
+    ghost Value = { Allocation };
+
+    ghost view = { λ a. record { den = a.den; rows = a.rows } };
+
+    ghost invariant = { λ a. IsAllocation (record { den = a.den; rows = a.rows }) };
+}
+
+impl Alloc {
+    /// These rows over this denominator.
+    pub(crate) fn of_rows(den: u64, rows: Vec<(u64, u64)>) -> Self
+        requires { IsAllocation (record { den = den; rows = rows.items }) }
+        ensures { result ≡ record { den = den; rows = rows.items } }
+    {
+        Alloc {
+            den,
+            rows: Pairs::from(rows),
+        }
+    }
+
+    /// The denominator: the sum of the rows' weights.
+    pub fn den(&self) -> u64
+        ensures den { result ≡ self.now.den }
+        ensures kept { IsAllocation self.now }
+    {
+        self.den
+    }
+
+    /// The rows, each a cell and its weight.
+    pub fn rows(&self) -> &[(u64, u64)]
+        ensures rows { result.now ≡ self.now.rows }
+        ensures kept { IsAllocation self.now }
+    {
+        self.rows.as_slice()
+    }
+}
+
+/// How much of an allocation lies inside a region: the sum of the weights of the rows whose cells are the region's. It
+/// takes no memory and costs a few operations a row and dimension.
+pub fn inside(a: &Alloc, space: &Space, r: Region) -> u64
+    requires region { is_region space.now r ≡ true }
+    requires cells { AreRows space.now a.now.rows }
+    ensures sum { result ≡ weight_inside (cells_of space.now r) a.now }
+    ensures most { result ≤ a.now.den }
+{
+    let mut sum = 0;
+    for (cell, weight) in a.rows() {
+        if space.contains(r, *cell) {
+            sum += *weight;
+        }
+    }
+    sum
+}

@@ -1,0 +1,103 @@
+//! The allocation of a fact.
+ghost use Rattle.std.specs.Prelude.{◌≡◌, ◌<◌, ◌≤◌, true, List, IfOk, length};
+ghost use Rattle.std.specs.List.{sum_by};
+ghost use Rattle.cube_model.specs.Allocation.{allocation, spread, spread_by, spread_evenly};
+ghost use Rattle.cube_model.specs.Cells.{cells_of};
+ghost use Rattle.cube_model.specs.declared.edit.Fact.{Fact};
+ghost use Rattle.cell_weight.specs.Stats.{MOST_FACTS, stat_at};
+ghost use Rattle.region_algebra.specs.Space.{is_region};
+ghost use Rattle.alloc_rows.specs.Alloc.{AreRows, AreStatsOf, LIMIT, MOST_CELLS};
+
+#[cfg(test)]
+mod tests;
+
+use crate::Alloc;
+use cell_weight::{StatIndex, WeightPolicy};
+use cube_base::Memory;
+use cube_model::{Fact, Region};
+use region_algebra::Space;
+use std::alloc::Global;
+
+/// The allocation of a fact: on one cell, it is there whole. Else it is spread over the cells of its region by what the
+/// policy makes them weigh, or evenly where all weigh 0. It looks at each cell of the region once, or twice where all
+/// weigh 0.
+pub fn allocate<P: WeightPolicy>(
+    alloc: Global,
+    space: &Space,
+    policy: &P,
+    stats: &StatIndex,
+    f: &Fact,
+) -> Result<Alloc, Memory>
+    requires region { is_region space.now f.now.region ≡ true }
+    requires few { length (cells_of space.now f.now.region) ≤ MOST_CELLS }
+    requires counted { sum_by (λ cell. (stat_at stats.now cell).count) (cells_of space.now f.now.region) ≤ MOST_FACTS }
+    ensures spread { IfOk result (λ a. a ≡ spread (λ cell. P.weigh policy.now (stat_at stats.now cell)) (cells_of space.now f.now.region)) }
+    ensures of_facts { IfOk result (λ a. (facts : List Fact) → AreStatsOf space.now facts stats.now (cells_of space.now f.now.region) → a ≡ allocation (P.weigh policy.now) space.now facts f.now) }
+    ensures cells { IfOk result (λ a. AreRows space.now a.rows) }
+{
+    spread_over(alloc, space, policy, stats, f.region)
+}
+
+// The allocation of a fact in this region.
+fn spread_over<P: WeightPolicy>(
+    alloc: Global,
+    space: &Space,
+    policy: &P,
+    stats: &StatIndex,
+    r: Region,
+) -> Result<Alloc, Memory>
+    requires region { is_region space.now r ≡ true }
+    requires few { length (cells_of space.now r) ≤ MOST_CELLS }
+    requires counted { sum_by (λ cell. (stat_at stats.now cell).count) (cells_of space.now r) ≤ MOST_FACTS }
+    ensures { IfOk result (λ a. a ≡ spread (λ cell. P.weigh policy.now (stat_at stats.now cell)) (cells_of space.now r)) }
+{
+    if space.cell_count(r) == 1 {
+        return spread_evenly(alloc, space, r);
+    }
+    let (total, rows) = weigh_cells(alloc, space, policy, stats, r)?;
+    if total == 0 {
+        return spread_evenly(alloc, space, r);
+    }
+    Ok(Alloc::of_rows(total, rows))
+}
+
+// The sum of the weights of a region's cells, and the cells that weigh something with their weights, ascending.
+fn weigh_cells<P: WeightPolicy>(
+    alloc: Global,
+    space: &Space,
+    policy: &P,
+    stats: &StatIndex,
+    r: Region,
+) -> Result<(u64, Vec<(u64, u64)>), Memory>
+    requires region { is_region space.now r ≡ true }
+    requires few { length (cells_of space.now r) ≤ MOST_CELLS }
+    requires counted { sum_by (λ cell. (stat_at stats.now cell).count) (cells_of space.now r) ≤ MOST_FACTS }
+    ensures total { IfOk result (λ weighed. weighed.0 ≡ sum_by (λ cell. P.weigh policy.now (stat_at stats.now cell)) (cells_of space.now r)) }
+    ensures rows { IfOk result (λ weighed. weighed.1.items ≡ (spread_by (λ cell. P.weigh policy.now (stat_at stats.now cell)) (cells_of space.now r)).rows) }
+    ensures limit { IfOk result (λ weighed. weighed.0 < LIMIT) }
+{
+    let mut total = 0;
+    let mut rows = Vec::new(alloc);
+    for cell in space.cells(r) {
+        let weight = policy.weight(stats.stat(cell));
+        if weight > 0 {
+            total += weight;
+            rows.push((cell, weight))?;
+        }
+    }
+    Ok((total, rows))
+}
+
+// Weight 1 for each of a region's cells.
+fn spread_evenly(alloc: Global, space: &Space, r: Region) -> Result<Alloc, Memory>
+    requires region { is_region space.now r ≡ true }
+    requires few { length (cells_of space.now r) ≤ MOST_CELLS }
+    ensures { IfOk result (λ a. a ≡ spread_evenly (cells_of space.now r)) }
+{
+    let count = space.cell_count(r);
+    let mut rows = Vec::with_capacity(alloc, count as usize)?;
+    for cell in space.cells(r) {
+        rows.push((cell, 1))?;
+    }
+    Ok(Alloc::of_rows(count, rows))
+}

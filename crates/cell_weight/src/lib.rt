@@ -1,0 +1,9 @@
+//! What a cell weighs, by what is known of its precise facts, and the statistics of all cells that have any.
+#![tactic(auto)]
+
+mod policy;
+mod stat_index;
+
+pub use cube_model::CellStat;
+pub use policy::{ByCount, Uniform, WeightPolicy};
+pub use stat_index::StatIndex;

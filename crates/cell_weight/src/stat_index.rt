@@ -1,0 +1,140 @@
+//! The statistics of the cells.
+ghost use Rattle.std.specs.Prelude.{◌≡◌, [], ◌∷◌, All, OnOk, true};
+ghost use Rattle.staged_map.specs.Staged.{has_place};
+ghost use Rattle.cell_weight.specs.Stats.{AreOfDifferentCells, Installs, IsStat, KeepsPlaces, KeepsStats, has_facts, have_places, stat_at};
+
+use cube_base::Memory;
+use cube_model::CellStat;
+use staged_map::Staged;
+use std::alloc::Global;
+use std::marker::Model;
+
+/// What a cell has where no fact lies.
+const NO_FACTS: CellStat = CellStat { count: 0, sum: 0 };
+
+/// What is known of each cell's precise facts. A cell that has none takes no room: its statistics are zeros, and none
+/// are kept for it. Contracts see the places of the map beneath.
+#[derive(Drop)]
+pub struct StatIndex {
+    stats: Staged<CellStat>,
+}
+
+impl Model for StatIndex {
+    ghost use Rattle.cube_model.specs.declared.statistic.CellStat.{CellStat};
+    ghost use Rattle.staged_map.specs.Staged.{Places};
+    ghost use Rattle.cell_weight.specs.Stats.{AreStats};
+
+    ghost Value = { Places CellStat };
+
+    ghost view = { λ s. s.stats };
+
+    ghost invariant = { λ s. AreStats s.stats };
+}
+
+impl StatIndex {
+    /// No cell has facts. It takes no memory.
+    pub fn new(alloc: Global) -> Self
+        ensures { result ≡ [] }
+    {
+        StatIndex {
+            stats: Staged::new(alloc),
+        }
+    }
+
+    /// The statistics of a cell. It takes no memory.
+    pub fn stat(&self, cell: u64) -> CellStat
+        ensures stat { result ≡ stat_at self.now cell }
+        ensures possible { IsStat result }
+    {
+        self.stats.get(cell).copied().unwrap_or(NO_FACTS)
+    }
+
+    /// Gives each changed cell a place, so that `install` cannot be refused. All statistics stay. On an error some of the
+    /// cells may have got a place.
+    pub fn stage(&mut self, changes: &[(u64, CellStat)]) -> Result<(), Memory>
+        ensures stats { KeepsStats self.old self.new }
+        ensures places { KeepsPlaces self.old self.new }
+        ensures ok { OnOk result (have_places self.new changes.now ≡ true) }
+    {
+        for (cell, _) in changes {
+            self.stats.reserve(&[*cell])?;
+        }
+        Ok(())
+    }
+
+    /// Gives each changed cell its new statistics. Where these are zeros, its place goes too. It takes no memory.
+    pub fn install(&mut self, changes: &[(u64, CellStat)])
+        requires distinct { AreOfDifferentCells changes.now }
+        requires places { have_places self.old changes.now ≡ true }
+        requires possible { All (λ change. IsStat change.1) changes.now }
+        ensures { Installs self.old self.new changes.now }
+    {
+        for (cell, stat) in changes {
+            put(&mut self.stats, *cell, *stat);
+        }
+    }
+}
+
+// Gives a cell that has a place its new statistics.
+fn put(stats: &mut Staged<CellStat>, cell: u64, stat: CellStat)
+    requires { has_place stats.old cell ≡ true }
+    ensures { Installs stats.old stats.new ((cell, stat) ∷ []) }
+{
+    if has_facts(stat) {
+        let _ = stats.set(cell, stat);
+    } else {
+        let _ = stats.remove(cell);
+    }
+}
+
+// Whether a cell with these statistics has facts.
+fn has_facts(stat: CellStat) -> bool
+    ensures { result ≡ has_facts stat }
+{
+    stat.count != 0 || stat.sum != 0
+}
+
+#[cfg(test)]
+mod tests {
+    use super::*;
+    use crate::{ByCount, Uniform, WeightPolicy};
+    use std::process::Abort;
+    use std::test::Fail;
+
+    const TWO: CellStat = CellStat { count: 2, sum: 30 };
+
+    const ONE: CellStat = CellStat { count: 1, sum: 7 };
+
+    const MOST: CellStat = CellStat {
+        count: 1_048_576,
+        sum: 1_048_576_000_000_000_000,
+    };
+
+    // Each cell has these statistics, by which `ByCount` weighs it; `Uniform` weighs it 1.
+    fn expect_stats(rt: &impl Abort, index: &StatIndex, stats: &[(u64, CellStat)]) {
+        for (cell, stat) in stats {
+            assert_eq!(rt; index.stat(*cell), *stat, "at {cell}");
+            assert_eq!(rt; ByCount.weight(index.stat(*cell)), stat.count, "at {cell}");
+            assert_eq!(rt; Uniform.weight(index.stat(*cell)), 1, "at {cell}");
+        }
+    }
+
+    #[test]
+    fn statistics_change_where_they_are_installed(rt: HostRuntime) -> Result<(), Fail> {
+        let mut index = StatIndex::new(rt.alloc());
+        let first = [(0, TWO), (4, ONE)];
+        index.stage(&first)?;
+        expect_stats(&rt, &index, &[(0, NO_FACTS), (4, NO_FACTS), (8, NO_FACTS)]);
+        index.install(&first);
+        expect_stats(&rt, &index, &[(0, TWO), (4, ONE), (8, NO_FACTS)]);
+
+        let second = [(4, NO_FACTS), (8, MOST)];
+        index.stage(&second)?;
+        index.stage(&second)?;
+        expect_stats(&rt, &index, &[(0, TWO), (4, ONE), (8, NO_FACTS)]);
+        index.install(&second);
+        expect_stats(&rt, &index, &[(0, TWO), (4, NO_FACTS), (8, MOST)]);
+        assert_eq!(rt; index.stats.keys()?.as_slice(), [0, 8].as_slice());
+        Ok(())
+    }
+}

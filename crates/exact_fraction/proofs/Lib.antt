@@ -1,0 +1,15 @@
+pub mod Bounding
+pub mod Columns
+pub mod Dividing
+pub mod Divisors
+pub mod Passes
+pub mod Places
+pub mod Products
+pub mod Shares
+pub mod Signs
+pub mod Totals
+pub mod Sizes
+pub mod Told
+pub mod Quoted
+pub mod Ratios
+pub mod Scaling

@@ -1,0 +1,63 @@
+//! Greatest common divisors and least common multiples.
+ghost use Rattle.std.specs.Prelude.{◌≡◌, ◌*◌, ◌≤◌};
+ghost use Rattle.std.specs.Int.{IsGcd};
+ghost use Rattle.exact_fraction.specs.Number.{gcd, lcm, within};
+
+/// What no numerator and no denominator passes.
+pub const LIMIT: u128 = 1 << 120;
+
+// The largest number of 64 bits.
+const NARROW: u128 = 0xffff_ffff_ffff_ffff;
+
+/// The greatest common divisor of two numbers.
+pub fn gcd(a: u128, b: u128) -> u128
+    requires { 1 ≤ b }
+    ensures { result ≡ gcd a b }
+{
+    let mut x = a;
+    let mut y = b;
+    while y > NARROW {
+        let rest = x % y;
+        x = y;
+        y = rest;
+    }
+    if y == 0 {
+        return x;
+    }
+    narrow_gcd(y as u64, (x % y) as u64) as u128
+}
+
+// Euclid on numbers of 64 bits.
+fn narrow_gcd(a: u64, b: u64) -> u64
+    ensures { IsGcd a b result }
+{
+    let mut x = a;
+    let mut y = b;
+    while y != 0 {
+        let rest = x % y;
+        x = y;
+        y = rest;
+    }
+    x
+}
+
+/// The product of two numbers, if it does not pass the limit.
+pub fn product_within(x: u128, y: u128) -> Option<u128>
+    ensures { result ≡ within (x * y) }
+{
+    if y == 0 {
+        return Some(0);
+    }
+    if x > LIMIT / y {
+        return None;
+    }
+    Some(x * y)
+}
+
+/// The least common multiple of two numbers, if it does not pass the limit.
+pub fn lcm_within(a: u128, b: u128) -> Option<u128>
+    requires { 1 ≤ b }
+    ensures { result ≡ within (lcm a b) }
+{
+    product_within(a, b / gcd(a, b))
+}

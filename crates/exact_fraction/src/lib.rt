@@ -1,0 +1,16 @@
+//! One exact fraction, or sound bounds, within 128 bits: the arithmetic behind a count, a sum, an average and pooling.
+#![tactic(auto)]
+
+mod column;
+mod fraction;
+mod gcd;
+mod laws;
+mod quotients;
+mod sums;
+#[cfg(test)]
+mod tests;
+
+pub use group_sum::Terms;
+pub use laws::worked_examples;
+pub use quotients::{MAX_SCALE, Quotient, ratio};
+pub use sums::{Value, one};

@@ -1,0 +1,12 @@
+pub mod Ascending
+pub mod BlockPlaces
+pub mod Columns
+pub mod Digits
+pub mod Edits
+pub mod Filling
+pub mod Flat
+pub mod Fronts
+pub mod Keeping
+pub mod Load
+pub mod PartTexts
+pub mod Rooms

@@ -1,0 +1,14 @@
+use Rattle.std.proofs.Common.{FitsSigned, w64, arith, rules}
+use Rattle.std.proofs.lemmas.Int.{to_z-of_z}
+use Rattle.std.proofs.lemmas.List.{length-set}
+use Rattle.fact_records.proofs.Filling.{filled-more}
+use Rattle.fact_records.proofs.places.append.Goals as goal
+
+pub loop-i-preserved : goal.loop-i-preserved
+loop-i-preserved c =
+    let fits : FitsSigned w64 c.get.result = search rules in
+    rw (to_z-of_z w64 c.get.result fits) (
+      filled-more c.args.cols c.args.more c.loop-i.places c.loop-i.end c.loop-i.i c.get.result c.loop-i.invariant.0 (omega (arith)) c.get.ensures,
+      omega arith,
+      rw length-set c.loop-i.invariant.2,
+    )

@@ -1,0 +1,7 @@
+use Rattle.std.proofs.Common.{ap, arith, length}
+use Rattle.fact_records.proofs.Columns.{length-width_of_all}
+use Rattle.fact_records.proofs.shape.Shape.find.Goals as goal
+
+pub overflow_cast-result : goal.overflow_cast-result
+overflow_cast-result c =
+    omega (arith, length-width_of_all _ c.self.invariant.some, ap length c.deref.ensures.value, c.in_ok-place.ensures.within)

@@ -1,0 +1,48 @@
+-- How a field spells the values of a measure.
+use Rattle.std.specs.Prelude.{ℕ, Bool, List, [], ◌∷◌, length, map, fold, ◌==◌, ◌&&◌, if◌then◌else◌, Option, Some, None, ℤ, pos, ◌+ℤ◌, neg_ℤ}
+use Rattle.std.specs.Option.{option_map, option_and_then}
+use Rattle.std.specs.List.{slice_split}
+use Rattle.std.specs.Ordering.{int_eq}
+use Rattle.cube_base.specs.declared.code.Code.{Code}
+use Rattle.cube_base.specs.declared.code.Code.TheVariants as code
+use Rattle.cube_model.specs.Text.{number_in}
+use Rattle.fact_records.specs.declared.shape.Kind.{Kind}
+use Rattle.fact_records.specs.declared.shape.Kind.TheVariants.{Number, Parts}
+
+-- the greatest absolute value of a number measure
+abbrev pub MAX_VALUE : ℕ
+MAX_VALUE = 1000000000000
+
+-- a signed number from -most to most: a number, or `-` before a number other than 0
+abbrev pub signed_number_in : ℕ → List ℕ → Option ℤ
+signed_number_in most [] = None
+signed_number_in most (b ∷ bytes) =
+    if b == 45 then option_map (λ n. neg_ℤ (pos n)) (number_in 1 most bytes) else option_map (λ n. pos n) (number_in 0 most (b ∷ bytes))
+
+-- the items, where each of them is there
+abbrev pub all_of : {X : Type 0} → List (Option X) → Option (List X)
+all_of [] = Some []
+all_of (item ∷ items) = option_and_then (λ x. option_map (λ xs. x ∷ xs) (all_of items)) item
+
+-- the values add up to the scale
+abbrev pub sums_to : ℕ → List ℤ → Bool
+sums_to scale values = int_eq (fold ◌+ℤ◌ (pos 0) values) (pos scale)
+
+-- a number from 0 to the scale
+abbrev pub part_in : ℕ → List ℕ → Option ℤ
+part_in scale bytes = option_map (λ n. pos n) (number_in 0 scale bytes)
+
+-- so many numbers from 0 to the scale, joined by `:`, that add up to the scale
+abbrev pub parts_in : ℕ → ℕ → List ℕ → Option (List ℤ)
+parts_in count scale bytes =
+    option_and_then (λ parts. if length parts == count && sums_to scale parts then Some parts else None) (all_of (map (part_in scale) (slice_split (λ b. b == 58) bytes)))
+
+-- the values that a field gives a measure
+abbrev pub values_in : Kind → List ℕ → Option (List ℤ)
+values_in Number field = option_map (λ value. value ∷ []) (signed_number_in MAX_VALUE field)
+values_in (Parts scale outcomes) field = parts_in (length outcomes) scale field
+
+-- the code of a field that gives none
+abbrev pub code_of : Kind → Code
+code_of Number = code.Value
+code_of (Parts _ _) = code.Parts

@@ -1,0 +1,261 @@
+//! Blocks of facts one after another, and blocks in stock for facts to come.
+ghost use Rattle.std.specs.Prelude.{◌≡◌, ◌+◌, ◌^◌, ◌<◌, ◌≤◌, [], Some, length, take, drop, slice_get, slice_set, insert, remove, All, OnOk};
+ghost use Rattle.std.specs.Vec.{vec_capacity, vec_len};
+ghost use Rattle.fact_records.specs.BlockList.{AllFilled, IsAt, IsPlace, all_facts, block_at, load, place_in_all, spare_of};
+ghost use Rattle.fact_records.specs.Room.{MakesRoom};
+
+use crate::block::{BLOCK, Block};
+use crate::search::Place;
+use cube_model::Fact;
+use std::alloc::{AllocError, Global};
+use std::marker::Model;
+
+/// What goes to either side where a full block is split.
+pub(crate) const HALF: usize = 128;
+
+/// Blocks in use, in order, and empty ones in stock. Putting facts in and taking them out takes no memory and gives none back.
+/// Contracts see the blocks in use and how many there are in stock.
+#[derive(Drop)]
+pub(crate) struct Blocks {
+    alloc: Global,
+    used: Vec<Block>,
+    stock: Vec<Block>,
+}
+
+impl Model for Blocks {
+    ghost use Rattle.std.specs.Vec.{vec_len, vec_capacity};
+    ghost use Rattle.fact_records.specs.BlockList.{BlockList, IsStocked};
+
+    ghost Value = { BlockList };
+
+    ghost view = { λ b. record { used = b.used.items; stock = vec_len b.stock } };
+
+    ghost invariant = { λ b. IsStocked (vec_len b.used) (vec_capacity b.used) b.stock.items (vec_capacity b.stock) };
+}
+
+impl Blocks {
+    // No blocks.
+    pub(crate) fn new(alloc: Global) -> Self
+        ensures { result ≡ record { used = []; stock = 0 } }
+    {
+        Blocks {
+            alloc,
+            used: Vec::new(alloc),
+            stock: Vec::new(alloc),
+        }
+    }
+
+    // The blocks in use.
+    pub(crate) fn used(&self) -> &[Block]
+        ensures { result.now ≡ self.now.used }
+    {
+        self.used.as_slice()
+    }
+
+    // The number of blocks in stock.
+    pub(crate) fn stock(&self) -> usize
+        ensures { result ≡ self.now.stock }
+    {
+        self.stock.len()
+    }
+
+    // The facts of a block.
+    fn block(&self, block: usize) -> &[Fact]
+        requires { block < length self.now.used }
+        ensures { result.now ≡ block_at self.now.used block }
+    {
+        self.used[block].as_slice()
+    }
+
+    // Writes a fact over the one at a place, which it hands back.
+    pub(crate) fn replace(&mut self, place: Place, fact: Fact) -> Fact
+        requires place { IsAt self.old.used place.block place.at }
+        requires filled { AllFilled self.old.used }
+        ensures had { slice_get (all_facts self.old.used) (place_in_all self.old.used place.block place.at) ≡ Some result }
+        ensures facts { all_facts self.new.used ≡ slice_set (all_facts self.old.used) (place_in_all self.old.used place.block place.at) fact }
+        ensures filled { AllFilled self.new.used }
+        ensures spare { spare_of self.old ≤ spare_of self.new }
+    {
+        self.replace_within(place, fact)
+    }
+
+    // Takes out the fact at a place. A block that is empty then goes to the stock.
+    pub(crate) fn remove(&mut self, place: Place) -> Fact
+        requires place { IsAt self.old.used place.block place.at }
+        requires filled { AllFilled self.old.used }
+        ensures had { slice_get (all_facts self.old.used) (place_in_all self.old.used place.block place.at) ≡ Some result }
+        ensures facts { all_facts self.new.used ≡ remove (all_facts self.old.used) (place_in_all self.old.used place.block place.at) }
+        ensures filled { AllFilled self.new.used }
+        ensures spare { spare_of self.old ≤ spare_of self.new }
+    {
+        let fact = self.remove_within(place);
+        if self.block(place.block).is_empty() {
+            self.retire(place.block);
+        }
+        fact
+    }
+
+    // Puts a fact in at a place. Where its block is full, a block of the stock makes room.
+    pub(crate) fn insert(&mut self, place: Place, fact: Fact)
+        requires place { IsPlace self.old.used place.block place.at }
+        requires filled { AllFilled self.old.used }
+        requires spare { 0 < spare_of self.old }
+        ensures facts { all_facts self.new.used ≡ insert (all_facts self.old.used) (place_in_all self.old.used place.block place.at) fact }
+        ensures filled { AllFilled self.new.used }
+        ensures spare { spare_of self.old ≤ spare_of self.new + 1 }
+    {
+        let place = self.make_room(place);
+        self.insert_within(place, fact);
+    }
+
+    // The same place among the facts, in a block that is not full.
+    fn make_room(&mut self, place: Place) -> Place
+        requires place { IsPlace self.old.used place.block place.at }
+        requires filled { AllFilled self.old.used }
+        requires stock { 0 < self.old.stock }
+        ensures { MakesRoom self.old self.new place.block place.at result.block result.at }
+    {
+        if self.used().is_empty() {
+            self.add(0);
+            return place;
+        }
+        if self.block(place.block).len() < BLOCK {
+            return place;
+        }
+        if place.at == BLOCK && place.block + 1 == self.used().len() {
+            self.add(place.block + 1);
+            return Place {
+                block: place.block + 1,
+                at: 0,
+            };
+        }
+        self.split(place.block);
+        if place.at <= HALF {
+            return place;
+        }
+        Place {
+            block: place.block + 1,
+            at: place.at - HALF,
+        }
+    }
+
+    // Puts a fact into a block that is not full.
+    fn insert_within(&mut self, place: Place, fact: Fact)
+        requires place { place.block < length self.old.used }
+        requires within { place.at ≤ length (block_at self.old.used place.block) }
+        requires room { length (block_at self.old.used place.block) < BLOCK }
+        ensures used { self.new.used ≡ slice_set self.old.used place.block (insert (block_at self.old.used place.block) place.at fact) }
+        ensures stock { self.new.stock ≡ self.old.stock }
+    {
+        self.used[place.block].insert(place.at, fact);
+    }
+
+    // Writes a fact over one in its block.
+    fn replace_within(&mut self, place: Place, fact: Fact) -> Fact
+        requires { IsAt self.old.used place.block place.at }
+        ensures had { slice_get (block_at self.old.used place.block) place.at ≡ Some result }
+        ensures used { self.new.used ≡ slice_set self.old.used place.block (slice_set (block_at self.old.used place.block) place.at fact) }
+        ensures stock { self.new.stock ≡ self.old.stock }
+    {
+        self.used[place.block].replace(place.at, fact)
+    }
+
+    // Takes a fact out of its block.
+    fn remove_within(&mut self, place: Place) -> Fact
+        requires { IsAt self.old.used place.block place.at }
+        ensures had { slice_get (block_at self.old.used place.block) place.at ≡ Some result }
+        ensures used { self.new.used ≡ slice_set self.old.used place.block (remove (block_at self.old.used place.block) place.at) }
+        ensures stock { self.new.stock ≡ self.old.stock }
+    {
+        self.used[place.block].remove(place.at)
+    }
+
+    // Puts an empty block of the stock before the one at a place, or behind all.
+    fn add(&mut self, block: usize)
+        requires place { block ≤ length self.old.used }
+        requires stock { 0 < self.old.stock }
+        ensures used { self.new.used ≡ insert self.old.used block [] }
+        ensures stock { self.new.stock + 1 ≡ self.old.stock }
+    {
+        let empty = self.stock.pop().unwrap();
+        if self.used.insert(block, empty).is_err() {
+            unreachable!()
+        }
+    }
+
+    // Splits a full block in two halves.
+    fn split(&mut self, block: usize)
+        requires place { block < length self.old.used }
+        requires full { length (block_at self.old.used block) ≡ BLOCK }
+        requires stock { 0 < self.old.stock }
+        ensures used { let full = block_at self.old.used block in
+            self.new.used ≡ insert (slice_set self.old.used block (take HALF full)) (block + 1) (drop HALF full) }
+        ensures stock { self.new.stock + 1 ≡ self.old.stock }
+    {
+        let mut end = self.stock.pop().unwrap();
+        self.used[block].move_end(HALF, &mut end);
+        if self.used.insert(block + 1, end).is_err() {
+            unreachable!()
+        }
+    }
+
+    // Gives a block without facts to the stock.
+    fn retire(&mut self, block: usize)
+        requires place { block < length self.old.used }
+        requires empty { block_at self.old.used block ≡ [] }
+        ensures used { self.new.used ≡ remove self.old.used block }
+        ensures stock { self.new.stock ≡ self.old.stock + 1 }
+    {
+        let empty = self.used.remove(block);
+        if self.stock.push(empty).is_err() {
+            unreachable!()
+        }
+    }
+
+    // Makes the stock at least so large. On an error it may have grown.
+    pub(crate) fn reserve(&mut self, stock: usize) -> Result<(), AllocError>
+        requires { stock < 2 ^ 62 }
+        ensures used { self.new.used ≡ self.old.used }
+        ensures ok { OnOk result (stock ≤ self.new.stock) }
+        ensures kept { self.old.stock ≤ self.new.stock }
+    {
+        let alloc = self.alloc;
+        if stock <= self.stock.len() {
+            return Ok(());
+        }
+        self.used.reserve(stock)?;
+        self.stock.reserve(self.used.len() + stock)?;
+        fill(alloc, &mut self.stock, stock)
+    }
+}
+
+// Adds empty blocks up to a number. On an error there may be some.
+fn fill(alloc: Global, stock: &mut Vec<Block>, number: usize) -> Result<(), AllocError>
+    requires empty { All (λ block. block ≡ []) stock.old.items }
+    requires more { vec_len stock.old ≤ number }
+    ensures empty { All (λ block. block ≡ []) stock.new.items }
+    ensures ok { OnOk result (vec_len stock.new ≡ number) }
+    ensures kept { vec_len stock.old ≤ vec_len stock.new }
+    ensures most { vec_len stock.new ≤ number }
+    ensures capacity { vec_capacity stock.old ≤ vec_capacity stock.new }
+{
+    for _ in stock.len()..number {
+        stock.push(Block::new(alloc)?)?;
+    }
+    Ok(())
+}
+
+// The load of blocks: what they have above what a split leaves them.
+pub(crate) fn load(used: &[Block]) -> u64
+    requires { length (all_facts used.now) < 2 ^ 64 }
+    ensures { result ≡ load used.now }
+{
+    let Some((last, others)) = used.split_last() else {
+        return HALF as u64;
+    };
+    let mut load = last.as_slice().len() as u64;
+    for block in others {
+        load += block.as_slice().len().saturating_sub(HALF) as u64;
+    }
+    load
+}

@@ -1,0 +1,91 @@
+//! Places of facts in blocks.
+ghost use Rattle.std.specs.Prelude.{◌≡◌, ◌+◌, ◌<◌, Some, length, slice_get, IfOk, IfErr};
+ghost use Rattle.std.specs.Option.{option_copied};
+ghost use Rattle.fact_records.specs.BlockList.{AllFilled, IsAt, IsPlace, all_facts, place_in_all};
+ghost use Rattle.fact_records.specs.Cut.{IsCut, IsGapAt, IsIdAt, id_at};
+ghost use Rattle.fact_records.specs.FactList.{IsAscending};
+
+use crate::block::Block;
+use cube_model::Fact;
+
+/// A place of a fact: which block, and where in it.
+#[derive(Clone, Copy)]
+pub(crate) struct Place {
+    pub(crate) block: usize,
+    pub(crate) at: usize,
+}
+
+// Where the fact of an id is, or where it would go.
+pub(crate) fn search(used: &[Block], id: u64) -> Result<Place, Place>
+    requires ascending { IsAscending (all_facts used.now) }
+    requires filled { AllFilled used.now }
+    ensures found { IfOk result (λ p. IsAt used.now p.block p.at) }
+    ensures id { IfOk result (λ p. IsIdAt (all_facts used.now) id (place_in_all used.now p.block p.at)) }
+    ensures absent { IfErr result (λ p. IsPlace used.now p.block p.at) }
+    ensures gap { IfErr result (λ p. IsGapAt (all_facts used.now) id (place_in_all used.now p.block p.at)) }
+{
+    if used.is_empty() {
+        return Err(Place { block: 0, at: 0 });
+    }
+    let block = block_of(used, id);
+    match search_block(&used[block], id) {
+        Ok(at) => Ok(Place { block, at }),
+        Err(at) => Err(Place { block, at }),
+    }
+}
+
+// The same in one block.
+fn search_block(block: &Block, id: u64) -> Result<usize, usize>
+    requires { IsAscending block.now }
+    ensures found { IfOk result (IsIdAt block.now id) }
+    ensures absent { IfErr result (IsGapAt block.now id) }
+{
+    block.as_slice().binary_search_by_key(&id, |fact| fact.id)
+}
+
+// The last block whose first fact has no greater id, or the first block.
+fn block_of(used: &[Block], id: u64) -> usize
+    requires ascending { IsAscending (all_facts used.now) }
+    requires filled { AllFilled used.now }
+    requires some { 0 < length used.now }
+    ensures in_range { result < length used.now }
+    ensures cut { IsCut (all_facts used.now) id (place_in_all used.now result 0) (place_in_all used.now (result + 1) 0) }
+{
+    match used.binary_search_by_key(&id, |block| first_id(block)) {
+        Ok(block) => block,
+        Err(next) => next.saturating_sub(1),
+    }
+}
+
+// The first id of a block: 0 where it has no fact.
+fn first_id(block: &Block) -> u64
+    ensures { result ≡ id_at block.now 0 }
+{
+    match block.as_slice().first() {
+        Some(fact) => fact.id,
+        None => 0,
+    }
+}
+
+// The fact at a place.
+pub(crate) fn fact_at(used: &[Block], place: Place) -> &Fact
+    requires { IsAt used.now place.block place.at }
+    ensures { slice_get (all_facts used.now) (place_in_all used.now place.block place.at) ≡ Some result.now }
+{
+    &used[place.block].as_slice()[place.at]
+}
+
+// The fact at a place among all.
+pub(crate) fn nth(used: &[Block], i: u64) -> Option<&Fact>
+    ensures { option_copied result ≡ slice_get (all_facts used.now) i }
+{
+    let mut left = i;
+    for block in used {
+        let facts = block.as_slice();
+        if left < facts.len() as u64 {
+            return Some(&facts[left as usize]);
+        }
+        left -= facts.len() as u64;
+    }
+    None
+}

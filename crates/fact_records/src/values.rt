@@ -1,0 +1,105 @@
+//! The values of a measure, as a field spells them.
+ghost use Rattle.std.specs.Prelude.{◌≡◌, ◌+◌, ◌^◌, ◌<◌, ◌≤◌, ◌++◌, None, Some, IfErr, IfSome, IsSomeAnd, OnErr, OnOk, length, neg_ℤ, pos, slice_get};
+ghost use Rattle.fact_records.specs.Shape.{width_of};
+ghost use Rattle.fact_records.specs.Values.{code_of, parts_in, signed_number_in, values_in};
+
+#[cfg(test)]
+mod tests;
+
+use crate::checks::{MAX_VALUE, sums_to};
+use crate::places::append;
+use crate::shape::width;
+use crate::{Kind, Shape, number_in};
+use cube_base::{Code, Cols, MAX_COLS};
+
+/// Appends the values that a field gives a measure. A number measure's field is a whole number from -10^12 to 10^12:
+/// `-` stands before a negative one, and no 0 before another digit. A parts measure's field is as many whole numbers
+/// from 0 to the scale as outcomes, joined by `:`, that add up to the scale. Any other field is refused, `Value` for a
+/// number measure and `Parts` for a parts measure, and then the values stay as they were.
+pub fn read_value(shape: &Shape, measure: u32, field: &str, into: &mut Cols) -> Result<(), Code>
+    requires measure { measure < length shape.now }
+    requires place { IfSome (slice_get shape.now measure) (λ m. length into.old + 1 ≡ m.first_col) }
+    ensures read { OnOk result (IfSome (slice_get shape.now measure) (λ m. IsSomeAnd (values_in m.kind field.now) (λ values. into.new ≡ into.old ++ values))) }
+    ensures refused { IfErr result (λ code. IfSome (slice_get shape.now measure) (λ m. (values_in m.kind field.now ≡ None) × (code ≡ code_of m.kind))) }
+    ensures kept { OnErr result (into.new ≡ into.old) }
+{
+    let kind = &shape.measure(measure).kind;
+    let Some(values) = values_in(kind, field) else {
+        return Err(code_of(kind));
+    };
+    *into = append(*into, values);
+    Ok(())
+}
+
+/// The code of a field that gives no values.
+fn code_of(kind: &Kind) -> Code
+    ensures { result ≡ code_of kind.now }
+{
+    match kind {
+        Kind::Number => Code::Value,
+        Kind::Parts { .. } => Code::Parts,
+    }
+}
+
+/// The values that a field gives a measure.
+fn values_in(kind: &Kind, field: &str) -> Option<Cols>
+    requires { width_of kind.now ≤ 7 }
+    ensures values { result ≡ values_in kind.now field.now }
+    ensures count { IfSome result (λ values. length values ≡ width_of kind.now) }
+{
+    match kind {
+        Kind::Number => Cols::new(&[signed_number_in(MAX_VALUE, field.as_bytes())?]),
+        Kind::Parts { scale, .. } => parts_in(width(kind), *scale, field),
+    }
+}
+
+/// The number from `-most` to `most` that the bytes spell: a number, or `-` before a number other than 0.
+fn signed_number_in(most: u64, bytes: &[u8]) -> Option<i64>
+    requires { most < 2 ^ 63 }
+    ensures { result ≡ signed_number_in most bytes.now }
+{
+    match bytes {
+        [b'-', digits @ ..] => Some(negative(number_in(digits, 1, most)?)),
+        _ => Some(signed(number_in(bytes, 0, most)?)),
+    }
+}
+
+/// A number as a value.
+fn signed(n: u64) -> i64
+    requires { n < 2 ^ 63 }
+    ensures { result ≡ pos n }
+{
+    n as i64
+}
+
+/// A number below 0.
+fn negative(n: u64) -> i64
+    requires { n < 2 ^ 63 }
+    ensures { result ≡ neg_ℤ (pos n) }
+{
+    -(n as i64)
+}
+
+/// The parts that a field spells: so many numbers, joined by `:`, that add up to the scale.
+fn parts_in(count: usize, scale: u32, field: &str) -> Option<Cols>
+    requires { count ≤ 7 }
+    ensures parts { result ≡ parts_in count scale field.now }
+    ensures count { IfSome result (λ parts. length parts ≡ count) }
+{
+    let mut parts = [0; MAX_COLS];
+    let mut read = 0;
+    for part in field.split(':') {
+        if read == count {
+            return None;
+        }
+        parts[read] = signed(number_in(part.as_bytes(), 0, u64::from(scale))?);
+        read += 1;
+    }
+    if read < count {
+        return None;
+    }
+    if !sums_to(scale, &parts[..read]) {
+        return None;
+    }
+    Cols::new(&parts[..read])
+}

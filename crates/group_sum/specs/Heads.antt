@@ -1,0 +1,93 @@
+-- The heads of two lists of terms that are walked together, and what becomes of their terms.
+use Rattle.std.specs.Prelude.{◌≡◌, ◌≢◌, ℕ, ◌+◌, ◌-◌, ◌<◌, ◌≤◌, ◌⊎◌, List, [], ◌∷◌, length, Option, Some, None, min, ◌==◌, if◌then◌else◌, ℤ, pos, ◌+ℤ◌, ◌-ℤ◌, nat_abs, slice_get, slice_index_or, ⊤}
+use Rattle.std.specs.Option.{option_map_or}
+use Rattle.cube_model.specs.declared.term.Term.{Term}
+use Rattle.group_sum.specs.declared.difference.SubFault.{SubFault}
+use Rattle.group_sum.specs.declared.difference.SubFault.TheVariants.{Less, Memory}
+use Rattle.group_sum.specs.Terms.{WIDE}
+
+-- the smaller of two denominators, if there is a term
+abbrev pub least_of : Option Term → Option Term → Option ℕ
+least_of None None = None
+least_of None (Some y) = Some y.den
+least_of (Some x) None = Some x.den
+least_of (Some x) (Some y) = Some (min x.den y.den)
+
+-- the smaller of the first denominators
+abbrev pub least_head : List Term → List Term → Option ℕ
+least_head left right = least_of (slice_get left 0) (slice_get right 0)
+
+-- the first term, if it has the denominator
+abbrev pub head_at : List Term → ℕ → Option Term
+head_at [] den = None
+head_at (term ∷ terms) den = if term.den == den then Some term else None
+
+-- the terms without the first, if it has the denominator
+abbrev pub rest_at : List Term → ℕ → List Term
+rest_at [] den = []
+rest_at (term ∷ terms) den = if term.den == den then terms else term ∷ terms
+
+-- the count's numerator of a term, 0 where there is none
+abbrev pub count_in : Option Term → ℕ
+count_in term = option_map_or (λ t. t.count) term 0
+
+-- the numerator of a further column, 0 where there is none
+abbrev pub sum_in : Option Term → ℕ → ℤ
+sum_in term k = option_map_or (λ t. slice_index_or t.sums k (pos 0)) term (pos 0)
+
+-- the number of further columns of a term, 0 where there is none
+abbrev pub columns_in : Option Term → ℕ
+columns_in term = option_map_or (λ t. length t.sums) term 0
+
+-- those of two terms added up
+abbrev pub total_in : Option Term → Option Term → ℕ → ℤ
+total_in left right k = sum_in left k +ℤ sum_in right k
+
+-- sums with those of a term added
+abbrev pub added_in : List ℤ → Option Term → ℕ → ℤ
+added_in sums term k = slice_index_or sums k (pos 0) +ℤ sum_in term k
+
+-- those of a term without those of a part of it
+abbrev pub remainder_in : Option Term → Option Term → ℕ → ℤ
+remainder_in whole part k = sum_in whole k -ℤ sum_in part k
+
+-- none of so many numerators passes WIDE
+pub record AreWithin (values : ℕ) (numerator : ℕ → ℤ) : Type 0 where
+  pub each : (k : ℕ) → k < values → nat_abs (numerator k) ≤ WIDE
+
+-- the sums have these numerators at their places
+pub record Lists (sums : List ℤ) (numerator : ℕ → ℤ) : Type 0 where
+  pub each : (k : ℕ) → k < length sums → slice_index_or sums k (pos 0) ≡ numerator k
+
+-- a term that has these numerators
+pub record IsTermOf (den values weight : ℕ) (numerator : ℕ → ℤ) (term : Term) : Type 0 where
+  pub has_den : term.den ≡ den
+  pub count : term.count ≡ weight
+  pub columns : length term.sums ≡ values
+  pub sums : Lists term.sums numerator
+
+-- one term for two, either of which may not be there
+abbrev pub IsTotal : Option Term → Option Term → Term → Type 0
+IsTotal (Some x) (Some y) term = IsTermOf x.den (length x.sums) (x.count + y.count) (total_in (Some x) (Some y)) term
+IsTotal (Some x) None term = term ≡ x
+IsTotal None (Some y) term = term ≡ y
+IsTotal None None _ = ⊤
+
+-- two terms, either of which may not be there, have other sums
+abbrev pub HasOtherSums : ℕ → Option Term → Option Term → Type 0
+HasOtherSums values whole part = (k : ℕ) × (k < values) × (sum_in whole k ≢ sum_in part k)
+
+-- two terms, either of which may not be there, have the same sums
+abbrev pub HasSameSums : ℕ → Option Term → Option Term → Type 0
+HasSameSums values whole part = (k : ℕ) → k < values → sum_in whole k ≡ sum_in part k
+
+-- what is left of a term without a part of it: none where all numerators are the same
+abbrev pub IsRemainder : ℕ → ℕ → Option Term → Option Term → Option Term → Type 0
+IsRemainder den values whole part None = (count_in whole ≡ count_in part) × HasSameSums values whole part
+IsRemainder den values whole part (Some term) = (count_in part < count_in whole) × IsTermOf den values (count_in whole - count_in part) (remainder_in whole part) term
+
+-- nothing can be left: the count would be below 0, or 0 beside another numerator
+abbrev pub HasNoRemainder : ℕ → ℕ → Option Term → Option Term → SubFault → Type 0
+HasNoRemainder den values whole part (Less least) =
+    (least ≡ den) × ((count_in whole < count_in part) ⊎ ((count_in whole ≡ count_in part) × HasOtherSums values whole part))
+HasNoRemainder den values whole part Memory = ⊤

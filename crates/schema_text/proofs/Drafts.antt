@@ -1,0 +1,154 @@
+-- Accepted lines keep what is known of a draft.
+use Rattle.std.proofs.Common.{◌≡◌, ◌≢◌, ℕ, ◌+◌, ◌-◌, ◌<◌, ◌≤◌, Bool, true, false, List, [], ◌∷◌, ◌++◌, length, get_or, refl, sym, ap, ◌∙◌, arith, Option, Some, None, length-append, eqb, ltb, sub-one}
+use Rattle.std.specs.Prelude.{not, ◌||◌, slice_get}
+use Rattle.std.specs.Str.{bytes_eq}
+use Rattle.std.proofs.lemmas.List.{map_push}
+use Rattle.std.proofs.lemmas.List.Elements.{All-push}
+use Rattle.std.proofs.lemmas.List.Folds.{list_any_at}
+use Rattle.std.proofs.lemmas.List.Quantifiers.{all_pairs_push}
+use Rattle.std.proofs.lemmas.Slice.Eq.{bytes_eq-Decides}
+use Rattle.cube_base.specs.Name.{is_name}
+use Rattle.cube_model.specs.declared.tree.NodeLine.{NodeLine}
+use Rattle.schema_text.specs.declared.word.SchemaWord.{SchemaWord}
+use Rattle.schema_text.specs.declared.word.SchemaWord.TheVariants.{Cube, Policy, Number, Dimension as DimensionWord, Node, End}
+use Rattle.schema_text.specs.declared.word.PolicyWord.{PolicyWord}
+use Rattle.schema_text.specs.Draft.{AreNames, HasNodes, IsDraft, open_count}
+use Rattle.schema_text.specs.SchemaText.{Draft, dims_of, ended, is_among_names, is_wrong_depth, is_wrong_name, may_follow}
+
+-- what a name that is not wrong is
+right : (named among : Bool) → not named || among ≡ false → (named ≡ true) × (among ≡ false)
+right true among e = (refl, e)
+right false among e = cc
+
+pub is_name-right : (name : List ℕ) (names : List (List ℕ)) → is_wrong_name name names ≡ false → is_name name ≡ true
+is_name-right name names e = (right (is_name name) (is_among_names name names) e).0
+
+-- it is none of the names
+differs : (name : List ℕ) (names : List (List ℕ)) (k : ℕ) (d : List ℕ) → is_wrong_name name names ≡ false → k < length names → get_or names k d ≢ name
+differs name names k d e within same =
+    let among : is_among_names name names ≡ true = list_any_at (λ n. bytes_eq n name) names k d within ((bytes_eq-Decides (get_or names k d) name).1 same) in
+    let none = (right (is_name name) (is_among_names name names) e).1 in
+    cc
+
+-- a name more
+pub AreNames-push : (names : List (List ℕ)) (name : List ℕ) → AreNames names → is_wrong_name name names ≡ false → AreNames (names ++ name ∷ [])
+AreNames-push names name are e = record {
+  each = All-push (λ n. is_name n ≡ true) names name are.each (is_name-right name names e);
+  distinct = all_pairs_push (λ a b. a ≢ b) names name are.distinct (λ k d within. differs name names k d e within);
+}
+
+-- what stands before a word
+
+pub before-Cube : (last : Option SchemaWord) (nodes : List NodeLine) → may_follow last Cube ≡ true → HasNodes last nodes → (open_count last ≡ 0) × (nodes ≡ [])
+before-Cube None nodes e has = (refl, has)
+before-Cube (Some Cube) nodes e has = cc
+before-Cube (Some Policy) nodes e has = cc
+before-Cube (Some Number) nodes e has = cc
+before-Cube (Some DimensionWord) nodes e has = cc
+before-Cube (Some Node) nodes e has = cc
+before-Cube (Some End) nodes e has = cc
+
+pub before-Policy : (last : Option SchemaWord) (nodes : List NodeLine) → may_follow last Policy ≡ true → HasNodes last nodes → (open_count last ≡ 0) × (nodes ≡ [])
+before-Policy None nodes e has = cc
+before-Policy (Some Cube) nodes e has = (refl, has)
+before-Policy (Some Policy) nodes e has = cc
+before-Policy (Some Number) nodes e has = cc
+before-Policy (Some DimensionWord) nodes e has = cc
+before-Policy (Some Node) nodes e has = cc
+before-Policy (Some End) nodes e has = cc
+
+pub before-Number : (last : Option SchemaWord) (nodes : List NodeLine) → may_follow last Number ≡ true → HasNodes last nodes → (open_count last ≡ 0) × (nodes ≡ [])
+before-Number None nodes e has = cc
+before-Number (Some Cube) nodes e has = cc
+before-Number (Some Policy) nodes e has = (refl, has)
+before-Number (Some Number) nodes e has = (refl, has)
+before-Number (Some DimensionWord) nodes e has = cc
+before-Number (Some Node) nodes e has = cc
+before-Number (Some End) nodes e has = cc
+
+length-ended : (nodes : List NodeLine) → 1 ≤ length nodes → length (ended nodes) ≡ 1
+length-ended [] some = absurd (omega arith)
+length-ended (node ∷ nodes) some = refl
+
+pub before-Dimension : (last : Option SchemaWord) (nodes : List NodeLine) → may_follow last DimensionWord ≡ true → HasNodes last nodes → length (ended nodes) ≡ open_count last
+before-Dimension None nodes e has = cc
+before-Dimension (Some Cube) nodes e has = cc
+before-Dimension (Some Policy) nodes e has = ap (λ l. length (ended l)) has
+before-Dimension (Some Number) nodes e has = ap (λ l. length (ended l)) has
+before-Dimension (Some DimensionWord) nodes e has = cc
+before-Dimension (Some Node) nodes e has = length-ended nodes has
+before-Dimension (Some End) nodes e has = cc
+
+pub before-Node : (last : Option SchemaWord) → may_follow last Node ≡ true → open_count last ≡ 1
+before-Node None e = cc
+before-Node (Some Cube) e = cc
+before-Node (Some Policy) e = cc
+before-Node (Some Number) e = cc
+before-Node (Some DimensionWord) e = refl
+before-Node (Some Node) e = refl
+before-Node (Some End) e = cc
+
+-- Each word keeps what is known.
+
+pub IsDraft-version : (draft : Draft) (known : List (List ℕ)) → IsDraft draft known → may_follow draft.last Cube ≡ true → IsDraft (record draft { last = Some Cube }) known
+IsDraft-version draft known is follows =
+    let before = before-Cube draft.last draft.nodes follows is.nodes in
+    record { measures = is.measures; columns = is.columns; names = is.names; few = is.few; named = omega (arith, before.0, is.named); nodes = before.1; known = is.known }
+
+pub IsDraft-policy : (draft : Draft) (known : List (List ℕ)) (policy : PolicyWord) → IsDraft draft known → may_follow draft.last Policy ≡ true
+    → IsDraft (record draft { last = Some Policy; policy = policy }) known
+IsDraft-policy draft known policy is follows =
+    let before = before-Policy draft.last draft.nodes follows is.nodes in
+    record { measures = is.measures; columns = is.columns; names = is.names; few = is.few; named = omega (arith, before.0, is.named); nodes = before.1; known = is.known }
+
+pub IsDraft-measure : (draft : Draft) (known : List (List ℕ)) (name : List ℕ) → IsDraft draft known → may_follow draft.last Number ≡ true
+    → is_wrong_name name draft.measures ≡ false → length draft.measures < 7
+    → IsDraft (record draft { last = Some Number; measures = draft.measures ++ name ∷ [] }) known
+IsDraft-measure draft known name is follows named room =
+    let before = before-Number draft.last draft.nodes follows is.nodes in
+    record {
+      measures = AreNames-push draft.measures name is.measures named;
+      columns = simp length-append (omega arith);
+      names = is.names;
+      few = is.few;
+      named = omega (arith, before.0, is.named);
+      nodes = before.1;
+      known = is.known;
+    }
+
+pub IsDraft-dimension : (draft : Draft) (known : List (List ℕ)) (name : List ℕ) → IsDraft draft known → may_follow draft.last DimensionWord ≡ true
+    → is_wrong_name name draft.names ≡ false → length draft.names < 6
+    → IsDraft (record draft { last = Some DimensionWord; names = draft.names ++ name ∷ []; dims = dims_of draft; nodes = [] }) []
+IsDraft-dimension draft known name is follows named room = record {
+  measures = is.measures;
+  columns = is.columns;
+  names = AreNames-push draft.names name is.names named;
+  few = simp length-append (omega arith);
+  named = simp length-append (omega (arith, before-Dimension draft.last draft.nodes follows is.nodes, is.named));
+  nodes = refl;
+  known = refl;
+}
+
+pub IsDraft-node : (draft : Draft) (known : List (List ℕ)) (node : NodeLine) → IsDraft draft known → may_follow draft.last Node ≡ true
+    → IsDraft (record draft { last = Some Node; nodes = draft.nodes ++ node ∷ [] }) (known ++ node.name ∷ [])
+IsDraft-node draft known node is follows = record {
+  measures = is.measures;
+  columns = is.columns;
+  names = is.names;
+  few = is.few;
+  named = omega (arith, before-Node draft.last follows, is.named);
+  nodes = simp length-append (omega arith);
+  known = ap (λ l. l ++ node.name ∷ []) is.known ∙ sym (map_push (λ (n : NodeLine). n.name) draft.nodes node);
+}
+
+-- the depth of a node behind the last
+abbrev pub wrong_after : Option NodeLine → ℕ → Bool
+wrong_after None depth = not (eqb depth 0)
+wrong_after (Some node) depth = eqb depth 0 || ltb (node.depth + 1) depth
+
+pub is_wrong_depth-last : (nodes : List NodeLine) (depth : ℕ) → is_wrong_depth nodes depth ≡ wrong_after (slice_get nodes (length nodes - 1)) depth
+is_wrong_depth-last [] depth = refl
+is_wrong_depth-last (node ∷ []) depth = refl
+is_wrong_depth-last (node ∷ next ∷ nodes) depth =
+    let shorter = is_wrong_depth-last (next ∷ nodes) depth in
+    rw sub-one (shorter ∙ rw sub-one refl)

@@ -1,0 +1,42 @@
+-- What a line says without its final CR.
+use Rattle.std.proofs.Common.{◌≡◌, ℕ, zero, suc, Bool, true, false, List, [], ◌∷◌, ◌++◌, eqb, refl, ap, sym, ◌∙◌}
+use Rattle.std.specs.Prelude.{if◌then◌else◌, slice_get, Some, None}
+use Rattle.std.proofs.lemmas.Option.{get_or_from_slice_get}
+use Rattle.std.specs.Str.{IsUtf8, is_utf8}
+use Rattle.std.proofs.lemmas.Str.{IsUtf8-from_is_utf8}
+use Rattle.schema_text.specs.LineText.{field_at, without_cr}
+
+-- a byte in front
+in_front : (b : ℕ) (line : List ℕ) (last : ℕ) → without_cr (b ∷ (line ++ last ∷ [])) ≡ b ∷ without_cr (line ++ last ∷ [])
+in_front b [] last = refl
+in_front b (c ∷ line) last = refl
+
+either-in_front : (cr : Bool) (b : ℕ) (rest line : List ℕ) → b ∷ (if cr then rest else line) ≡ (if cr then b ∷ rest else b ∷ line)
+either-in_front true b rest line = refl
+either-in_front false b rest line = refl
+
+-- the last byte goes where it is CR
+pub without_cr-push : (rest : List ℕ) (last : ℕ) → without_cr (rest ++ last ∷ []) ≡ (if eqb last 13 then rest else rest ++ last ∷ [])
+without_cr-push [] last = refl
+without_cr-push (b ∷ rest) last =
+    in_front b rest last ∙ ap (λ l. b ∷ l) (without_cr-push rest last) ∙ either-in_front (eqb last 13) b rest (rest ++ last ∷ [])
+
+-- a test that must not be true fails
+pub is_utf8-not : (bytes : List ℕ) → ¬ IsUtf8 bytes → is_utf8 bytes ≡ false
+is_utf8-not bytes other = fails (is_utf8 bytes) (λ e. other (IsUtf8-from_is_utf8 bytes e))
+  where
+    fails : (b : Bool) → (b ≡ true → ⊥) → b ≡ false
+    fails true none = absurd (none refl)
+    fails false none = refl
+
+pub without_cr-last : (line rest : List ℕ) (last : ℕ) → line ≡ rest ++ last ∷ [] → without_cr line ≡ (if eqb last 13 then rest else line)
+without_cr-last line rest last parts = ap without_cr parts ∙ without_cr-push rest last ∙ ap (λ l. if eqb last 13 then rest else l) (sym parts)
+
+-- a field that is there, and one that is not
+pub field_at-some : (fields : List (List ℕ)) (place : ℕ) (field : List ℕ) → slice_get fields place ≡ Some field → field ≡ field_at fields place
+field_at-some fields place field at = sym (get_or_from_slice_get fields place field [] at)
+
+pub field_at-none : (fields : List (List ℕ)) (place : ℕ) → slice_get fields place ≡ None → [] ≡ field_at fields place
+field_at-none [] place none = refl
+field_at-none (field ∷ fields) zero none = cc
+field_at-none (field ∷ fields) (suc place) none = field_at-none fields place none

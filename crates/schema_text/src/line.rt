@@ -1,0 +1,80 @@
+//! A line of a text that users write.
+ghost use Rattle.std.specs.Prelude.{◌≡◌, ◌==◌, ◌||◌, length};
+ghost use Rattle.std.specs.List.{list_all};
+ghost use Rattle.std.specs.Str.{is_utf8};
+ghost use Rattle.cube_base.specs.Name.{is_name_byte};
+ghost use Rattle.cube_model.specs.Text.{fields_of};
+ghost use Rattle.schema_text.specs.LineText.{field_at, is_clean, is_long, is_skipped, without_cr};
+
+use std::str;
+
+/// The most bytes of a line, its final CR included.
+const MAX_LINE: usize = 4_096;
+
+/// The line without a final CR.
+pub fn without_cr(line: &[u8]) -> &[u8]
+    ensures { result.now ≡ without_cr line.now }
+{
+    match line.split_last() {
+        Some((last, rest)) => if *last == b'\r' { rest } else { line },
+        None => line,
+    }
+}
+
+/// Whether a line is passed over: but for a final CR it is empty, or it begins with `#`.
+pub fn is_skipped(line: &[u8]) -> bool
+    ensures { result ≡ is_skipped line.now }
+{
+    match without_cr(line) {
+        [] => true,
+        [first, ..] => *first == b'#',
+    }
+}
+
+/// Whether a line has more than 4,096 bytes.
+pub fn is_long(line: &[u8]) -> bool
+    ensures { result ≡ is_long line.now }
+{
+    line.len() > MAX_LINE
+}
+
+/// Whether a line is UTF-8 with no byte below 32 but TAB, and no 127.
+pub fn is_clean(line: &[u8]) -> bool
+    ensures { result ≡ is_clean line.now }
+{
+    is_utf8(line) && are_clean(line)
+}
+
+/// Whether bytes are UTF-8.
+fn is_utf8(bytes: &[u8]) -> bool
+    ensures { result ≡ is_utf8 bytes.now }
+{
+    match str::from_utf8(bytes) {
+        Ok(_) => true,
+        Err(_) => false,
+    }
+}
+
+/// Whether each byte may stand in a line.
+fn are_clean(bytes: &[u8]) -> bool
+    ensures { result ≡ list_all (λ b. b == 9 || is_name_byte b) bytes.now }
+{
+    bytes.iter().all(|b| *b == b'\t' || (*b >= 32 && *b != 127))
+}
+
+/// The number of fields of a line.
+pub fn field_count(line: &[u8]) -> usize
+    ensures { result ≡ length (fields_of line.now) }
+{
+    line.split(|b| *b == b'\t').count()
+}
+
+/// The field of a line at a place: empty where there is none.
+pub fn field_at(line: &[u8], place: usize) -> &[u8]
+    ensures { result.now ≡ field_at (fields_of line.now) place }
+{
+    match line.split(|b| *b == b'\t').nth(place) {
+        Some(field) => field,
+        None => &[],
+    }
+}

@@ -1,0 +1,103 @@
+//! A schema: the policy, the measures and the named dimensions of a cube.
+ghost use Rattle.std.specs.Prelude.{◌≡◌, All, length, true};
+ghost use Rattle.cube_base.specs.Name.{is_name};
+ghost use Rattle.fact_records.specs.declared.shape.Kind.TheVariants as kind;
+ghost use Rattle.schema_text.specs.Draft.{AreNames};
+ghost use Rattle.schema_text.specs.Schema.{IsSchema};
+
+use crate::word::PolicyWord;
+use cube_base::{Code, Memory, Name, Names};
+use fact_records::Shape;
+use region_algebra::Space;
+use std::marker::Model;
+
+/// Why a text is refused as a schema.
+#[derive(Clone, Copy, Debug, PartialEq, Eq)]
+pub enum SchemaFault {
+    /// A line, counted from 1, is refused.
+    Bad { line: u64, code: Code },
+    /// Want of memory.
+    Memory,
+}
+
+impl From<Memory> for SchemaFault {
+    ghost use Rattle.std.specs.Prelude.{◌≡◌};
+    ghost use Rattle.schema_text.specs.declared.schema.SchemaFault.TheVariants as schema_fault;
+
+    ghost from_gives = { λ _ fault. fault ≡ schema_fault.Memory };
+
+    fn from(_: Memory) -> Self {
+        SchemaFault::Memory
+    }
+}
+
+/// A schema: the policy, the measures, and the dimensions with their names.
+#[derive(Drop)]
+pub struct Schema {
+    space: Space,
+    shape: Shape,
+    policy: PolicyWord,
+    dim_names: Names,
+}
+
+impl Model for Schema {
+    ghost use Rattle.schema_text.specs.Schema.{IsSchema, SchemaValue};
+
+    ghost Value = { SchemaValue };
+
+    ghost view = { λ s. record { policy = s.policy; measures = s.shape; names = s.dim_names; dims = s.space } };
+
+    ghost invariant = { λ s. IsSchema (record { policy = s.policy; measures = s.shape; names = s.dim_names; dims = s.space }) };
+}
+
+impl Schema {
+    /// The schema of these parts.
+    pub(crate) fn new(space: Space, shape: Shape, policy: PolicyWord, dim_names: Names) -> Self
+        requires numbers { All (λ m. m.kind ≡ kind.Number) shape }
+        requires measure_names { All (λ m. is_name m.name ≡ true) shape }
+        requires dim_names { AreNames dim_names }
+        requires named { length dim_names ≡ length space }
+        ensures { result ≡ record { policy = policy; measures = shape; names = dim_names; dims = space } }
+    {
+        // What is known of every space and of every shape.
+        let _ = space.dims();
+        let _ = shape.len();
+        Schema {
+            space,
+            shape,
+            policy,
+            dim_names,
+        }
+    }
+
+    /// The dimensions.
+    pub fn space(&self) -> &Space
+        ensures dims { result.now ≡ self.now.dims }
+        ensures schema { IsSchema self.now }
+    {
+        &self.space
+    }
+
+    /// The measures.
+    pub fn shape(&self) -> &Shape
+        ensures measures { result.now ≡ self.now.measures }
+        ensures schema { IsSchema self.now }
+    {
+        &self.shape
+    }
+
+    /// The policy.
+    pub fn policy(&self) -> PolicyWord
+        ensures { result ≡ self.now.policy }
+    {
+        self.policy
+    }
+
+    /// The names of the dimensions.
+    pub fn dim_names(&self) -> &[Name]
+        ensures names { result.now ≡ self.now.names }
+        ensures schema { IsSchema self.now }
+    {
+        self.dim_names.as_slice()
+    }
+}

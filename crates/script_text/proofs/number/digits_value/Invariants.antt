@@ -1,6 +1,0 @@
-use Rattle.script_text.proofs.Digits.{ReadsTo}
-use Rattle.script_text.proofs.number.digits_value.Given as goal
-
--- the digits before this byte are read
-abbrev pub invariant-loop-byte : goal.invariant-loop-byte
-invariant-loop-byte l = ReadsTo l.bytes l.byte-index l.value
