@@ -1,5 +1,5 @@
 #!/usr/bin/env bash
-# Runs the program's stored run with each of its allocations refused in turn: bench/refused_memory.sh [AT_ONCE]
+# Runs a small script with each of the program's allocations refused in turn: bench/refused_memory.sh [AT_ONCE]
 #
 # A run must end as if nothing was refused, or with status 9, `cube: out of memory after line D` on standard error
 # and a prefix of the right output. A run can go on well without what was refused (std asks again for less), and
@@ -14,20 +14,38 @@ cd -- "$(dirname -- "$0")/../crates/cube"
 folder=$(mktemp -d)
 trap 'rm -rf -- "$folder"' EXIT
 
-mapfile -t words <args
-full_status=0
-[[ ! -f status ]] || full_status=$(<status)
+input=$folder/input replies=$folder/replies
+tr '|' '\t' >"$input" <<'INPUT'
+cube|1
+policy|count
+number|Repair
+dimension|Place
+node|0|TX
+node|1|Austin
+node|1|Dallas
+end
+insert|1|Austin|100
+insert|2|TX|600
+rows|2
+terms|Austin
+INPUT
+tr '|' '\t' >"$replies" <<'REPLIES'
+ok|1
+ok|1
+rows|1|1|Austin|1
+terms|1|1|2|700
+REPLIES
 
 # Whether a file is a prefix of the right output.
 is_prefix() { # FILE
-    cmp -s -- "$1" <(head -c "$(stat -c %s -- "$1")" stdout)
+    cmp -s -- "$1" <(head -c "$(stat -c %s -- "$1")" "$replies")
 }
 
-# Runs the stored run with an allocation refused, and notes how it ended: `full`, `refused` or anything else.
+# Runs the script with an allocation refused, and notes how it ended: `full`, `refused` or anything else.
 run_refused() { # N
     local status=0 out=$folder/$1.out err=$folder/$1.err
-    rt try --fail-alloc "$1" -- "${words[@]}" <stdin >"$out" 2>"$err" || status=$?
-    if [[ $status -eq $full_status ]] && cmp -s -- "$out" stdout; then
+    rt try --fail-alloc "$1" -- try <"$input" >"$out" 2>"$err" || status=$?
+    if [[ $status -eq 0 ]] && cmp -s -- "$out" "$replies"; then
         echo full
     elif [[ $status -eq 9 ]] && grep -qxE 'cube: out of memory after line [0-9]+' "$err" && is_prefix "$out"; then
         echo refused

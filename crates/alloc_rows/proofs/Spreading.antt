@@ -7,12 +7,12 @@ use Rattle.std.specs.Prelude.{All, IfOk, Ok, Err, Result, nat_lt, ◌==◌, if�
 use Rattle.cube_model.specs.declared.edit.Fact.{Fact}
 use Rattle.cube_model.specs.declared.statistic.CellStat.{CellStat}
 use Rattle.cube_model.specs.Allocation.{Allocation, Policy, allocation, stat_of, spread, spread_by, spread_evenly}
-use Rattle.cube_model.specs.Cells.{all_cells, cells_of}
+use Rattle.cube_model.specs.Cells.{AreRows, all_cells, cells_of}
 use Rattle.cube_model.specs.Tree.{Dimension}
 use Rattle.region_algebra.proofs.Spaces.{cells-within}
 use Rattle.cell_weight.specs.Stats.{stat_at}
 use Rattle.staged_map.specs.Staged.{Places}
-use Rattle.alloc_rows.specs.Alloc.{AreRows, AreStatsOf}
+use Rattle.alloc_rows.specs.Alloc.{AreStatsOf}
 use Rattle.alloc_rows.proofs.Weighed.{rows_of}
 
 -- weights that are equal at each cell spread equally

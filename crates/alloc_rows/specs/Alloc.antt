@@ -1,7 +1,6 @@
 -- What an allocation keeps, and what statistics have to be for it to be that of facts.
-use Rattle.std.specs.Prelude.{◌≡◌, ℕ, ◌+◌, ◌^◌, ◌<◌, ◌≤◌, Bool, true, List, [], ◌∷◌, All, length, sum_by, nat_le, ◌&&◌}
+use Rattle.std.specs.Prelude.{◌≡◌, ℕ, ◌+◌, ◌^◌, ◌<◌, ◌≤◌, Bool, true, List, [], ◌∷◌, All, sum_by, nat_le, ◌&&◌}
 use Rattle.cube_model.specs.Allocation.{Allocation, stat_of}
-use Rattle.cube_model.specs.Cells.{all_cells}
 use Rattle.cube_model.specs.Tree.{Dimension}
 use Rattle.cube_model.specs.declared.edit.Fact.{Fact}
 use Rattle.cube_model.specs.declared.statistic.CellStat.{CellStat}
@@ -32,7 +31,3 @@ pub record IsAllocation (a : Allocation) : Type 0 where
 -- what is kept for each of these cells is what the facts make it
 abbrev pub AreStatsOf : List Dimension → List Fact → Places CellStat → List ℕ → Type 0
 AreStatsOf dims facts places cells = All (λ cell. stat_at places cell ≡ stat_of dims facts cell) cells
-
--- these are rows of cells that there are
-abbrev pub AreRows : List Dimension → List (ℕ × ℕ) → Type 0
-AreRows dims rows = All (λ row. row.0 < length (all_cells dims)) rows

@@ -1,9 +1,9 @@
 //! An allocation, and how much of it lies inside a region.
 ghost use Rattle.std.specs.Prelude.{◌≡◌, ◌≤◌, true};
 ghost use Rattle.cube_model.specs.Answer.{weight_inside};
-ghost use Rattle.cube_model.specs.Cells.{cells_of};
+ghost use Rattle.cube_model.specs.Cells.{AreRows, cells_of};
 ghost use Rattle.region_algebra.specs.Space.{is_region};
-ghost use Rattle.alloc_rows.specs.Alloc.{AreRows, IsAllocation};
+ghost use Rattle.alloc_rows.specs.Alloc.{IsAllocation};
 
 use cube_base::Pairs;
 use cube_model::Region;

@@ -2,11 +2,11 @@
 ghost use Rattle.std.specs.Prelude.{◌≡◌, ◌<◌, ◌≤◌, true, List, IfOk, length};
 ghost use Rattle.std.specs.List.{sum_by};
 ghost use Rattle.cube_model.specs.Allocation.{allocation, spread, spread_by, spread_evenly};
-ghost use Rattle.cube_model.specs.Cells.{cells_of};
+ghost use Rattle.cube_model.specs.Cells.{AreRows, cells_of};
 ghost use Rattle.cube_model.specs.declared.edit.Fact.{Fact};
 ghost use Rattle.cell_weight.specs.Stats.{MOST_FACTS, stat_at};
 ghost use Rattle.region_algebra.specs.Space.{is_region};
-ghost use Rattle.alloc_rows.specs.Alloc.{AreRows, AreStatsOf, LIMIT, MOST_CELLS};
+ghost use Rattle.alloc_rows.specs.Alloc.{AreStatsOf, LIMIT, MOST_CELLS};
 
 #[cfg(test)]
 mod tests;

@@ -1,15 +1,15 @@
 -- What each end of a run says of the words, of the input and of what was written.
-use Rattle.std.specs.Prelude.{◌≡◌, ℕ, ◌-◌, ◌<◌, ◌≤◌, Bool, true, false, List, [], ◌∷◌, length, take, drop, ⊤, Option, Some, None, IfSome, IsSome, IsSomeAnd, codes}
-use Rattle.std.specs.Option.{option_map_or}
+use Rattle.std.specs.Prelude.{◌≡◌, ℕ, ◌-◌, ◌<◌, ◌≤◌, Bool, true, false, List, [], ◌∷◌, length, take, drop, ⊤, Option, Some, None, IfSome, IsSome, IsSomeAnd, Err, codes}
+use Rattle.std.specs.Option.{option_map, option_map_or}
+use Rattle.std.specs.Result.{result_ok}
 use Rattle.std.specs.Io.{StartsWith}
 use Rattle.std.specs.Io.KnownBytes.{Appends, IsAtEnd, Keeps}
 use Rattle.std.specs.Cmp.Lexicographic.{pointwise}
 use Rattle.std.specs.Str.{bytes_eq}
 use Rattle.cube_base.specs.Outside.{Rose}
-use Rattle.cube_base.specs.declared.code.Code.TheVariants.{Order}
 use Rattle.cube_model.specs.Text.{lines_of}
-use Rattle.cube_model.specs.FirstText.{FirstSchema, first_schema}
-use Rattle.cube_model.specs.Run.{run, outcome_of}
+use Rattle.schema_text.specs.SchemaText.{ReadSchema, schema_of}
+use Rattle.cube_cli.specs.Run.{Outcome, run_of}
 use Rattle.cube_cli.specs.Input.{INPUT_LIMIT, GoesOn}
 use Rattle.cube_cli.specs.declared.end.End.{End}
 use Rattle.cube_cli.specs.declared.end.End.TheVariants.{Finished, Usage, Schema, ReadFault, WriteFault, Memory, TooLong}
@@ -47,16 +47,24 @@ Wrote (Some before) after P = IsSomeAnd after (λ now. StartsWith now before × 
 abbrev pub WasRead : Seen → (List ℕ → Type 0) → Type 0
 WasRead seen P = IfSome seen.left (λ input. (length input ≤ INPUT_LIMIT) × IsAtEnd seen.left_after × P input)
 
+-- the schema of an input, where it is accepted
+abbrev pub schema_in : List ℕ → Option ReadSchema
+schema_in input = result_ok (schema_of input)
+
 -- the lines of an input's script
-abbrev pub script_of : List ℕ → FirstSchema → List (List ℕ)
-script_of input schema = lines_of (drop schema.size input)
+abbrev pub script_of : List ℕ → ReadSchema → List (List ℕ)
+script_of input read = lines_of (drop read.size input)
+
+-- what a whole input does: the lines behind its schema are done on a cube without facts
+abbrev pub outcome_of : List ℕ → Option Outcome
+outcome_of input = option_map (λ read. run_of read.schema (script_of input read)) (schema_in input)
 
 -- the number of script lines, and the replies to the first n of them; there are none without a schema
 abbrev pub script_len : List ℕ → ℕ
-script_len input = option_map_or (λ schema. length (script_of input schema)) (first_schema input) 0
+script_len input = option_map_or (λ read. length (script_of input read)) (schema_in input) 0
 
 abbrev pub first_replies : List ℕ → ℕ → List ℕ
-first_replies input n = option_map_or (λ schema. (run schema.dim [] (take n (script_of input schema))).reply) (first_schema input) []
+first_replies input n = option_map_or (λ read. (run_of read.schema (take n (script_of input read))).reply) (schema_in input) []
 
 -- What was written when a run stopped: a part of the replies to the lines that were done, with all but the
 -- last whole.
@@ -74,9 +82,9 @@ pub record Broken (input : List ℕ) (done : ℕ) (written : List ℕ) : Type 0 
 abbrev pub Says : List (List ℕ) → Seen → End → Type 0
 -- the words are no command: nothing was read, nothing written
 Says words seen Usage = (is_command words ≡ false) × NoFault seen × Keeps seen.left seen.left_after × WroteNothing seen
--- the input does not begin with a schema
-Says words seen (Schema line why) = (is_command words ≡ true) × NoFault seen × WroteNothing seen × (line ≡ 0) × (why ≡ Order)
-    × WasRead seen (λ input. first_schema input ≡ None)
+-- the input's schema is refused: this is its first line at fault, and why
+Says words seen (Schema line why) = (is_command words ≡ true) × NoFault seen × WroteNothing seen
+    × WasRead seen (λ input. schema_of input ≡ Err (record { line = line; reason = why }))
 -- the bytes written are the replies of the run, which refuses so many lines
 Says words seen (Finished refused) = (is_command words ≡ true) × NoFault seen
     × WasRead seen (λ input. IsSomeAnd (outcome_of input) (λ outcome. (refused ≡ outcome.refused) × Appends seen.taken seen.taken_after outcome.reply))
@@ -102,9 +110,9 @@ IsDone (WriteFault done) = ⊥
 IsDone (Memory done) = ⊤
 IsDone (TooLong done) = ⊥
 
--- Where the words are a command, the input is not too long and begins with a schema, and no fault of the outside
+-- Where the words are a command, the input is not too long and its schema is accepted, and no fault of the outside
 -- comes, the run is done to its end unless memory is wanting.
 abbrev pub IsComplete : List (List ℕ) → Seen → End → Type 0
 IsComplete words seen end = is_command words ≡ true
     → (Rose seen.read_faults seen.read_faults_after → ⊥) → (Rose seen.write_faults seen.write_faults_after → ⊥)
-    → IfSome seen.left (λ input. length input ≤ INPUT_LIMIT → IsSome (first_schema input) → IsDone end)
+    → IfSome seen.left (λ input. length input ≤ INPUT_LIMIT → IsSome (schema_in input) → IsDone end)

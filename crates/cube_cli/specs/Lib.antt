@@ -1,11 +1,10 @@
 pub mod Broken
 pub mod End
-pub mod Entries
+pub mod Examples
 pub mod Input
-pub mod LineEnds
 pub mod Replies
-pub mod Rows
+pub mod ReplyEnds
+pub mod Run
 pub mod Serves
 pub mod Serving
-pub mod Session
 pub mod Status

@@ -3,13 +3,14 @@ use Rattle.std.specs.Prelude.{ℕ, ◌-◌, ◌<◌, ◌≤◌, List, [], ◌∷
 use Rattle.std.specs.List.{concat}
 use Rattle.std.specs.Io.{StartsWith}
 use Rattle.cube_model.specs.declared.edit.Fact.{Fact}
-use Rattle.cube_model.specs.Tree.{Dimension}
-use Rattle.cube_model.specs.Run.{step}
+use Rattle.cube_model.specs.Allocation.{Policy}
+use Rattle.schema_text.specs.Schema.{SchemaValue}
+use Rattle.cube_cli.specs.Run.{step, text_of}
 
--- the reply to each line
-abbrev pub replies : Dimension → List Fact → List (List ℕ) → List (List ℕ)
-replies dim facts [] = []
-replies dim facts (line ∷ lines) = let now = step dim facts line in now.reply ∷ replies dim now.facts lines
+-- the text of the reply to each line, which is empty where there is none
+abbrev pub replies : Policy → SchemaValue → List Fact → List (List ℕ) → List (List ℕ)
+replies weigh schema facts [] = []
+replies weigh schema facts (line ∷ lines) = let now = step weigh schema facts line in text_of schema.dims now.reply ∷ replies weigh schema now.facts lines
 
 -- What was written of these replies when the run stopped: a part of the first so many, with all but the last
 -- of them whole.

@@ -1,25 +1,26 @@
 -- How serving a script ends.
 use Rattle.std.specs.Prelude.{◌≡◌, ℕ, List, [], Option}
 use Rattle.std.specs.Io.KnownBytes.{Appends}
-use Rattle.cube_model.specs.Tree.{Dimension}
-use Rattle.cube_model.specs.Run.{run}
+use Rattle.cube_model.specs.Allocation.{Policy}
+use Rattle.schema_text.specs.Schema.{SchemaValue}
+use Rattle.cube_cli.specs.Run.{run}
 use Rattle.cube_cli.specs.Replies.{replies}
 use Rattle.cube_cli.specs.Serving.{BreaksOff}
 use Rattle.cube_cli.specs.declared.end.End.{End}
 use Rattle.cube_cli.specs.declared.end.End.TheVariants.{Finished, Usage, Schema, ReadFault, WriteFault, Memory, TooLong}
 
 -- the whole run was done and written
-pub record Done (tree : Dimension) (lines : List (List ℕ)) (start taken : Option (List ℕ)) (faults faults_after refused : ℕ) : Type 0 where
-  pub bytes : Appends start taken (run tree [] lines).reply
-  pub count : refused ≡ (run tree [] lines).refused
+pub record Done (weigh : Policy) (schema : SchemaValue) (lines : List (List ℕ)) (start taken : Option (List ℕ)) (faults faults_after refused : ℕ) : Type 0 where
+  pub bytes : Appends start taken (run weigh schema [] lines).reply
+  pub count : refused ≡ (run weigh schema [] lines).refused
   pub no_fault : faults_after ≡ faults
 
 -- the lines were done to their end, or the run broke off among them
-abbrev pub Serves : Dimension → List (List ℕ) → Option (List ℕ) → Option (List ℕ) → ℕ → ℕ → End → Type 0
-Serves tree lines start taken faults faults_after (Finished refused) = Done tree lines start taken faults faults_after refused
-Serves tree lines start taken faults faults_after (WriteFault done) = BreaksOff (replies tree [] lines) start taken faults faults_after (WriteFault done)
-Serves tree lines start taken faults faults_after (Memory done) = BreaksOff (replies tree [] lines) start taken faults faults_after (Memory done)
-Serves tree lines start taken faults faults_after Usage = ⊥
-Serves tree lines start taken faults faults_after (Schema _ _) = ⊥
-Serves tree lines start taken faults faults_after (ReadFault done) = ⊥
-Serves tree lines start taken faults faults_after (TooLong done) = ⊥
+abbrev pub Serves : Policy → SchemaValue → List (List ℕ) → Option (List ℕ) → Option (List ℕ) → ℕ → ℕ → End → Type 0
+Serves weigh schema lines start taken faults faults_after (Finished refused) = Done weigh schema lines start taken faults faults_after refused
+Serves weigh schema lines start taken faults faults_after (WriteFault done) = BreaksOff (replies weigh schema [] lines) start taken faults faults_after (WriteFault done)
+Serves weigh schema lines start taken faults faults_after (Memory done) = BreaksOff (replies weigh schema [] lines) start taken faults faults_after (Memory done)
+Serves weigh schema lines start taken faults faults_after Usage = ⊥
+Serves weigh schema lines start taken faults faults_after (Schema _ _) = ⊥
+Serves weigh schema lines start taken faults faults_after (ReadFault done) = ⊥
+Serves weigh schema lines start taken faults faults_after (TooLong done) = ⊥

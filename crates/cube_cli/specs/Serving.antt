@@ -3,24 +3,32 @@ use Rattle.std.specs.Prelude.{◌≡◌, ℕ, ◌≤◌, List, [], length, take,
 use Rattle.std.specs.List.{concat}
 use Rattle.std.specs.Io.KnownBytes.{Appends}
 use Rattle.cube_base.specs.Outside.{Rose}
-use Rattle.cube_model.specs.Tree.{Dimension}
-use Rattle.cube_model.specs.Run.{run}
+use Rattle.cube_model.specs.Allocation.{Policy}
+use Rattle.schema_text.specs.Schema.{SchemaValue}
+use Rattle.cube_cli.specs.Run.{run}
 use Rattle.cube_cli.specs.Replies.{replies, BrokenAt, StoppedAt}
+use Rattle.cube_cli.specs.ReplyEnds.{ends_from}
 use Rattle.cube_cli.specs.End.{Wrote}
+use Rattle.cube_cli.specs.declared.outbox.Outbox.{Outbox}
 use Rattle.cube_cli.specs.declared.server.Server.{Server}
 use Rattle.cube_cli.specs.declared.end.End.{End}
 use Rattle.cube_cli.specs.declared.end.End.TheVariants.{Finished, Usage, Schema, ReadFault, WriteFault, Memory, TooLong}
 
--- These lines are done, and the sink, which had `start` before, has taken whole the replies that are not gathered.
-pub record HasDone (tree : Dimension) (lines : List (List ℕ)) (start taken : Option (List ℕ)) (server : Server) : Type 0 where
-  pub dim : server.session.dim ≡ tree
-  pub facts : server.session.facts ≡ (run tree [] lines).facts
+-- Of these replies the sink, which had `start` before, has taken the first whole, and the others are gathered.
+pub record HasGathered (texts : List (List ℕ)) (start taken : Option (List ℕ)) (outbox : Outbox) : Type 0 where
+  pub among : outbox.lines ≤ length texts
+  pub none_in_part : outbox.taken ≡ 0
+  pub text : outbox.text.items ≡ concat (drop outbox.lines texts)
+  pub ends : outbox.ends.items ≡ ends_from 0 (drop outbox.lines texts)
+  pub bytes : Appends start taken (concat (take outbox.lines texts))
+
+-- these lines are done, and their replies are gathered or taken
+pub record HasDone {P : Type 0} (weigh : Policy) (schema : SchemaValue) (lines : List (List ℕ)) (start taken : Option (List ℕ)) (server : Server P) : Type 0 where
+  pub same_schema : server.cube.schema ≡ schema
+  pub facts : server.cube.facts ≡ (run weigh schema [] lines).facts
   pub done : server.done ≡ length lines
-  pub refused : server.refused ≡ (run tree [] lines).refused
-  pub among : server.outbox.lines ≤ length lines
-  pub none_in_part : server.outbox.taken ≡ 0
-  pub text : server.outbox.text.items ≡ concat (drop server.outbox.lines (replies tree [] lines))
-  pub bytes : Appends start taken (concat (take server.outbox.lines (replies tree [] lines)))
+  pub refused : server.refused ≡ (run weigh schema [] lines).refused
+  pub gathered : HasGathered (replies weigh schema [] lines) start taken server.outbox
 
 -- how a run breaks off while it serves
 abbrev pub BreaksOff : List (List ℕ) → Option (List ℕ) → Option (List ℕ) → ℕ → ℕ → End → Type 0

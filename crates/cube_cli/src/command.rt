@@ -1,22 +1,25 @@
 //! The top call.
-ghost use Rattle.std.specs.Prelude.{◌≡◌, [], map, string_bytes};
+ghost use Rattle.std.specs.Prelude.{◌≡◌, ◌≤◌, length, map, string_bytes};
 ghost use Rattle.cube_model.specs.Text.{lines_of};
 ghost use Rattle.cube_cli.specs.End.{Says, IsComplete, is_command};
+ghost use Rattle.cube_cli.specs.Run.{weigh_of};
 ghost use Rattle.cube_cli.specs.Serves.{Serves};
 
 use crate::End;
-use crate::input::{InputStop, take_input};
+use crate::input::{InputStop, MAX_INPUT, take_input};
 use crate::server::Server;
-use crate::session::Session;
-use cube_base::{Code, Memory, Sink, Source};
-use script_text::{first_line_of, read_first_schema};
+use cell_weight::{ByCount, Uniform, WeightPolicy};
+use cube_base::{Sink, Source};
+use cube_core::Cube;
+use schema_text::{PolicyWord, Schema, SchemaFault, first_line_of, read_schema};
 use std::alloc::Global;
 
 /// Runs the program: the words of the command line without the program's name, the input, and where replies go.
 ///
-/// The word `try` takes the whole input, at most 2^30 bytes. It begins with a schema over one dimension, and each
-/// line behind it is done and answered in order. Replies are gathered into writes of some tens of kilobytes. Of a
-/// run that stops, the sink has a part of the replies to the lines that were done, all but the last whole.
+/// The word `try` takes the whole input, at most 2^30 bytes. It begins with a schema, and each line behind it is done
+/// in order on a cube of that schema and its policy, and answered unless it is skipped. Replies are gathered into writes
+/// of some tens of kilobytes. Of a run that stops, the sink has a part of the replies to the lines that were done, all
+/// but the last whole.
 pub fn cube<S: Source, K: Sink>(alloc: Global, words: &[String], source: &mut S, out: &mut K) -> End
     ensures says { Says (map string_bytes words.now) (record {
       left = S.left source.old;
@@ -48,13 +51,10 @@ pub fn cube<S: Source, K: Sink>(alloc: Global, words: &[String], source: &mut S,
         Err(InputStop::TooLong) => return End::TooLong { done: 0 },
         Err(InputStop::Memory) => return End::Memory { done: 0 },
     };
-    match read_first_schema(alloc, &input) {
-        Ok(Some((dim, size))) => serve(alloc, Session::new(alloc, dim), &input[size..], out),
-        Ok(None) => End::Schema {
-            line: 0,
-            code: Code::Order,
-        },
-        Err(Memory) => End::Memory { done: 0 },
+    match read_schema(alloc, &input) {
+        Ok((schema, size)) => serve_schema(alloc, schema, &input[size..], out),
+        Err(SchemaFault::Bad { line, code }) => End::Schema { line, code },
+        Err(SchemaFault::Memory) => End::Memory { done: 0 },
     }
 }
 
@@ -68,12 +68,32 @@ fn is_command(words: &[String]) -> bool
     }
 }
 
-// Does the lines of a script, and writes their replies.
-fn serve<K: Sink>(alloc: Global, session: Session, script: &[u8], out: &mut K) -> End
-    requires { session.facts ≡ [] }
-    ensures { Serves session.dim (lines_of script.now) (K.taken out.old) (K.taken out.new) (K.faults out.old) (K.faults out.new) result }
+// Does the lines of a script on a cube of the schema and its policy, and writes their replies.
+fn serve_schema<K: Sink>(alloc: Global, schema: Schema, script: &[u8], out: &mut K) -> End
+    requires { length script.now ≤ MAX_INPUT }
+    ensures { Serves (weigh_of schema.policy) schema (lines_of script.now) (K.taken out.old) (K.taken out.new) (K.faults out.old) (K.faults out.new) result }
 {
-    let mut server = Server::new(alloc, session);
+    match schema.policy() {
+        PolicyWord::Uniform => serve(alloc, schema, Uniform, script, out),
+        PolicyWord::Count => serve(alloc, schema, ByCount, script, out),
+    }
+}
+
+// Does the lines of a script on a cube of the schema under a policy, and writes their replies.
+fn serve<P: WeightPolicy + Drop, K: Sink>(
+    alloc: Global,
+    schema: Schema,
+    policy: P,
+    script: &[u8],
+    out: &mut K,
+) -> End
+    requires { length script.now ≤ MAX_INPUT }
+    ensures { Serves (P.weigh policy) schema (lines_of script.now) (K.taken out.old) (K.taken out.new) (K.faults out.old) (K.faults out.new) result }
+{
+    let Ok(cube) = Cube::new(alloc, schema, policy) else {
+        return End::Memory { done: 0 };
+    };
+    let mut server = Server::new(alloc, cube);
     let mut rest = script;
     while let Some((line, after)) = first_line_of(rest) {
         if let Err(end) = server.do_line(line, out) {
@@ -81,7 +101,7 @@ fn serve<K: Sink>(alloc: Global, session: Session, script: &[u8], out: &mut K) -
         }
         rest = after;
     }
-    match server.send(out) {
+    match server.outbox.send(out) {
         Ok(()) => End::Finished {
             refused: server.refused,
         },

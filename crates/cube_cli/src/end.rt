@@ -12,7 +12,7 @@ pub enum End {
     Finished { refused: u64 },
     /// The words of the command line are none that the program knows.
     Usage,
-    /// The schema is refused: the first faulty line, counted from 1, or 0 where none is told, and why.
+    /// The schema is refused: its first faulty line, counted from 1, and why.
     Schema { line: u64, code: Code },
     /// Reading failed.
     ReadFault { done: u64 },

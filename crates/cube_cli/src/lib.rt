@@ -4,13 +4,14 @@
 mod command;
 mod end;
 mod input;
+mod laws;
 mod outbox;
-mod overlap;
+mod script;
 mod server;
-mod session;
 #[cfg(test)]
 mod tests;
 
 pub use command::cube;
 pub use end::End;
 pub use input::MAX_INPUT;
+pub use laws::worked_examples;

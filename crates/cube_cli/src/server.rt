@@ -1,103 +1,74 @@
 //! Doing the lines of a script, one after the other.
-ghost use Rattle.std.specs.Prelude.{◌≡◌, ℕ, ◌+◌, ◌<◌, ◌^◌, ◌++◌, [], ◌∷◌, List, length, Option, OnOk, IfErr};
+ghost use Rattle.std.specs.Prelude.{◌≡◌, ℕ, ◌+◌, ◌<◌, ◌^◌, ◌++◌, [], ◌∷◌, List, length, Option, OnOk, OnErr, IfErr, IfSome};
 ghost use Rattle.std.specs.Io.KnownBytes.{Appends};
 ghost use Rattle.std.specs.List.{concat};
-ghost use Rattle.cube_model.specs.Tree.{Dimension};
-ghost use Rattle.cube_cli.specs.Broken.{end_of_sink};
+ghost use Rattle.script_text.specs.RowsText.{NamesCells};
+ghost use Rattle.schema_text.specs.Schema.{SchemaValue};
 ghost use Rattle.cube_cli.specs.Replies.{replies};
+ghost use Rattle.cube_cli.specs.Run.{text_of};
+ghost use Rattle.cube_cli.specs.Serving.{BreaksOff, HasDone, HasGathered};
 
 use crate::End;
 use crate::outbox::Outbox;
-use crate::session::Session;
-use cube_base::{Sink, SinkError};
+use crate::script::{do_line, is_refusal};
+use cell_weight::WeightPolicy;
+use cube_base::{Memory, Sink};
+use cube_core::Cube;
 use std::alloc::Global;
 
-/// A cube at work: its session, the replies on their way, and how many lines were done and refused.
+/// A cube at work: the replies on their way, and how many lines were done and refused.
 #[derive(Drop)]
-pub struct Server {
-    pub session: Session,
+pub struct Server<P: WeightPolicy + Drop> {
+    alloc: Global,
+    pub cube: Cube<P>,
     pub outbox: Outbox,
     pub done: u64,
     pub refused: u64,
 }
 
-impl Server {
-    ghost use Rattle.cube_cli.specs.Serving.{HasDone, BreaksOff};
-
+impl<P: WeightPolicy + Drop> Server<P> {
     /// A server that has done no line.
-    pub fn new(alloc: Global, session: Session) -> Self
-        ensures done { result.done ≡ 0 }
-        ensures none_yet { (start : Option (List ℕ)) → session.facts ≡ [] → HasDone session.dim [] start start result }
+    pub fn new(alloc: Global, cube: Cube<P>) -> Self
+        ensures none_yet { (start : Option (List ℕ)) → cube.facts ≡ [] → HasDone (P.weigh cube.policy) cube.schema [] start start result }
+        ensures policy { result.cube.policy ≡ cube.policy }
     {
         Server {
-            session,
+            alloc,
+            cube,
             outbox: Outbox::new(alloc),
             done: 0,
             refused: 0,
         }
     }
 
-    /// Does a line, and writes the gathered replies where they are enough.
+    /// Does a line, and writes the gathered replies where they are enough; the sink has taken none of these in part. Where
+    /// memory is wanting for its reply, the line is done nevertheless.
     pub fn do_line<K: Sink>(&mut self, line: &[u8], out: &mut K) -> Result<(), End>
-        requires few { self.old.outbox.lines < 2 ^ 63 }
-        requires few_done { self.old.done < 2 ^ 63 }
-        requires few_refused { self.old.refused < 2 ^ 63 }
+        requires few { self.old.outbox.lines < 2 ^ 62 }
+        requires few_done { self.old.done < 2 ^ 62 }
+        requires few_refused { self.old.refused < 2 ^ 62 }
         requires none_in_part { self.old.outbox.taken ≡ 0 }
-        ensures done { (tree : Dimension) (lines : List (List ℕ)) (start : Option (List ℕ)) → HasDone tree lines start (K.taken out.old) self.old
-            → OnOk result (HasDone tree (lines ++ line.now ∷ []) start (K.taken out.new) self.new) }
+        ensures done { (schema : SchemaValue) (lines : List (List ℕ)) (start : Option (List ℕ)) → HasDone (P.weigh self.old.cube.policy) schema lines start (K.taken out.old) self.old
+            → OnOk result (HasDone (P.weigh self.old.cube.policy) schema (lines ++ line.now ∷ []) start (K.taken out.new) self.new) }
+        ensures policy { self.new.cube.policy ≡ self.old.cube.policy }
         ensures count { OnOk result (K.faults out.new ≡ K.faults out.old) }
-        ensures broken { (tree : Dimension) (lines : List (List ℕ)) (start : Option (List ℕ)) → HasDone tree lines start (K.taken out.old) self.old
-            → IfErr result (BreaksOff (replies tree [] (lines ++ line.now ∷ [])) start (K.taken out.new) (K.faults out.old) (K.faults out.new)) }
+        ensures broken { (schema : SchemaValue) (lines : List (List ℕ)) (start : Option (List ℕ)) → HasDone (P.weigh self.old.cube.policy) schema lines start (K.taken out.old) self.old
+            → IfErr result (BreaksOff (replies (P.weigh self.old.cube.policy) schema [] (lines ++ line.now ∷ [])) start (K.taken out.new) (K.faults out.old) (K.faults out.new)) }
     {
-        let Ok(refused) = self.session.step(line, &mut self.outbox.text) else {
-            return Err(self.give_up(out));
+        if self.outbox.make_room().is_err() {
+            return Err(self.outbox.give_up(out, self.done));
+        }
+        let Ok(reply) = do_line(self.alloc, &mut self.cube, line) else {
+            return Err(self.outbox.give_up(out, self.done));
         };
         self.done += 1;
-        self.refused += u64::from(refused);
+        self.refused += u64::from(is_refusal(&reply));
+        if self.outbox.gather(self.cube.schema(), &reply).is_err() {
+            return Err(self.outbox.give_up(out, self.done));
+        }
         if self.outbox.is_full() {
-            return self.send(out);
+            return self.outbox.send(out);
         }
         Ok(())
-    }
-
-    /// Writes the replies that are gathered.
-    pub fn send<K: Sink>(&mut self, out: &mut K) -> Result<(), End>
-        requires few { self.old.outbox.lines < 2 ^ 63 }
-        requires none_in_part { self.old.outbox.taken ≡ 0 }
-        ensures done { (tree : Dimension) (lines : List (List ℕ)) (start : Option (List ℕ)) → HasDone tree lines start (K.taken out.old) self.old
-            → OnOk result (HasDone tree lines start (K.taken out.new) self.new) }
-        ensures all { (tree : Dimension) (lines : List (List ℕ)) (start : Option (List ℕ)) → HasDone tree lines start (K.taken out.old) self.old
-            → OnOk result (Appends start (K.taken out.new) (concat (replies tree [] lines))) }
-        ensures count { OnOk result (K.faults out.new ≡ K.faults out.old) }
-        ensures broken { (tree : Dimension) (lines : List (List ℕ)) (start : Option (List ℕ)) → HasDone tree lines start (K.taken out.old) self.old
-            → IfErr result (BreaksOff (replies tree [] lines) start (K.taken out.new) (K.faults out.old) (K.faults out.new)) }
-    {
-        match self.outbox.send(out) {
-            Ok(()) => Ok(()),
-            Err(error) => Err(broken(error, self.outbox.broken_line())),
-        }
-    }
-
-    // Writes what is gathered, and ends for want of memory.
-    fn give_up<K: Sink>(&mut self, out: &mut K) -> End
-        requires few { self.old.outbox.lines < 2 ^ 63 }
-        requires none_in_part { self.old.outbox.taken ≡ 0 }
-        ensures { (tree : Dimension) (lines : List (List ℕ)) (start : Option (List ℕ)) → HasDone tree lines start (K.taken out.old) self.old
-            → BreaksOff (replies tree [] lines) start (K.taken out.new) (K.faults out.old) (K.faults out.new) result }
-    {
-        match self.send(out) {
-            Ok(()) => End::Memory { done: self.done },
-            Err(end) => end,
-        }
-    }
-}
-
-// How a run ends whose sink took a part of the reply to a line.
-fn broken(error: SinkError, done: u64) -> End
-    ensures { result ≡ end_of_sink error done }
-{
-    match error {
-        SinkError::Failed => End::WriteFault { done },
-        SinkError::Memory => End::Memory { done },
     }
 }

@@ -1,15 +1,19 @@
--- Which edits are accepted.
-use Rattle.std.specs.Prelude.{ℕ, Bool, false, List, [], ◌∷◌, length, nat_le, if◌then◌else◌, Option, Some, None}
+-- What limits the edits of a cube, and what an edit asks of the facts.
+use Rattle.std.specs.Prelude.{ℕ, Bool, false, List, [], ◌∷◌, length, nat_le, nat_lt, not, if◌then◌else◌, Option, Some, None}
 use Rattle.cube_base.specs.declared.code.Code.{Code}
-use Rattle.cube_base.specs.declared.code.Code.TheVariants.{Exists, Facts}
 use Rattle.cube_model.specs.declared.edit.Fact.{Fact}
 use Rattle.cube_model.specs.declared.edit.Edit.{Edit}
 use Rattle.cube_model.specs.declared.edit.Edit.TheVariants.{Put, Change, Withdraw}
+use Rattle.cube_model.specs.Allocation.{ExtendedFact, row_count}
 use Rattle.cube_model.specs.Facts.{has_id}
 
 -- the most facts
 abbrev pub MAX_FACTS : ℕ
 MAX_FACTS = 1048576
+
+-- the most rows of the extended database
+abbrev pub MAX_ROWS : ℕ
+MAX_ROWS = 2097152
 
 -- the code of the first condition that holds
 abbrev pub first_that_holds : List (Bool × Code) → Option Code
@@ -22,12 +26,18 @@ is_repeat (Put fact) facts = has_id fact.id facts
 is_repeat (Change fact) facts = false
 is_repeat (Withdraw id) facts = false
 
+-- an edit is a change or a withdrawal of an id that is not there
+abbrev pub is_missing : Edit → List Fact → Bool
+is_missing (Put fact) facts = false
+is_missing (Change fact) facts = not (has_id fact.id facts)
+is_missing (Withdraw id) facts = not (has_id id facts)
+
 -- an edit is a put where there is no room for a fact
 abbrev pub is_over : Edit → List Fact → Bool
 is_over (Put fact) facts = nat_le MAX_FACTS (length facts)
 is_over (Change fact) facts = false
 is_over (Withdraw id) facts = false
 
--- why an edit is refused: the first of these conditions that holds
-abbrev pub refusal : Edit → List Fact → Option Code
-refusal edit facts = first_that_holds ((is_repeat edit facts, Exists) ∷ (is_over edit facts, Facts) ∷ [])
+-- the rows are too many
+abbrev pub has_many_rows : List ExtendedFact → Bool
+has_many_rows rows = nat_lt MAX_ROWS (row_count rows)

@@ -1,5 +1,5 @@
 -- The space over several dimensions: its cells, their codes, and the cells of a region.
-use Rattle.std.specs.Prelude.{ℕ, ◌+◌, Bool, true, false, List, [], ◌∷◌, map, ◌&&◌, if◌then◌else◌}
+use Rattle.std.specs.Prelude.{ℕ, ◌+◌, ◌<◌, Bool, true, false, List, [], ◌∷◌, All, length, map, ◌&&◌, if◌then◌else◌}
 use Rattle.std.specs.List.{flat_map}
 use Rattle.cube_model.specs.Tree.{Dimension, leaves, is_under}
 
@@ -22,6 +22,10 @@ places_from p k (x ∷ xs) = if p x then k ∷ places_from p (k + 1) xs else pla
 -- The cells of a region. A cell goes by its code, which is its place in the list of all cells.
 unfoldable pub cells_of : List Dimension → List ℕ → List ℕ
 cells_of dims region = places_from (is_inside dims region) 0 (all_cells dims)
+
+-- these are rows of cells that there are
+abbrev pub AreRows : List Dimension → List (ℕ × ℕ) → Type 0
+AreRows dims rows = All (λ row. row.0 < length (all_cells dims)) rows
 
 -- the places, among all leaves, of the leaves under a node
 unfoldable pub leaf_places : Dimension → ℕ → List ℕ

@@ -1,11 +1,23 @@
 -- Facts, and the list of them as it stands after edits.
-use Rattle.std.specs.Prelude.{ℕ, Bool, List, ◌∷◌, ◌++◌, length, filter, not, nat_lt, ◌==◌}
+use Rattle.std.specs.Prelude.{ℕ, ◌≤◌, Bool, List, ◌∷◌, ◌++◌, length, filter, not, nat_lt, ◌==◌}
 use Rattle.std.specs.List.{list_any}
 use Rattle.cube_model.specs.declared.edit.Fact.{Fact}
 use Rattle.cube_model.specs.declared.edit.Edit.{Edit}
 use Rattle.cube_model.specs.declared.edit.Edit.TheVariants.{Put, Change, Withdraw}
 use Rattle.cube_model.specs.Tree.{Dimension}
 use Rattle.cube_model.specs.Cells.{cells_of}
+
+-- the least and the greatest id of a fact
+abbrev pub MIN_ID : ℕ
+MIN_ID = 1
+
+abbrev pub MAX_ID : ℕ
+MAX_ID = 9223372036854775807
+
+-- a number that a fact may have
+pub record IsId (id : ℕ) : Type 0 where
+  pub least : MIN_ID ≤ id
+  pub most : id ≤ MAX_ID
 
 -- a fact is precise exactly where its region is one cell
 abbrev pub is_precise : List Dimension → Fact → Bool

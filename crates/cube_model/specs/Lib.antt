@@ -4,9 +4,7 @@ pub mod Answer
 pub mod Cells
 pub mod Cut
 pub mod Difference
-pub mod Examples
 pub mod Facts
-pub mod FirstText
-pub mod Run
+pub mod Replies
 pub mod Text
 pub mod Tree

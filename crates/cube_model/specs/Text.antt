@@ -1,5 +1,5 @@
 -- Lines, fields and numbers of a text.
-use Rattle.std.specs.Prelude.{ℕ, Bool, List, [], ◌∷◌, ◌++◌, length, nat_le, ◌==◌, ◌&&◌, ◌||◌, not, if◌then◌else◌, Option, Some, None, slice_index}
+use Rattle.std.specs.Prelude.{ℕ, Bool, List, [], ◌∷◌, ◌++◌, zero, suc, length, nat_le, ◌==◌, ◌&&◌, ◌||◌, not, if◌then◌else◌, Option, Some, None, slice_index}
 use Rattle.std.specs.List.{list_all, slice_split, onto_first, flat_map}
 use Rattle.std.specs.Str.Parse.{digits_value}
 
@@ -12,6 +12,11 @@ lines_of (b ∷ bytes) = if b == 10 then [] ∷ lines_of bytes else onto_first b
 abbrev pub after_line : List ℕ → List ℕ
 after_line [] = []
 after_line (b ∷ bytes) = if b == 10 then bytes else after_line bytes
+
+-- the bytes behind some lines
+abbrev pub after_lines : ℕ → List ℕ → List ℕ
+after_lines zero bytes = bytes
+after_lines (suc n) bytes = after_lines n (after_line bytes)
 
 -- what stands between the TABs of a line
 abbrev pub fields_of : List ℕ → List (List ℕ)

@@ -60,21 +60,24 @@ numbered_from k (line ∷ lines) = record { depth = line.depth; name = line.name
 abbrev pub numbered : List NodeLine → Dimension
 numbered lines = numbered_from 0 lines
 
+-- the most nodes of a dimension, and how deep they may lie
+abbrev pub MAX_NODES : ℕ
+MAX_NODES = 65536
+
+abbrev pub MAX_DEPTH : ℕ
+MAX_DEPTH = 8
+
 -- Why a line may not stand at place k behind these, the nearest of them first. The depth is judged before the name.
 abbrev pub line_fault : List NodeLine → ℕ → NodeLine → Option DimFault
 line_fault [] k line = if line.depth == 0 then None else Some Root
 line_fault (before ∷ earlier) k line =
-    if line.depth == 0 || nat_lt 8 line.depth || nat_lt (before.depth + 1) line.depth then Some (Depth k)
+    if line.depth == 0 || nat_lt MAX_DEPTH line.depth || nat_lt (before.depth + 1) line.depth then Some (Depth k)
     else (if list_any (λ e. bytes_eq e.name line.name) (before ∷ earlier) then Some (Name k) else None)
 
 -- the first fault of the lines, where `earlier` stand before them
 abbrev pub first_fault : List NodeLine → ℕ → List NodeLine → Option DimFault
 first_fault earlier k [] = None
 first_fault earlier k (line ∷ lines) = option_map_or (λ fault. Some fault) (line_fault earlier k line) (first_fault (line ∷ earlier) (k + 1) lines)
-
--- the most nodes of a dimension, and how deep they may lie
-abbrev pub MAX_NODES : ℕ
-MAX_NODES = 65536
 
 -- why lines are no tree
 unfoldable pub tree_fault : List NodeLine → Option DimFault

@@ -1,9 +1,8 @@
 //! The plain data of the cube and, in `specs/`, its definitions: what trees, cells, facts, allocations
-//! and answers are, and what a script does. The crates above compute by other means what stands here.
+//! and answers are, and which texts replies have. The crates above compute by other means what stands here.
 #![tactic(auto)]
 
 mod edit;
-mod first_text;
 mod laws;
 mod region;
 mod statistic;
@@ -11,8 +10,7 @@ mod term;
 mod tree;
 
 pub use edit::{Edit, Fact};
-pub use first_text::FirstLine;
-pub use laws::{one_spelling, worked_examples};
+pub use laws::one_spelling;
 pub use region::{MAX_DIMS, Region};
 pub use statistic::CellStat;
 pub use term::Term;

@@ -1,6 +1,6 @@
 //! Walks through cells, and allocations over them.
 ghost use Rattle.std.specs.Prelude.{IfOk};
-ghost use Rattle.alloc_rows.specs.Alloc.{AreRows};
+ghost use Rattle.cube_model.specs.Cells.{AreRows};
 
 use crate::spaces::{everything, space_of};
 use alloc_rows::{Alloc, allocate};

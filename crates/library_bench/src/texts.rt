@@ -5,8 +5,8 @@ use crate::cells::spread_once;
 use anyhow::{Context, Result};
 use cell_weight::Uniform;
 use cube_base::Pairs;
-use schema_text::{Schema, read_schema};
-use script_text::{Reply, first_line_of, read_line, write_reply};
+use schema_text::{Schema, first_line_of, read_schema};
+use script_text::{Reply, read_line, write_reply};
 use std::alloc::Global;
 
 /// Reads the schema with which a text begins, so many times: the number of its dimensions, and of its bytes.

@@ -3,8 +3,7 @@ use Rattle.std.proofs.Common.{◌≡◌, ℕ, zero, suc, ◌+◌, ◌-◌, ◌<�
 use Rattle.std.specs.Prelude.{Ok, Err}
 use Rattle.cube_base.specs.declared.code.Code.{Code}
 use Rattle.cube_base.specs.declared.code.Code.TheVariants.{Cut}
-use Rattle.cube_model.specs.FirstText.{after_lines}
-use Rattle.cube_model.specs.Text.{after_line, lines_of}
+use Rattle.cube_model.specs.Text.{after_line, lines_of, after_lines}
 use Rattle.schema_text.specs.declared.schema.SchemaFault.{SchemaFault}
 use Rattle.schema_text.specs.declared.schema.SchemaFault.TheVariants.{Bad, Memory}
 use Rattle.schema_text.specs.Draft.{end_fault}

@@ -9,9 +9,8 @@ use Rattle.cube_base.specs.declared.code.Code.{Code}
 use Rattle.cube_base.specs.declared.code.Code.TheVariants as code
 use Rattle.cube_model.specs.declared.tree.NodeLine.{NodeLine}
 use Rattle.cube_model.specs.Accepted.{first_that_holds}
-use Rattle.cube_model.specs.FirstText.{MAX_DEPTH, after_lines}
-use Rattle.cube_model.specs.Text.{fields_of, line_text, lines_of, number_in}
-use Rattle.cube_model.specs.Tree.{Dimension, Entry, MAX_NODES, numbered}
+use Rattle.cube_model.specs.Text.{fields_of, line_text, lines_of, number_in, after_lines}
+use Rattle.cube_model.specs.Tree.{Dimension, Entry, MAX_NODES, numbered, MAX_DEPTH}
 use Rattle.region_algebra.specs.Fault.{LIMIT}
 use Rattle.region_algebra.specs.Space.{cell_total, region_total}
 use Rattle.fact_records.specs.declared.shape.Kind.TheVariants as kind
@@ -125,7 +124,7 @@ abbrev pub has_wrong_depth : Draft → List (List ℕ) → SchemaWord → Bool
 has_wrong_depth draft fields Node = option_map_or (is_wrong_depth draft.nodes) (number_in 0 MAX_DEPTH (field_at fields 1)) false
 has_wrong_depth draft fields word = false
 
--- the line would pass a limit: an eighth column with the count's, a seventh dimension, or a node too many
+-- the line would pass a limit: a column beyond seven beside the count, a seventh dimension, or a node too many
 abbrev pub has_no_room : Draft → List (List ℕ) → SchemaWord → Bool
 has_no_room draft fields Number = nat_le MAX_WIDTH (length draft.measures)
 has_no_room draft fields DimensionWord = nat_le MAX_DIMS (length draft.names)

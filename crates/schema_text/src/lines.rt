@@ -19,3 +19,26 @@ pub fn first_line_of(text: &[u8]) -> Option<(&[u8], &[u8])>
         None => Some((text, &[])),
     }
 }
+
+#[cfg(test)]
+mod tests {
+    use super::*;
+
+    #[test]
+    fn lines_of_a_text(rt: HostRuntime) {
+        let text = b"insert\t1\tTX\n\nterms\tTX".as_slice();
+        assert_eq!(rt;
+            first_line_of(text),
+            Some((b"insert\t1\tTX".as_slice(), b"\nterms\tTX".as_slice()))
+        );
+        assert_eq!(rt;
+            first_line_of(b"\nterms\tTX"),
+            Some((b"".as_slice(), b"terms\tTX".as_slice()))
+        );
+        assert_eq!(rt;
+            first_line_of(b"terms\tTX"),
+            Some((b"terms\tTX".as_slice(), b"".as_slice()))
+        );
+        assert_eq!(rt; first_line_of(b""), None);
+    }
+}

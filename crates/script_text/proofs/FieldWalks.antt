@@ -4,7 +4,7 @@ use Rattle.std.specs.Borrow.{Bor}
 use Rattle.std.proofs.lemmas.List.Elements.{All-from_get_or}
 use Rattle.std.proofs.lemmas.Str.Pattern.{IsSplitOnceResult, split_parts}
 use Rattle.cube_model.specs.Text.{fields_of}
-use Rattle.script_text.proofs.Cuts.{fields_of-cut, fields_of-none}
+use Rattle.schema_text.proofs.Cuts.{fields_of-cut, fields_of-none}
 
 -- a cut at the first TAB gives the first field, and the others are those of the rest
 pub fields_of-split_once : (line : List ℕ) (cut : Option (Bor (List ℕ) × Bor (List ℕ))) → IsSplitOnceResult 9 line cut

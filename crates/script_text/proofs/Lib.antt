@@ -2,14 +2,10 @@ pub mod AcceptedValues
 pub mod Appending
 pub mod Cuts
 pub mod FieldWalks
-pub mod FirstLines
 pub mod GivenValues
 pub mod LineBytes
 pub mod LineSteps
-pub mod Names
 pub mod NodeFields
-pub mod NodesToEnd
 pub mod RowNames
-pub mod Schemas
 pub mod TermsAt
 pub mod ValueFields

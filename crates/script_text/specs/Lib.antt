@@ -1,9 +1,6 @@
-pub mod Fields
 pub mod FieldsLeft
 pub mod LineOf
-pub mod Nodes
 pub mod Reply
 pub mod RowsText
 pub mod ScriptLine
 pub mod Steps
-pub mod Within

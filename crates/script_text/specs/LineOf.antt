@@ -1,9 +1,9 @@
 -- What an accepted line of a script names is there.
-use Rattle.std.specs.Prelude.{◌≡◌, ℕ, ◌≤◌, true, List, None, Err, ⊤}
+use Rattle.std.specs.Prelude.{◌≡◌, ℕ, true, List, None, Err, ⊤}
 use Rattle.cube_model.specs.declared.edit.Fact.{Fact}
 use Rattle.cube_model.specs.declared.edit.Edit.{Edit}
 use Rattle.cube_model.specs.declared.edit.Edit.TheVariants as edit
-use Rattle.cube_model.specs.FirstText.{MIN_ID, MAX_ID}
+use Rattle.cube_model.specs.Facts.{IsId}
 use Rattle.cube_model.specs.Tree.{Dimension}
 use Rattle.fact_records.specs.declared.shape.Measure.{Measure}
 use Rattle.fact_records.specs.Accepted.{cols_refusal}
@@ -14,11 +14,6 @@ use Rattle.script_text.specs.declared.line.Line.TheVariants as line
 use Rattle.script_text.specs.declared.line.LineFault.{LineFault}
 use Rattle.script_text.specs.declared.line.LineFault.TheVariants as fault
 use Rattle.script_text.specs.ScriptLine.{line_of}
-
--- a number that a fact may have
-pub record IsId (id : ℕ) : Type 0 where
-  pub least : MIN_ID ≤ id
-  pub most : id ≤ MAX_ID
 
 -- a fact that a cube over these dimensions and measures may have
 pub record IsFactOf (dims : List Dimension) (measures : List Measure) (fact : Fact) : Type 0 where

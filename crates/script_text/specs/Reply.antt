@@ -4,7 +4,7 @@ use Rattle.std.specs.List.{flat_map}
 use Rattle.std.specs.Fmt.{decimal}
 use Rattle.cube_base.specs.Code.{word_of}
 use Rattle.cube_model.specs.declared.term.Term.{Term}
-use Rattle.cube_model.specs.FirstText.{ok_text, error_text, term_fields, terms_text}
+use Rattle.cube_model.specs.Replies.{ok_text, error_text, term_fields, terms_text}
 use Rattle.script_text.specs.declared.reply.Reply.{Reply}
 use Rattle.script_text.specs.declared.reply.Reply.TheVariants.{Ok, Error, Terms, Rows}
 

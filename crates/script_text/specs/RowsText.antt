@@ -1,9 +1,9 @@
 -- The text of rows, which name the leaves of cells.
-use Rattle.std.specs.Prelude.{ℕ, ◌<◌, List, [], ◌∷◌, ◌++◌, length, codes, slice_get, All, ⊤, ◌==◌}
+use Rattle.std.specs.Prelude.{ℕ, List, [], ◌∷◌, ◌++◌, length, codes, slice_get, ⊤, ◌==◌}
 use Rattle.std.specs.Option.{option_map_or}
 use Rattle.std.specs.List.{find, flat_map}
 use Rattle.std.specs.Fmt.{decimal}
-use Rattle.cube_model.specs.Cells.{all_cells}
+use Rattle.cube_model.specs.Cells.{AreRows, all_cells}
 use Rattle.cube_model.specs.Text.{line_text}
 use Rattle.cube_model.specs.Tree.{Dimension}
 use Rattle.script_text.specs.declared.reply.Reply.{Reply}
@@ -36,10 +36,6 @@ reply_text_over dims (Ok refreshed) = reply_text (Ok refreshed)
 reply_text_over dims (Error code) = reply_text (Error code)
 reply_text_over dims (Terms list) = reply_text (Terms list)
 reply_text_over dims (Rows den rows) = rows_text dims den rows
-
--- each row is of a cell
-abbrev pub AreRows : List Dimension → List (ℕ × ℕ) → Type 0
-AreRows dims rows = All (λ row. row.0 < length (all_cells dims)) rows
 
 -- the cells that a reply names are there
 abbrev pub NamesCells : List Dimension → Reply → Type 0

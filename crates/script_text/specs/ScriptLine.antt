@@ -7,7 +7,7 @@ use Rattle.cube_base.specs.declared.code.Code.TheVariants as code
 use Rattle.cube_model.specs.declared.edit.Fact.{Fact}
 use Rattle.cube_model.specs.declared.edit.Edit.TheVariants as edit
 use Rattle.cube_model.specs.Accepted.{first_that_holds}
-use Rattle.cube_model.specs.FirstText.{MIN_ID, MAX_ID}
+use Rattle.cube_model.specs.Facts.{MIN_ID, MAX_ID}
 use Rattle.cube_model.specs.Text.{fields_of, number_in}
 use Rattle.cube_model.specs.Tree.{Dimension, node_named}
 use Rattle.fact_records.specs.declared.shape.Kind.{Kind}

@@ -1,9 +1,10 @@
 //! Reading a line of a script.
 ghost use Rattle.std.specs.Prelude.{◌≡◌, ◌≢◌, ◌+◌, ◌≤◌, drop, length, true, IfErr, IfOk, OnOk};
+ghost use Rattle.cube_model.specs.Facts.{IsId};
 ghost use Rattle.cube_model.specs.Text.{fields_of};
 ghost use Rattle.region_algebra.specs.Space.{is_region};
 ghost use Rattle.schema_text.specs.LineText.{field_at};
-ghost use Rattle.script_text.specs.LineOf.{IsFactOf, IsFaultOf, IsId, IsLineOf};
+ghost use Rattle.script_text.specs.LineOf.{IsFactOf, IsFaultOf, IsLineOf};
 ghost use Rattle.script_text.specs.ScriptLine.{command_named, field_count_of, fields_line, line_of};
 ghost use Rattle.script_text.specs.Steps.{fact_in, id_in, line_in, region_in, schema_over};
 

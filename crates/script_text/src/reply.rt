@@ -1,7 +1,7 @@
 //! Replies.
 ghost use Rattle.std.specs.Prelude.{◌≡◌, ◌∷◌, ◌++◌, ◌<◌, length, OnOk, OnErr};
 ghost use Rattle.group_sum.specs.Place.{term_at};
-ghost use Rattle.cube_model.specs.FirstText.{term_fields};
+ghost use Rattle.cube_model.specs.Replies.{term_fields};
 ghost use Rattle.script_text.specs.Reply.{Keeps, NamesNoCells, fields_of_reply, fields_text, reply_text, terms_fields, word_of_reply};
 
 use cube_base::{Code, Memory, Pairs};
@@ -19,22 +19,6 @@ pub enum Reply {
     Terms(Terms),
     /// How a fact is spread: the denominator, and rows of a cell and its weight.
     Rows { den: u64, rows: Pairs },
-}
-
-/// Appends the text of a reply that names no cells: the word and its fields with TABs between, and LF. `ok` has the
-/// number of refreshed facts, `error` the word of the code, `terms` the number of terms and then, for each, its
-/// denominator and its numerators, the count first. An error leaves the text as it was.
-pub fn append_reply(out: &mut Vec<u8>, reply: &Reply) -> Result<(), Memory>
-    requires { NamesNoCells reply.now }
-    ensures ok { OnOk result (out.new.items ≡ out.old.items ++ reply_text reply.now) }
-    ensures err { OnErr result (out.new.items ≡ out.old.items) }
-{
-    let len = out.len();
-    let appended = append_line(out, reply);
-    if appended.is_err() {
-        out.truncate(len);
-    }
-    appended
 }
 
 // Each of the following appends what it says, or, where memory is wanting, a part of it.

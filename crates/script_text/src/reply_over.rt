@@ -13,10 +13,11 @@ use region_algebra::Space;
 use schema_text::Schema;
 use std::alloc::Global;
 
-/// Appends the text of a reply over a schema: that of `append_reply`, and for `rows` the denominator, the number of
-/// rows and then, for each, the names of the cell's leaves, one of each dimension, and the weight. An error leaves
-/// the text as it was.
-pub fn append_reply_over(out: &mut Vec<u8>, schema: &Schema, reply: &Reply) -> Result<(), Memory>
+/// Appends the text of a reply over a schema: the word and its fields with TABs between, and LF. `ok` has the number of
+/// refreshed facts, `error` the word of the code, `terms` the number of terms and then, for each, its denominator and its
+/// numerators, the count first, and `rows` the denominator, the number of rows and then, for each, the names of the
+/// cell's leaves, one of each dimension, and the weight. An error leaves the text as it was.
+pub fn append_reply(out: &mut Vec<u8>, schema: &Schema, reply: &Reply) -> Result<(), Memory>
     requires { NamesCells schema.now.dims reply.now }
     ensures ok { OnOk result (out.new.items ≡ out.old.items ++ reply_text_over schema.now.dims reply.now) }
     ensures err { OnErr result (out.new.items ≡ out.old.items) }
@@ -30,7 +31,7 @@ pub fn write_reply(alloc: Global, schema: &Schema, reply: &Reply) -> Result<Byte
     ensures { IfOk result (λ text. text ≡ reply_text_over schema.now.dims reply.now) }
 {
     let mut out = Vec::new(alloc);
-    append_reply_over(&mut out, schema, reply)?;
+    append_reply(&mut out, schema, reply)?;
     Ok(Bytes::from(out))
 }
 

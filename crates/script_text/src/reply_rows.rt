@@ -1,9 +1,9 @@
 //! The fields of a reply with rows.
 ghost use Rattle.std.specs.Prelude.{◌≡◌, ◌++◌, ◌<◌, true, length, OnOk, OnErr};
-ghost use Rattle.cube_model.specs.Cells.{all_cells};
+ghost use Rattle.cube_model.specs.Cells.{AreRows, all_cells};
 ghost use Rattle.region_algebra.specs.Space.{is_region};
 ghost use Rattle.script_text.specs.Reply.{Keeps, fields_text};
-ghost use Rattle.script_text.specs.RowsText.{AreRows, names_of, row_fields, rows_fields, rows_text};
+ghost use Rattle.script_text.specs.RowsText.{names_of, row_fields, rows_fields, rows_text};
 
 use crate::reply::{append_field, append_number};
 use cube_base::Memory;

@@ -1,10 +1,9 @@
 //! Worked facts over places and autos.
 ghost use Rattle.std.specs.Prelude.{◌≡◌, ◌≤◌, ◌^◌, true, IfOk, IfSome};
 ghost use Rattle.std.specs.List.{sum_by};
-ghost use Rattle.cube_model.specs.Cells.{cells_of};
+ghost use Rattle.cube_model.specs.Cells.{AreRows, cells_of};
 ghost use Rattle.cell_weight.specs.Stats.{stat_at};
 ghost use Rattle.region_algebra.specs.Space.{is_region};
-ghost use Rattle.alloc_rows.specs.Alloc.{AreRows};
 
 use super::allocate;
 use crate::{Alloc, inside};

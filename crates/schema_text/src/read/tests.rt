@@ -1,5 +1,5 @@
 //! Texts worked out by hand.
-use crate::examples::CARS;
+use crate::examples::{CARS, TWICE};
 use crate::{PolicyWord, SchemaFault, read_schema};
 use cube_base::Code;
 use std::alloc::{AllocError, Global};
@@ -65,6 +65,31 @@ fn cars_by_place(rt: HostRuntime) -> Result<(), Fail> {
     assert_eq!(rt; schema.space().dim(1).find("Camry"), Some(2));
     let all = schema.space().region(&[0, 0]).ok_or("a region")?;
     assert_eq!(rt; schema.space().cell_count(all), 20);
+    Ok(())
+}
+
+#[test]
+fn each_word_twice(rt: HostRuntime) -> Result<(), Fail> {
+    let (schema, size) = read_schema(rt.alloc(), TWICE)?;
+    assert_eq!(rt; size, 125);
+    assert_eq!(rt; schema.policy(), PolicyWord::Count);
+    let shape = schema.shape();
+    assert_eq!(rt; shape.len(), 2);
+    assert_eq!(rt; shape.columns(), 3);
+    assert_eq!(rt; shape.measure(0).name.text(), "Cost");
+    assert_eq!(rt; shape.measure(0).first_col, 1);
+    assert_eq!(rt; shape.measure(1).name.text(), "Hours");
+    assert_eq!(rt; shape.measure(1).first_col, 2);
+    let names = schema.dim_names();
+    assert_eq!(rt; names.len(), 2);
+    assert_eq!(rt; names[0].text(), "Place");
+    assert_eq!(rt; names[1].text(), "Auto");
+    let space = schema.space();
+    assert_eq!(rt; space.dims(), 2);
+    assert_eq!(rt; space.dim(0).len(), 2);
+    assert_eq!(rt; space.dim(0).find("TX"), Some(1));
+    assert_eq!(rt; space.dim(1).len(), 2);
+    assert_eq!(rt; space.dim(1).find("Camry"), Some(1));
     Ok(())
 }
 

@@ -1,5 +1,5 @@
 //! Texts worked out by hand.
-use crate::examples::CARS;
+use crate::examples::{CARS, TWICE};
 use crate::{read_schema, write_schema};
 use cube_base::Bytes;
 use std::alloc::{AllocError, Global};
@@ -41,6 +41,7 @@ fn schemas_are_written_as_they_were_read(rt: HostRuntime) -> Result<(), Fail> {
     wide.extend_from_slice(b"\nend\n")?;
     let table = [
         cars.as_slice(),
+        TWICE,
         b"cube\t1\npolicy\tuniform\ndimension\tx\nnode\t0\t#x\nend\n",
         b"cube\t1\npolicy\tuniform\ndimension\tPlace\nnode\t0\tAll\nnode\t1\tTX\nnode\t2\tAustin\nnode\t2\tDallas\nnode\t1\tCA\nnode\t2\tLA\nend\n",
         b"cube\t1\npolicy\tuniform\ndimension\tPlace\nnode\t0\tAll\nnode\t1\ta\nnode\t1\tb\nend\n",

@@ -1,4 +1,7 @@
 //! Lines over places and autos with one number measure, and with a parts measure before it.
+mod each_code;
+mod two_faults;
+
 use super::{read_line, read_over};
 use crate::examples::{quality_and_repair, schema_of};
 use crate::line::{Line, LineFault};
@@ -73,22 +76,12 @@ fn fault_of(schema: &Schema, line: &[u8]) -> Option<LineFault> {
 }
 
 #[test]
-fn lines_that_are_refused(rt: HostRuntime) -> Result<(), Fail> {
+fn hostile_lines(rt: HostRuntime) -> Result<(), Fail> {
     let schema = schema_of(rt.alloc())?;
     let table = [
-        (b"insert\t0\tAustin\tCamry\t1".as_slice(), Code::Id),
-        (b"insert\t9223372036854775808\tAustin\tCamry\t1", Code::Id),
-        (b"Insert\t1\tAustin\tCamry\t1", Code::Command),
-        (b"insert\t1\tAustin\tCamry", Code::Fields),
-        (b"insert\t0\tWaco\tCamry\t+5", Code::Id),
-        (b"insert\t1\tWaco\tCamry\t+5", Code::Node),
-        (b"change\t1\tAustin\tCamry\t+5", Code::Value),
-        (b"insert\t1\tLA\tCivic\t1000000000001", Code::Value),
-        (b"insert\t1\tLA\tCivic\t+5", Code::Value),
-        (b"insert\t1\tLA\tCivic\t05", Code::Value),
-        (b"insert\t1\tLA\tCivic\t-0", Code::Value),
-        (b"terms\tAustin\tCam\x01", Code::Text),
+        (b"terms\tAustin\tCam\x01".as_slice(), Code::Text),
         (b"\xff", Code::Text),
+        (b"count\r\tAustin\tCamry", Code::Text),
         (b"terms\r\tAustin\tCamry", Code::Text),
         (b"\t", Code::Command),
         (b"count\tAustin\tCamry", Code::Command),
@@ -100,32 +93,43 @@ fn lines_that_are_refused(rt: HostRuntime) -> Result<(), Fail> {
     Ok(())
 }
 
-/// The front and then so many times a byte.
-fn filled(alloc: Global, front: &[u8], byte: u8, times: u32) -> Result<Vec<u8>, AllocError> {
+/// The front, so many times a byte as make up the length, and the end.
+fn filled_to(
+    alloc: Global,
+    front: &[u8],
+    byte: u8,
+    behind: &[u8],
+    len: usize,
+) -> Result<Vec<u8>, AllocError> {
     let mut line = Vec::from_slice(alloc, front)?;
-    for _ in 0..times {
+    for _ in front.len()..len.saturating_sub(behind.len()) {
         line.push(byte)?;
     }
+    line.extend_from_slice(behind)?;
     Ok(line)
 }
 
 #[test]
 fn lines_at_the_limit_of_bytes(rt: HostRuntime) -> Result<(), Fail> {
     let schema = schema_of(rt.alloc())?;
-    let mut line = filled(rt.alloc(), b"terms\t", b'a', 4_090)?;
+    let table = [
+        (b"".as_slice(), 4_096, Code::Fields),
+        (b"\r", 4_096, Code::Fields),
+        (b"", 4_097, Code::Long),
+        (b"\r", 4_097, Code::Long),
+    ];
+    for (behind, len, want) in table {
+        let line = filled_to(rt.alloc(), b"terms\t", b'a', behind, len)?;
+        assert_eq!(rt; line.len(), len);
+        let want = Some(LineFault::Code(want));
+        assert_eq!(rt; fault_of(&schema, &line), want, "{behind:?} {len}");
+    }
+    // `#` and 5,000 bytes that are no text.
+    let comment = filled_to(rt.alloc(), b"#", 255, b"", 5_001)?;
     assert_eq!(rt;
-        fault_of(&schema, &line),
-        Some(LineFault::Code(Code::Fields))
+        shown(rt.alloc(), read_line(&schema, &comment))?,
+        shown(rt.alloc(), Ok(Line::Nothing))?
     );
-    line.push(b'\r')?;
-    assert_eq!(rt; fault_of(&schema, &line), Some(LineFault::Code(Code::Long)));
-    let longer = filled(rt.alloc(), b"terms\t", b'a', 4_091)?;
-    assert_eq!(rt;
-        fault_of(&schema, &longer),
-        Some(LineFault::Code(Code::Long))
-    );
-    let comment = filled(rt.alloc(), b"#", 255, 4_999)?;
-    assert_eq!(rt; fault_of(&schema, &comment), None);
     Ok(())
 }
 
@@ -146,6 +150,12 @@ fn a_wrong_number_comes_before_wrong_parts(rt: HostRuntime) -> Result<(), Fail> 
         (b"insert\t1\tAustin\tCamry\t80:21\t+5", Some(Code::Value)),
         (b"insert\t1\tAustin\tCamry\t80:21\t5", Some(Code::Parts)),
         (b"insert\t1\tAustin\tCamry\t80:20\t+5", Some(Code::Value)),
+        (b"insert\t1\tWaco\tCamry\t80:21\t5", Some(Code::Node)),
+        (b"insert\t0\tAustin\tCamry\t80:21\t5", Some(Code::Id)),
+        (b"insert\t1\tAustin\tCamry\t80:21", Some(Code::Fields)),
+        (b"change\t1\tAustin\tCamry\t80:20\t5", None),
+        (b"change\t1\tAustin\tCamry\t80:21\t+5", Some(Code::Value)),
+        (b"change\t1\tAustin\tCamry\t80:21\t5", Some(Code::Parts)),
     ] {
         assert_eq!(rt; refusal(schema.space(), &shape, line), want, "{line:?}");
     }

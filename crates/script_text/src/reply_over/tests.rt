@@ -3,10 +3,10 @@ ghost use Rattle.std.specs.Prelude.{◌<◌, length, IfOk};
 ghost use Rattle.cube_model.specs.Cells.{all_cells};
 ghost use Rattle.script_text.specs.RowsText.{NamesCells};
 
-use super::{append_reply_over, write_reply};
+use super::{append_reply, write_reply};
 use crate::examples::schema_of;
 use crate::reply::Reply;
-use cube_base::{Bytes, Code, Memory, Pairs};
+use cube_base::{Bytes, Code, Cols, Memory, Pairs};
 use group_sum::Terms;
 use schema_text::Schema;
 use std::alloc::Global;
@@ -26,8 +26,8 @@ fn printed(alloc: Global, schema: &Schema, reply: &Reply) -> Result<(Vec<u8>, By
     requires { NamesCells schema.now.dims reply.now }
 {
     let mut out = Vec::new(alloc);
-    append_reply_over(&mut out, schema, &Reply::Ok(1))?;
-    append_reply_over(&mut out, schema, reply)?;
+    append_reply(&mut out, schema, &Reply::Ok(1))?;
+    append_reply(&mut out, schema, reply)?;
     Ok((out, write_reply(alloc, schema, reply)?))
 }
 
@@ -40,6 +40,29 @@ fn replies_without_cells(rt: HostRuntime) -> Result<(), Fail> {
     let none = Reply::Terms(Terms::empty(rt.alloc(), 2));
     let (appended, _) = printed(rt.alloc(), &schema, &none)?;
     assert_eq!(rt; appended.as_slice(), b"ok\t1\nterms\t0\n".as_slice());
+    Ok(())
+}
+
+#[test]
+fn terms_have_all_their_numerators(rt: HostRuntime) -> Result<(), Fail> {
+    let schema = schema_of(rt.alloc())?;
+    let mut counts = Terms::empty(rt.alloc(), 1);
+    counts.add_term(1, 1, Cols::new(&[]).ok_or("no column")?)?;
+    counts.add_term(2, 1, Cols::new(&[]).ok_or("no column")?)?;
+    let (counts, _) = printed(rt.alloc(), &schema, &Reply::Terms(counts))?;
+    assert_eq!(rt;
+        counts.as_slice(),
+        b"ok\t1\nterms\t2\t1\t1\t2\t1\n".as_slice()
+    );
+
+    let mut sums = Terms::empty(rt.alloc(), 2);
+    sums.add_term(3, 2, Cols::new(&[-600]).ok_or("one column")?)?;
+    sums.add_term(1, 2, Cols::new(&[200]).ok_or("one column")?)?;
+    let (sums, _) = printed(rt.alloc(), &schema, &Reply::Terms(sums))?;
+    assert_eq!(rt;
+        sums.as_slice(),
+        b"ok\t1\nterms\t2\t1\t2\t400\t3\t2\t-1200\n".as_slice()
+    );
     Ok(())
 }
 

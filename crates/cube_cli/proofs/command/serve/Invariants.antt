@@ -2,10 +2,11 @@ use Rattle.std.proofs.Common.{◌≡◌, length}
 use Rattle.cube_cli.proofs.Turns.{Between}
 use Rattle.cube_cli.proofs.command.serve.Given as goal
 
--- the lines before the rest are done, without a fault
+-- the lines before the rest are done under the policy, without a fault
 abbrev pub invariant-loop-line : goal.invariant-loop-line
 invariant-loop-line g l = record {
-  between : Between l.fn.session.dim l.script l.rest (g.K.Sink.taken l.fn.out) (g.K.Sink.taken l.out) l.server;
+  between : Between (g.P.WeightPolicy.weigh l.fn.policy) l.fn.schema l.script l.rest (g.K.Sink.taken l.fn.out) (g.K.Sink.taken l.out) l.server;
+  policy : l.server.cube.policy ≡ l.fn.policy;
   no_fault : g.K.Sink.faults l.out ≡ g.K.Sink.faults l.fn.out;
 }
 

@@ -1,7 +1,7 @@
 use Rattle.std.proofs.Common.{◌≡◌, ◌∷◌, ◌++◌, length, take}
 use Rattle.std.specs.Fmt.{decimal}
 use Rattle.std.specs.List.{flat_map}
-use Rattle.cube_model.specs.FirstText.{term_fields}
+use Rattle.cube_model.specs.Replies.{term_fields}
 use Rattle.script_text.specs.Reply.{fields_text}
 use Rattle.script_text.proofs.reply.append_terms.Given as goal
 

@@ -1,0 +1,296 @@
+#!/usr/bin/env python3
+"""Compares the built program with the plain model on random inputs: differential.py PROGRAM CASES SEED
+
+First come the worked examples, then so many cases. Compared are each byte of standard output, the status and standard
+error. At the first difference the input is written to a file, and the status is 1. A case is made from the seed and its
+number alone. At the end is printed how often each status and each code came.
+"""
+import re
+import subprocess
+import sys
+import tempfile
+from collections import Counter
+from pathlib import Path
+from random import Random
+
+sys.dont_write_bytecode = True
+
+import plain_model
+import plain_model_rows
+
+SECONDS = 60  # that the program may take for an input
+USAGE_EACH = 50  # one case of so many has words that are no command
+WRONG_WORDS = [
+    *([], [""], ["Try"], ["try", ""], ["try", "x"], ["try\n"], ["\udcff"]),
+    *(["help"], ["--help"], ["run"], ["drill", "0"]),
+]
+MOST_NODES = {1: 12, 2: 8, 3: 6, 4: 4, 6: 2, 7: 1}  # of a dimension, by how many there are; 7 are too many
+
+NAMES = [
+    *(b"a", b"b", b"c", b"d", b"All", b"TX", b"end", b"node", b"0", b"-1", b"#", b"x y", b" "),
+    *("Zürich".encode(), "東".encode(), b"y" * 128),
+]
+WRONG_NAMES = [b"", b"A", b"a ", b"Waco", b"x" * 128, b"x" * 129, b"\xc3\xbc" * 64, b"\xc3\xbc" * 65]
+VALUES = [b"0", b"1", b"2", b"-1", b"-3", b"7", b"100", b"1000000000000", b"-1000000000000"]
+WRONG_VALUES = [
+    *(b"", b"-", b"-0", b"+5", b"05", b"-05", b" 5", b"5 ", b"1.5", b"1e3", b"--1"),
+    *(b"1000000000001", b"-1000000000001", b"9" * 40, "٣".encode()),
+]
+IDS = [b"1", b"2", b"3", b"4", b"5", b"6", b"7", b"8", b"9223372036854775807"]
+WRONG_IDS = [b"", b"0", b"-1", b"+1", b"01", b"9223372036854775808", b"18446744073709551617", b"x", b"1 "]
+WRONG_DEPTHS = [b"", b"-1", b"01", b"9", b"10", b"x", b"256", b"4294967296"]
+WRONG_LINES = [
+    *(b"count", b"sum\ta", b"avg\ta\tb", b"pool\ta\tb", b"view\tx", b"view\tx\t1", b"worlds\ta"),
+    *(b"Insert\t1\ta", b"insert", b"withdraw", b"rows", b"terms", b"\t", b"x", b"error\tid", b"end", b"node\t1\tz"),
+    *(b"parts\tQ\t100\tgood\tbad", b"policy\tem", b"policy\tweight\ta", b"cube\t2", b"dimension\t", b"number\t"),
+]
+SKIPPED = [b"", b"\r", b"#", b"# insert\t1", b"#\xff\x00\r", b"#" + b"x" * 5000]
+HOSTILE = [
+    *(b"\xff", b"\xc3", b"\xed\xa0\x80", b"\xc0\xaf", b"\xf4\x90\x80\x80", b"\xef\xbb\xbf", b"\xe2\x82", b"\xc2\x80"),
+    *(b"\x00", b"\x01", b"\x1f", b"\x7f", b"\x0b", b"\r", b"\t", b"\n", b"\r\n", b" "),
+]
+
+
+class Tree:
+    """A dimension of a made schema: the depths and the names of its nodes."""
+
+    def __init__(self, random, most):
+        self.depths = [0]
+        for _ in range(random.randrange(most)):
+            self.depths.append(random.randint(1, min(self.depths[-1] + 1, plain_model.MAX_DEPTH)))
+        self.names = random.sample(NAMES, len(self.depths))
+
+    def lines(self):
+        return [b"node\t%d\t%s" % node for node in zip(self.depths, self.names)]
+
+    def node(self, random):
+        """A name, mostly of a leaf, so that precise facts are frequent."""
+        leaves = [name for name, here, below in zip(self.names, self.depths, [*self.depths[1:], 0]) if below <= here]
+        return random.choice(leaves if random.random() < 0.5 else self.names)
+
+
+class Made:
+    """A made input: the lines of a schema, and those of a script over it."""
+
+    def __init__(self, random):
+        self.random = random
+        dimensions = random.choices(list(MOST_NODES), [20, 30, 20, 10, 1, 1])[0]
+        self.trees = [Tree(random, MOST_NODES[dimensions]) for _ in range(dimensions)]
+        self.measures = random.sample(NAMES, random.choices([0, 1, 2, 3, 7, 8], [20, 20, 10, 10, 1, 1])[0])
+        self.ids = IDS[-random.choice([3, 6, 9]) :]
+        self.schema = self.schema_lines()
+        self.script = [self.script_line() for _ in range(random.choice([0, 10, 20, 40]))]
+
+    def schema_lines(self):
+        lines = [b"cube\t1", b"policy\t" + self.random.choice([b"uniform", b"count"])]
+        lines += [b"number\t" + name for name in self.measures]
+        for name, tree in zip(self.random.sample(NAMES, len(self.trees)), self.trees):
+            lines += [b"dimension\t" + name, *tree.lines()]
+        return [*lines, b"end"]
+
+    def script_line(self):
+        """A line, one of some eight of which has a wrong field, or a field too many or too few."""
+        fields = self.fields()
+        if self.random.random() < 0.12:
+            spoil(self.random, fields)
+        return b"\t".join(fields)
+
+    def fields(self):
+        random = self.random
+        word = random.choices([b"insert", b"change", b"withdraw", b"terms", b"rows"], [12, 4, 2, 6, 4])[0]
+        id = [random.choice(self.ids)]
+        nodes = [tree.node(random) for tree in self.trees]
+        values = [random.choice(VALUES) for _ in self.measures]
+        if word == b"terms":
+            return [word, *nodes]
+        return [word, *id, *nodes, *values] if word in (b"insert", b"change") else [word, *id]
+
+
+def spoil(random, fields):
+    """Makes a field wrong, takes one out, or puts one in."""
+    place = random.randrange(len(fields))
+    kind = random.randrange(6)
+    if kind == 0 and len(fields) > 1:
+        del fields[place]
+    elif kind == 1:
+        fields.insert(place, random.choice(NAMES + VALUES))
+    elif kind == 2:
+        fields[-1] = random.choice(WRONG_VALUES)
+    elif kind == 3 and len(fields) > 1:
+        fields[1] = random.choice(WRONG_IDS + WRONG_DEPTHS)
+    else:
+        fields[place] = random.choice(WRONG_NAMES + WRONG_VALUES + WRONG_IDS)
+
+
+# Changes of a list of lines, and of bytes.
+
+
+def wrong_line(random, lines):
+    lines.insert(random.randint(0, len(lines)), random.choice(WRONG_LINES))
+
+
+def spoiled_line(random, lines):
+    place = random.randrange(len(lines))
+    fields = lines[place].split(b"\t")
+    for _ in range(random.choice([1, 2])):
+        spoil(random, fields)
+    lines[place] = b"\t".join(fields)
+
+
+def dropped_line(random, lines):
+    del lines[random.randrange(len(lines))]
+
+
+def doubled_line(random, lines):
+    lines.insert(random.randint(0, len(lines)), random.choice(lines))
+
+
+def exchanged_lines(random, lines):
+    a, b = random.randrange(len(lines)), random.randrange(len(lines))
+    lines[a], lines[b] = lines[b], lines[a]
+
+
+def long_line(random, lines):
+    """A line of about as many bytes as a line may have, in one field or in many."""
+    place = random.randrange(len(lines))
+    missing = plain_model.MAX_LINE + random.randint(-2, 2) - len(lines[place])
+    lines[place] += random.choice([b"x", b"\t", b"0", b"\xff"]) * max(missing, 0)
+
+
+def hostile_bytes(random, lines):
+    place = random.randrange(len(lines))
+    at = random.randint(0, len(lines[place]))
+    lines[place] = lines[place][:at] + random.choice(HOSTILE) + lines[place][at + random.randint(0, 1) :]
+
+
+def altered_byte(random, lines):
+    place = random.randrange(len(lines))
+    if lines[place]:
+        at = random.randrange(len(lines[place]))
+        lines[place] = lines[place][:at] + bytes([random.randrange(256)]) + lines[place][at + 1 :]
+
+
+def cut_line(random, lines):
+    place = random.randrange(len(lines))
+    lines[place] = lines[place][: random.randint(0, len(lines[place]))]
+
+
+CHANGES = [
+    *(wrong_line, spoiled_line, dropped_line, doubled_line, exchanged_lines),
+    *(long_line, hostile_bytes, altered_byte, cut_line),
+]
+
+
+def changed(random, lines):
+    """The lines with one to three changes."""
+    lines = list(lines)
+    for _ in range(random.choice([1, 1, 2, 3])):
+        if lines:
+            random.choice(CHANGES)(random, lines)
+    return lines
+
+
+def with_skipped(random, lines):
+    return [line for old in lines for line in [*random.choices(SKIPPED, k=int(random.random() < 0.2)), old]]
+
+
+def joined(random, lines):
+    """The text of the lines, whose ends are LF, CR LF, or either. The last may have none, and bytes may stand in front."""
+    ends = random.choice([[b"\n"], [b"\n"], [b"\r\n"], [b"\n", b"\r\n"]])
+    text = b"".join(line + random.choice(ends) for line in lines)
+    text = random.choice(HOSTILE) + text if random.random() < 0.02 else text
+    return text.removesuffix(random.choice([b"", b"", b"\n", b"\r\n"]))
+
+
+def made_text(random):
+    """A text, one of some five of which has a changed schema, and one of some three a changed script."""
+    made = Made(random)
+    schema = changed(random, made.schema) if random.random() < 0.2 else made.schema
+    script = changed(random, made.script) if random.random() < 0.35 else made.script
+    lines = schema + script
+    if random.random() < 0.3:
+        lines = with_skipped(random, lines)
+    text = joined(random, lines)
+    return text[: random.randint(0, len(text))] if random.random() < 0.03 else text
+
+
+def made_case(seed, number):
+    """The words and the input of a case."""
+    random = Random(f"{seed} {number}")
+    words = random.choice(WRONG_WORDS) if random.randrange(USAGE_EACH) == 0 else ["try"]
+    return words, made_text(random)
+
+
+# The comparison.
+
+
+def program_ends(program, words, text):
+    """What the program writes, its status, and what it says on standard error."""
+    try:
+        done = subprocess.run([program, *words], input=text, capture_output=True, timeout=SECONDS)
+    except subprocess.TimeoutExpired:
+        return b"", f"none within {SECONDS} seconds", b""
+    return done.stdout, done.returncode, done.stderr
+
+
+def first_other_line(found, wanted):
+    """The place, from 1, of the first line in which two texts differ, with both lines."""
+    found, wanted = found.split(b"\n"), wanted.split(b"\n")
+    length = min(len(found), len(wanted))
+    place = next((k for k in range(length) if found[k] != wanted[k]), length)
+    return place + 1, found[place : place + 1], wanted[place : place + 1]
+
+
+def tell(name, words, text, found, wanted):
+    """Says how the ends of a case differ, and writes its input to a file."""
+    path = Path(tempfile.gettempdir()) / f"differential-{re.sub(r'[^a-z0-9]+', '-', name.lower())}.input"
+    path.write_bytes(text)
+    print(f"difference at {name}, words {words}, input in {path}")
+    for what, here, there in zip(("standard output", "status", "standard error"), found, wanted):
+        if isinstance(here, bytes) and here != there:
+            line, here, there = first_other_line(here, there)
+            what = f"{what}, line {line}"
+        if here != there:
+            print(f"  {what}: the program has {here!r}, the model {there!r}")
+
+
+def codes_of(ends):
+    """The status, and each code of refusal that was answered."""
+    written, status, said = ends
+    refusals = re.findall(rb"^error\t(\w+)$", written, re.MULTILINE)
+    faults = re.findall(rb"^cube: schema line \d+: (\w+)$", said)
+    return [f"status {status}", *(c.decode() for c in refusals), *(f"schema {c.decode()}" for c in faults)]
+
+
+def is_alike(program, name, words, text, wanted):
+    found = program_ends(program, words, text)
+    if found != wanted:
+        tell(name, words, text, found, wanted)
+    return found == wanted
+
+
+def compare_examples(program):
+    examples = plain_model_rows.examples() + plain_model_rows.slow_examples()
+    return all(is_alike(program, f"example {e.name}", ["try"], e.text, e.ends) for e in examples)
+
+
+def compare_cases(program, cases, seed):
+    seen = Counter()
+    for number in range(1, cases + 1):
+        words, text = made_case(seed, number)
+        wanted = plain_model.run(words, text)
+        if not is_alike(program, f"seed {seed} case {number}", words, text, wanted):
+            return False
+        seen.update(codes_of(wanted))
+    print(f"{cases} cases of seed {seed} are alike")
+    print(", ".join(f"{what} {count}" for what, count in sorted(seen.items())))
+    return True
+
+
+def main():
+    program, cases, seed = sys.argv[1], int(sys.argv[2]), int(sys.argv[3])
+    return 0 if compare_examples(program) and compare_cases(program, cases, seed) else 1
+
+
+if __name__ == "__main__":
+    sys.exit(main())

@@ -1,0 +1,493 @@
+#!/usr/bin/env python3
+"""A plain model of `cube try`, to compare the program with: plain_model.py try <INPUT
+
+It is the definitions made literal: lists, filters and sums over whole numbers of any size, cells listed one by one, and
+every fact allocated anew at each line. It shares nothing with the program, is slow, and is meant to be read.
+
+Left out are faults of the streams, want of memory, and the limit on the bytes of the input. Words of schemas and scripts
+that the program does not have yet are refused here as any unknown word is.
+"""
+import sys
+from itertools import product
+from math import prod
+from typing import Callable, NamedTuple
+
+# Limits.
+MAX_LINE = 4096  # bytes of a line, its CR counted and its LF not
+MAX_NAME = 128  # bytes of a name
+MAX_DIMENSIONS = 6
+MAX_NODES = 65_536  # of a dimension
+MAX_DEPTH = 8  # of a node; the root has 0
+MAX_VALUES = 7  # of a fact, its count not among them
+MAX_VALUE = 10**12  # absolute
+MAX_ID = 2**63 - 1
+MAX_PRODUCT = 2**62  # the products of leaves and of nodes are below it
+MAX_CELLS = 2**20  # of a fact's region
+MAX_FACTS = 2**20
+MAX_ROWS = 2**21  # of all facts
+
+# Statuses.
+FINISHED, FINISHED_WITH_REFUSALS, USAGE, SCHEMA_REFUSED = range(4)
+
+USAGE_TEXT = "usage: cube try, init NAME, run NAME, check NAME, import NAME, export NAME, drill N"
+
+
+class Refused(Exception):
+    """A line is refused, and this code says why."""
+
+    def __init__(self, code):
+        super().__init__(code)
+        self.code = code
+
+
+class SchemaFault(Exception):
+    """The first line of a schema that is refused, counted from 1, and its code."""
+
+    def __init__(self, line, code):
+        super().__init__(line, code)
+        self.line = line
+        self.code = code
+
+
+def refuse_where(condition, code):
+    """Refuses the line where the condition holds. Conditions are tried in order, so the first that holds is told."""
+    if condition:
+        raise Refused(code)
+
+
+# Lines, fields, names and numbers.
+
+
+def lines_of(text):
+    """LF ends a line, and what is left behind the last LF is a line where it is not empty."""
+    *lines, rest = text.split(b"\n")
+    return lines + [rest] if rest else lines
+
+
+def without_cr(line):
+    """The line without one final CR."""
+    return line[:-1] if line.endswith(b"\r") else line
+
+
+def is_skipped(line):
+    """Nothing stands in the line, or a comment, however long it is and whatever its bytes."""
+    return without_cr(line) == b"" or line.startswith(b"#")
+
+
+def is_utf8(text):
+    try:
+        text.decode("utf-8")
+    except UnicodeDecodeError:
+        return False
+    return True
+
+
+def is_control(byte):
+    return byte < 32 or byte == 127
+
+
+def is_clean(line):
+    """The line is UTF-8 and has no control byte but TAB."""
+    return is_utf8(line) and not any(is_control(byte) for byte in line.replace(b"\t", b""))
+
+
+def is_name(text):
+    return 1 <= len(text) <= MAX_NAME and is_utf8(text) and not any(is_control(byte) for byte in text)
+
+
+def fields_of(line):
+    """What stands between the TABs of a line that is neither too long nor unclean."""
+    refuse_where(len(line) > MAX_LINE, "long")
+    refuse_where(not is_clean(without_cr(line)), "text")
+    return without_cr(line).split(b"\t")
+
+
+def number_in(least, most, text):
+    """The number of this range that the text spells, if it spells one: digits alone, and no 0 before another digit."""
+    if not text.isdigit() or (text.startswith(b"0") and text != b"0"):
+        return None
+    return int(text) if least <= int(text) <= most else None
+
+
+def value_in(text):
+    """The value of a measure that the text spells, if it spells one: a number, or `-` and a number other than 0."""
+    if not text.startswith(b"-"):
+        return number_in(0, MAX_VALUE, text)
+    size = number_in(1, MAX_VALUE, text[1:])
+    return None if size is None else -size
+
+
+# Schemas.
+
+
+class Dimension(NamedTuple):
+    """A tree. Nodes are numbered from 0 in the order of their lines, each parent before its children."""
+
+    names: list  # of each node
+    leaves_under: list  # of each node: the leaves that are it or lie below it, in order
+
+
+class Schema(NamedTuple):
+    weight: Callable  # what a cell weighs by its number of precise facts
+    measures: list  # names
+    dimensions: list
+
+
+class Draft:
+    """What the lines of a schema said so far."""
+
+    def __init__(self):
+        self.last_word = None
+        self.weight = None
+        self.measures = []
+        self.dimensions = []  # names
+        self.depths = []  # of each dimension: the depths of its nodes
+        self.names = []  # of each dimension: the names of its nodes, as the keys of a dict
+
+
+POLICIES = {
+    b"uniform": lambda count: 1,
+    b"count": lambda count: count,
+}
+
+
+def read_version(draft, version):
+    refuse_where(version != b"1", "number")
+
+
+def read_policy(draft, policy):
+    refuse_where(policy not in POLICIES, "policy")
+    draft.weight = POLICIES[policy]
+
+
+def read_measure(draft, name):
+    refuse_where(not is_name(name) or name in draft.measures, "name")
+    refuse_where(len(draft.measures) == MAX_VALUES, "limit")
+    draft.measures.append(name)
+
+
+def read_dimension(draft, name):
+    refuse_where(not is_name(name) or name in draft.dimensions, "name")
+    refuse_where(len(draft.dimensions) == MAX_DIMENSIONS, "limit")
+    draft.dimensions.append(name)
+    draft.depths.append([])
+    draft.names.append({})
+
+
+def read_node(draft, depth_text, name):
+    depths, names = draft.depths[-1], draft.names[-1]
+    refuse_where(not is_name(name) or name in names, "name")
+    depth = number_in(0, MAX_DEPTH, depth_text)
+    refuse_where(depth is None, "number")
+    refuse_where(not may_follow(depths, depth), "depth")
+    refuse_where(len(depths) == MAX_NODES, "limit")
+    depths.append(depth)
+    names[name] = len(names)
+
+
+def may_follow(depths, depth):
+    """The first node of a dimension is the root, and no other is. A node lies at most one deeper than the one before."""
+    return 1 <= depth <= depths[-1] + 1 if depths else depth == 0
+
+
+def read_end(draft):
+    dimensions = dimensions_of(draft)
+    refuse_where(prod(len(dim.leaves_under[0]) for dim in dimensions) >= MAX_PRODUCT, "cells")
+    refuse_where(prod(len(dim.names) for dim in dimensions) >= MAX_PRODUCT, "nodes")
+
+
+class SchemaWord(NamedTuple):
+    follows: tuple  # the words of the line before; None where there is none
+    fields: int  # the word counted
+    read: Callable  # judges and adds the fields behind the word
+
+
+SCHEMA_WORDS = {
+    b"cube": SchemaWord((None,), 2, read_version),
+    b"policy": SchemaWord((b"cube",), 2, read_policy),
+    b"number": SchemaWord((b"policy", b"number"), 2, read_measure),
+    b"dimension": SchemaWord((b"policy", b"number", b"node"), 2, read_dimension),
+    b"node": SchemaWord((b"dimension", b"node"), 3, read_node),
+    b"end": SchemaWord((b"node",), 1, read_end),
+}
+
+
+def read_schema_line(draft, line):
+    """Judges a line that is not skipped, and adds what it says to the draft."""
+    fields = fields_of(line)
+    word = SCHEMA_WORDS.get(fields[0])
+    refuse_where(word is None or draft.last_word not in word.follows, "order")
+    refuse_where(len(fields) != word.fields, "fields")
+    word.read(draft, *fields[1:])
+    draft.last_word = fields[0]
+
+
+def read_schema(lines):
+    """The schema with which the lines begin, and the lines behind it. Skipped lines count."""
+    draft = Draft()
+    for place, line in enumerate(lines, 1):
+        try:
+            if not is_skipped(line):
+                read_schema_line(draft, line)
+        except Refused as refused:
+            raise SchemaFault(place, refused.code) from None
+        if draft.last_word == b"end":
+            return Schema(draft.weight, draft.measures, dimensions_of(draft)), lines[place:]
+    raise SchemaFault(len(lines) + 1, "cut")
+
+
+# Trees.
+
+
+def dimensions_of(draft):
+    return [Dimension(list(names), leaves_under(depths)) for names, depths in zip(draft.names, draft.depths)]
+
+
+def parents_of(depths):
+    """The parent of each node: the nearest node before it whose depth is one less. The root has none."""
+    nearest = {}  # by depth
+    parents = []
+    for node, depth in enumerate(depths):
+        parents.append(nearest.get(depth - 1))
+        nearest[depth] = node
+    return parents
+
+
+def leaves_under(depths):
+    """For each node, the leaves from which climbing meets it. A leaf is a node that is no node's parent."""
+    parents = parents_of(depths)
+    inner = set(parents)
+    under = [[] for _ in depths]
+    for leaf in range(len(depths)):
+        node = None if leaf in inner else leaf
+        while node is not None:
+            under[node].append(leaf)
+            node = parents[node]
+    return under
+
+
+# Facts, and how they lie.
+
+
+class Fact(NamedTuple):
+    id: int
+    region: tuple  # a node of each dimension
+    values: tuple  # a value of each measure
+
+
+class Allocation(NamedTuple):
+    denominator: int
+    rows: list  # of a cell and its weight, which is at least 1
+
+
+def cell_count(schema, region):
+    return prod(len(dim.leaves_under[node]) for dim, node in zip(schema.dimensions, region))
+
+
+def cells_of(schema, region):
+    """The cells of a region: each tuple of a leaf under its node in every dimension, the first dimension slowest."""
+    return list(product(*(dim.leaves_under[node] for dim, node in zip(schema.dimensions, region))))
+
+
+def is_inside(schema, cell, region):
+    return all(leaf in dim.leaves_under[node] for dim, leaf, node in zip(schema.dimensions, cell, region))
+
+
+def precise_cells(schema, facts):
+    """The cell of each fact whose region is one cell alone, as often as there are such facts."""
+    return [cells_of(schema, fact.region)[0] for fact in facts if cell_count(schema, fact.region) == 1]
+
+
+def evenly(cells):
+    return Allocation(len(cells), [(cell, 1) for cell in cells])
+
+
+def allocate(schema, precise, fact):
+    """One cell has the whole fact. More cells share it by their weights, and evenly where none weighs anything."""
+    cells = cells_of(schema, fact.region)
+    if len(cells) == 1:
+        return evenly(cells)
+    rows = [(cell, schema.weight(precise.count(cell))) for cell in cells]
+    total = sum(weight for _, weight in rows)
+    if total == 0:
+        return evenly(cells)
+    return Allocation(total, [(cell, weight) for cell, weight in rows if weight > 0])
+
+
+def extended(schema, facts):
+    """Every fact with its allocation among the facts."""
+    precise = precise_cells(schema, facts)
+    return [(fact, allocate(schema, precise, fact)) for fact in facts]
+
+
+def refreshed(before, after):
+    """The facts of the later table that are new or lie otherwise than in the earlier one."""
+    lay = {fact.id: lies for fact, lies in before}
+    return [fact for fact, lies in after if lay.get(fact.id) != lies]
+
+
+def weight_inside(schema, allocation, region):
+    return sum(weight for cell, weight in allocation.rows if is_inside(schema, cell, region))
+
+
+def answer(schema, facts, region):
+    """What the facts add up to inside a region: for each denominator, ascending, the count and each measure's sum."""
+    table = extended(schema, facts)
+    terms = []
+    for denominator in sorted({allocation.denominator for _, allocation in table}):
+        over = [(fact, weight_inside(schema, a, region)) for fact, a in table if a.denominator == denominator]
+        count = sum(weight for _, weight in over)
+        sums = [sum(weight * fact.values[m] for fact, weight in over) for m in range(len(schema.measures))]
+        if count != 0:
+            terms.append([denominator, count, *sums])
+    return terms
+
+
+# Lines of a script.
+
+
+def reply_line(word, *items):
+    fields = [item if isinstance(item, bytes) else str(item).encode() for item in items]
+    return b"\t".join([word, *fields]) + b"\n"
+
+
+def read_id(text):
+    id = number_in(1, MAX_ID, text)
+    refuse_where(id is None, "id")
+    return id
+
+
+def read_region(schema, names):
+    """The nodes of these names, one of each dimension."""
+    refuse_where(any(name not in dim.names for dim, name in zip(schema.dimensions, names)), "node")
+    return tuple(dim.names.index(name) for dim, name in zip(schema.dimensions, names))
+
+
+def read_fact(schema, id_text, *fields):
+    """The fact of an id, a node of each dimension, and a value of each measure."""
+    id = read_id(id_text)
+    region = read_region(schema, fields[: len(schema.dimensions)])
+    values = tuple(value_in(text) for text in fields[len(schema.dimensions) :])
+    refuse_where(None in values, "value")
+    return Fact(id, region, values)
+
+
+def has_id(facts, id):
+    return any(fact.id == id for fact in facts)
+
+
+def without(facts, id):
+    return [fact for fact in facts if fact.id != id]
+
+
+def with_fact(facts, new):
+    """The facts ascending by id, with one whose id none of them has."""
+    return [f for f in facts if f.id < new.id] + [new] + [f for f in facts if f.id > new.id]
+
+
+def do_insert(schema, facts, *fields):
+    fact = read_fact(schema, *fields)
+    refuse_where(has_id(facts, fact.id), "exists")
+    refuse_where(cell_count(schema, fact.region) > MAX_CELLS, "region")
+    refuse_where(len(facts) >= MAX_FACTS, "facts")
+    return edited(schema, facts, with_fact(facts, fact))
+
+
+def do_change(schema, facts, *fields):
+    fact = read_fact(schema, *fields)
+    refuse_where(not has_id(facts, fact.id), "missing")
+    refuse_where(cell_count(schema, fact.region) > MAX_CELLS, "region")
+    return edited(schema, facts, with_fact(without(facts, fact.id), fact))
+
+
+def do_withdraw(schema, facts, id_text):
+    id = read_id(id_text)
+    refuse_where(not has_id(facts, id), "missing")
+    return edited(schema, facts, without(facts, id))
+
+
+def edited(schema, facts, later):
+    """An edit that leads from some facts to others is answered how many facts it refreshed."""
+    after = extended(schema, later)
+    refuse_where(sum(len(allocation.rows) for _, allocation in after) > MAX_ROWS, "rows")
+    return reply_line(b"ok", len(refreshed(extended(schema, facts), after))), later
+
+
+def do_terms(schema, facts, *names):
+    found = answer(schema, facts, read_region(schema, names))
+    return reply_line(b"terms", len(found), *(number for term in found for number in term)), facts
+
+
+def do_rows(schema, facts, id_text):
+    id = read_id(id_text)
+    refuse_where(not has_id(facts, id), "missing")
+    [found] = [allocation for fact, allocation in extended(schema, facts) if fact.id == id]
+    items = [item for cell, weight in found.rows for item in [*cell_names(schema, cell), weight]]
+    return reply_line(b"rows", found.denominator, len(found.rows), *items), facts
+
+
+def cell_names(schema, cell):
+    return [dim.names[leaf] for dim, leaf in zip(schema.dimensions, cell)]
+
+
+# Each command with what it does, which gives the reply and the facts after it, and whether its line has an id, a node
+# of each dimension, a value of each measure.
+COMMANDS = {
+    b"insert": (do_insert, True, True, True),
+    b"change": (do_change, True, True, True),
+    b"withdraw": (do_withdraw, True, False, False),
+    b"terms": (do_terms, False, True, False),
+    b"rows": (do_rows, True, False, False),
+}
+
+
+def do_line(schema, facts, line):
+    """The reply to a line that is not refused, and the facts after it."""
+    word, *fields = fields_of(line)
+    refuse_where(word not in COMMANDS, "command")
+    command, has_id_field, has_nodes, has_values = COMMANDS[word]
+    count = has_id_field + has_nodes * len(schema.dimensions) + has_values * len(schema.measures)
+    refuse_where(len(fields) != count, "fields")
+    return command(schema, facts, *fields)
+
+
+def do_lines(schema, lines):
+    """The replies to the lines, done one after the other from no fact on, and how many were refused."""
+    facts, replies, refusals = [], [], 0
+    for line in lines:
+        if is_skipped(line):
+            continue
+        try:
+            reply, facts = do_line(schema, facts, line)
+        except Refused as refused:
+            reply = reply_line(b"error", refused.code)
+            refusals += 1
+        replies.append(reply)
+    return b"".join(replies), refusals
+
+
+# The program.
+
+
+def run(words, text):
+    """What the program writes for the words of its command line and its input, its status, and its standard error."""
+    if words != ["try"]:
+        return b"", USAGE, f"cube: {USAGE_TEXT}\n".encode()
+    try:
+        schema, script = read_schema(lines_of(text))
+    except SchemaFault as fault:
+        return b"", SCHEMA_REFUSED, f"cube: schema line {fault.line}: {fault.code}\n".encode()
+    replies, refusals = do_lines(schema, script)
+    return replies, FINISHED_WITH_REFUSALS if refusals else FINISHED, b""
+
+
+def main():
+    words = sys.argv[1:]
+    written, status, said = run(words, sys.stdin.buffer.read() if words == ["try"] else b"")
+    sys.stdout.buffer.write(written)
+    sys.stderr.buffer.write(said)
+    return status
+
+
+if __name__ == "__main__":
+    sys.exit(main())

@@ -1,0 +1,347 @@
+#!/usr/bin/env python3
+"""Examples worked out by hand, each run through the plain model: plain_model_rows.py [slow]
+
+With `slow` those are run too that list millions of cells, in about half a minute and 500 MB. The status is 1 where the
+model says anything else than an example. `|` stands for a TAB.
+"""
+import sys
+from typing import NamedTuple
+from unittest.mock import patch
+
+sys.dont_write_bytecode = True
+
+import plain_model
+
+
+class Example(NamedTuple):
+    name: str
+    text: bytes
+    ends: tuple  # what is written, the status, and what is said on standard error
+
+
+def encoded(lines, behind="\n"):
+    """A text of lines. Bytes that are no UTF-8 are written as surrogates."""
+    return "".join(line.replace("|", "\t") + behind for line in lines).encode("utf-8", "surrogateescape")
+
+
+def lines_in(text):
+    return text.strip().split("\n")
+
+
+CARS = lines_in("""
+cube|1
+policy|count
+number|Repair
+dimension|Place
+node|0|All
+node|1|TX
+node|2|Austin
+node|2|Dallas
+node|2|Houston
+node|1|CA
+node|2|LA
+node|2|SF
+dimension|Auto
+node|0|All
+node|1|Sedan
+node|2|Camry
+node|2|Civic
+node|1|Truck
+node|2|F150
+node|2|Sierra
+end
+""")
+
+# Nevada has one city alone.
+ONE_CITY = lines_in("""
+cube|1
+policy|count
+dimension|Place
+node|0|All
+node|1|NV
+node|2|Reno
+node|1|TX
+node|2|Austin
+node|2|Dallas
+end
+""")
+
+# 1,024 x 1,025 cells, of which 2^20 are at (L, S).
+GRID = [
+    *lines_in("cube|1\npolicy|count\ndimension|Left\nnode|0|L"),
+    *(f"node|1|l{k}" for k in range(1, 1025)),
+    *lines_in("dimension|Right\nnode|0|R\nnode|1|S"),
+    *(f"node|2|s{k}" for k in range(1, 1025)),
+    *lines_in("node|1|t\nend"),
+]
+
+REPAIRS = [
+    ("insert|1|Austin|Camry|100", "ok|1"),
+    ("insert|2|Austin|Camry|300", "ok|1"),
+    ("insert|3|Dallas|Camry|50", "ok|1"),
+    ("insert|4|TX|Camry|600", "ok|1"),
+    ("rows|4", "rows|3|2|Austin|Camry|2|Dallas|Camry|1"),
+]
+
+# Scripts: a name, a schema, and each line with its reply.
+SCRIPTS = [
+    ("a fact lies by the precise facts of its cells", CARS, REPAIRS),
+    ("a fact lies evenly where no cell weighs anything", CARS, [
+        *REPAIRS,
+        ("withdraw|1", "ok|1"),
+        ("withdraw|2", "ok|1"),
+        ("withdraw|3", "ok|1"),
+        ("rows|4", "rows|3|3|Austin|Camry|1|Dallas|Camry|1|Houston|Camry|1"),
+    ]),
+    ("a change moves a fact and refreshes another", CARS, [
+        *REPAIRS,
+        ("change|3|Houston|Camry|50", "ok|2"),
+        ("rows|4", "rows|3|2|Austin|Camry|2|Houston|Camry|1"),
+    ]),
+    ("a node over one leaf stands for that leaf", ONE_CITY, [
+        ("insert|1|NV", "ok|1"),
+        ("rows|1", "rows|1|1|Reno|1"),
+        ("insert|2|All", "ok|1"),
+        ("rows|2", "rows|1|1|Reno|1"),
+        ("terms|Reno", "terms|1|1|2"),
+    ]),
+    ("a change of a value alone refreshes nothing", CARS, [
+        *REPAIRS,
+        ("change|2|Austin|Camry|301", "ok|0"),
+        ("terms|Austin|Camry", "terms|2|1|2|401|3|2|1200"),
+    ]),
+    ("no fact", CARS, [("terms|All|All", "terms|0")]),
+    ("ids", CARS, [
+        ("insert|0|Austin|Camry|1", "error|id"),
+        ("insert|9223372036854775808|Austin|Camry|1", "error|id"),
+        ("insert|9223372036854775807|Austin|Camry|1", "ok|1"),
+        ("insert|9223372036854775807|Austin|Camry|1", "error|exists"),
+        ("withdraw|5", "error|missing"),
+        ("rows|5", "error|missing"),
+        ("insert|01|Austin|Camry|1", "error|id"),
+        ("insert||Austin|Camry|1", "error|id"),
+    ]),
+    ("values", CARS, [
+        ("insert|1|LA|Civic|1000000000000", "ok|1"),
+        ("insert|2|LA|Civic|1000000000001", "error|value"),
+        ("insert|2|LA|Civic|+5", "error|value"),
+        ("insert|2|LA|Civic|05", "error|value"),
+        ("insert|2|LA|Civic|-0", "error|value"),
+        ("insert|2|LA|Civic|-", "error|value"),
+        ("insert|2|LA|Civic|", "error|value"),
+        ("insert|2|LA|Civic|-1000000000001", "error|value"),
+        ("insert|2|LA|Civic|-1000000000000", "ok|1"),
+        ("terms|LA|All", "terms|1|1|2|0"),
+    ]),
+    ("terms add up by their denominators", CARS, [
+        *REPAIRS,
+        ("terms|Austin|Camry", "terms|2|1|2|400|3|2|1200"),
+        ("terms|Dallas|Camry", "terms|2|1|1|50|3|1|600"),
+        ("terms|Houston|Camry", "terms|0"),
+        ("terms|TX|Camry", "terms|2|1|3|450|3|3|1800"),
+    ]),
+    ("the first condition that holds", CARS, [
+        ("Insert|1|Austin|Camry|1", "error|command"),
+        ("insert|1|Austin|Camry", "error|fields"),
+        ("insert|0|Waco|Camry|+5", "error|id"),
+        ("insert|1|Waco|Camry|+5", "error|node"),
+        ("change|1|Austin|Camry|+5", "error|value"),
+        ("change|1|Austin|Camry|5", "error|missing"),
+        ("insert|1|Austin|Camry|1\x01|2", "error|text"),
+        ("inse\udcffrt", "error|text"),
+        ("terms|All|All\r", "terms|0"),
+        ("terms|All|All\r\r", "error|text"),
+        ("terms|All", "error|fields"),
+        ("rows", "error|fields"),
+        ("|rows", "error|command"),
+        ("\udcff" * 4097, "error|long"),
+        ("x" * 4096 + "\r", "error|long"),
+        ("x" * 4095 + "\r", "error|command"),
+        ("#" + "\udcff" * 5000, None),
+        ("\r", None),
+    ]),
+    ("words that are not known yet", CARS, [
+        ("count|All|All", "error|command"),
+        ("sum|Repair|All|All", "error|command"),
+        ("avg|Repair|All|All", "error|command"),
+        ("pool|Repair|All|All", "error|command"),
+        ("view|state", "error|command"),
+        ("worlds|All|All", "error|command"),
+    ]),
+    ("the most cells of a region", GRID, [("insert|1|L|R", "error|region"), ("change|1|L|R", "error|missing")]),
+]
+
+SLOW_SCRIPTS = [
+    ("the most rows", GRID, [
+        ("insert|1|L|R", "error|region"),
+        ("insert|1|L|S", "ok|1"),
+        ("insert|2|L|S", "ok|1"),
+        ("insert|3|l1|t", "error|rows"),
+        ("insert|3|l1|s1", "ok|3"),
+        ("insert|4|L|S", "ok|1"),
+        ("withdraw|3", "error|rows"),
+        ("withdraw|4", "ok|0"),
+        ("withdraw|3", "ok|2"),
+    ]),
+]
+
+# With these limits the order of the refusals that large inputs alone meet is seen on small ones.
+SMALL_LIMITS = {"MAX_CELLS": 5, "MAX_FACTS": 3, "MAX_ROWS": 6}
+
+LIMITED_SCRIPTS = [
+    ("limits in their order", CARS, [
+        ("change|1|All|All|0", "error|missing"),
+        ("insert|1|All|All|0", "error|region"),
+        ("insert|1|TX|Camry|0", "ok|1"),
+        ("insert|1|All|All|0", "error|exists"),
+        ("change|1|All|All|0", "error|region"),
+        ("insert|2|TX|Camry|0", "ok|1"),
+        ("insert|3|Austin|Sedan|0", "error|rows"),
+        ("change|2|TX|Sedan|0", "error|region"),
+        ("insert|3|Austin|Camry|0", "ok|3"),
+        ("insert|4|All|All|0", "error|region"),
+        ("insert|4|TX|F150|0", "error|facts"),
+        ("change|3|TX|F150|0", "error|rows"),
+        ("rows|3", "rows|1|1|Austin|Camry|1"),
+        ("withdraw|3", "ok|2"),
+        ("insert|3|LA|F150|0", "error|rows"),
+    ]),
+]
+
+# The cars with another line in the place of one, the line that is then at fault, and its code.
+FAULTS = [
+    (1, "cube|2", 1, "number"),
+    (1, "cube", 1, "fields"),
+    (1, "\ufeffcube|1", 1, "order"),
+    (1, "policy|count", 1, "order"),
+    (2, "policy", 2, "fields"),
+    (2, "policy|em", 2, "policy"),
+    (2, "policy|weight|Repair", 2, "fields"),
+    (3, "parts|Quality|100|good|bad", 3, "order"),
+    (3, "policy|count", 3, "order"),
+    (3, "number|", 3, "name"),
+    (4, "number|Repair", 4, "name"),
+    (5, "node|1|All", 5, "depth"),
+    (5, "end", 5, "order"),
+    (6, "node|9|x", 6, "number"),
+    (6, "node|01|x", 6, "number"),
+    (6, "node|0|x", 6, "depth"),
+    (6, "node|x|All", 6, "name"),
+    (7, "node|3|Austin", 7, "depth"),
+    (8, "node|2|Austin", 8, "name"),
+    (8, "node|2|Dal\x7flas", 8, "text"),
+    (8, "node|2|Dal\udcfflas", 8, "text"),
+    (13, "dimension|Place", 13, "name"),
+    (21, "view|state|1|1", 21, "order"),
+    (21, "end|", 21, "fields"),
+    (21, "# end", 22, "cut"),
+    (21, "#" + "\udcff" * 5000, 22, "cut"),
+]
+
+
+def wide(dimensions, leaves):
+    """A schema of so many dimensions, each of a root and so many leaves under it."""
+    lines = ["cube|1", "policy|uniform"]
+    for dimension in range(dimensions):
+        lines += [f"dimension|{dimension}", "node|0|All", *(f"node|1|{leaf}" for leaf in range(leaves))]
+    return [*lines, "end"]
+
+
+def measured(measures):
+    return ["cube|1", "policy|uniform", *(f"number|{k}" for k in range(measures)), "dimension|x", "node|0|All", "end"]
+
+
+def named(name):
+    return ["cube|1", "policy|uniform", f"number|{name}"]
+
+
+# Whole schemas: a name, the lines, the line at fault and its code, or None.
+SCHEMAS = [
+    ("nothing", [], (1, "cut")),
+    ("skipped lines count", ["", "# a\r", "cube|1", "\r", "policy|em"], (5, "policy")),
+    ("a name of 128 bytes", named("x" * 128), (4, "cut")),
+    ("a name of 129 bytes", named("x" * 129), (3, "name")),
+    ("a line of 4,096 bytes", named("x" * 4089), (3, "name")),
+    ("a line of 4,097 bytes", named("x" * 4090), (3, "long")),
+    ("a line of 4,097 bytes with its CR", named("x" * 4089 + "\r"), (3, "long")),
+    ("the deepest node", ["cube|1", "policy|count", "dimension|x", *(f"node|{k}|{k}" for k in range(10))], (13, "number")),
+    ("seven measures", measured(7), None),
+    ("eight measures", measured(8), (10, "limit")),
+    ("six dimensions", wide(6, 1), None),
+    ("seven dimensions", wide(7, 1), (21, "limit")),
+    ("65,536 nodes", wide(1, 65_535), None),
+    ("65,537 nodes", wide(1, 65_536), (65_540, "limit")),
+    ("products below 2^62", wide(6, 1289), None),
+    ("a product of nodes above 2^62", wide(6, 1290), (7755, "nodes")),
+    ("a product of leaves above 2^62", wide(6, 1291), (7761, "cells")),
+]
+
+
+def script_example(name, schema, rows):
+    lines = schema + [line for line, _ in rows]
+    replies = [reply for _, reply in rows if reply is not None]
+    refused = any(reply.startswith("error|") for reply in replies)
+    return Example(name, encoded(lines), (encoded(replies), int(refused), b""))
+
+
+def schema_example(name, lines, fault):
+    if fault is None:
+        return Example(name, encoded(lines), (b"", 0, b""))
+    line, code = fault
+    return Example(name, encoded(lines), (b"", 3, f"cube: schema line {line}: {code}\n".encode()))
+
+
+def fault_example(place, line, at, code):
+    return schema_example(f"line {place} is {line[:40]!a}", CARS[: place - 1] + [line] + CARS[place:], (at, code))
+
+
+def spelled_otherwise():
+    """The same script with other line ends, and with lines between that say nothing."""
+    lines = CARS + [line for line, _ in REPAIRS]
+    ends = encoded([reply for _, reply in REPAIRS]), 0, b""
+    return [
+        Example("CR LF", encoded(lines, "\r\n"), ends),
+        Example("no last LF", encoded(lines).removesuffix(b"\n"), ends),
+        Example("a last CR without LF", encoded(lines, "\r\n").removesuffix(b"\n"), ends),
+        Example("skipped lines between", encoded(lines, "\n\n# node|9\n\r\n#\r\n"), ends),
+    ]
+
+
+def examples():
+    """All examples but the slow ones."""
+    return [
+        *(script_example(*row) for row in SCRIPTS),
+        *spelled_otherwise(),
+        *(fault_example(*row) for row in FAULTS),
+        *(schema_example(*row) for row in SCHEMAS),
+        Example("end without LF", encoded(CARS).removesuffix(b"\n"), (b"", 0, b"")),
+    ]
+
+
+def slow_examples():
+    return [script_example(*row) for row in SLOW_SCRIPTS]
+
+
+def limited_examples():
+    return [script_example(*row) for row in LIMITED_SCRIPTS]
+
+
+def holds(example):
+    """Whether the model says what the example says. Where it does not, both are printed."""
+    found = plain_model.run(["try"], example.text)
+    if found != example.ends:
+        print(f"{example.name}: the model ends with\n{found}\nand the example with\n{example.ends}")
+    return found == example.ends
+
+
+def main():
+    chosen = examples() + (slow_examples() if sys.argv[1:] == ["slow"] else [])
+    held = [holds(example) for example in chosen]
+    with patch.multiple(plain_model, **SMALL_LIMITS):
+        held += [holds(example) for example in limited_examples()]
+    print(f"{len(held)} examples, {held.count(False)} wrong")
+    return 0 if all(held) else 1
+
+
+if __name__ == "__main__":
+    sys.exit(main())

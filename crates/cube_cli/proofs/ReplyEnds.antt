@@ -1,0 +1,94 @@
+-- Where a text of replies is cut, their ends tell how many of them are whole.
+use Rattle.std.proofs.Common.{◌≡◌, ℕ, suc, ◌+◌, ◌-◌, ◌<◌, ◌≤◌, true, false, List, [], ◌∷◌, ◌++◌, length, take, refl, ap, ◌∙◌, append-nil, inl, inr, arith, length-append}
+use Rattle.std.specs.Prelude.{if◌then◌else◌, nat_le}
+use Rattle.std.specs.List.{concat}
+use Rattle.std.specs.Io.{StartsWith}
+use Rattle.std.proofs.lemmas.Bool.{cases_lt}
+use Rattle.std.proofs.lemmas.Bool.Decides.{nat_tests}
+use Rattle.std.proofs.lemmas.List.{take-append-le, length-take-le}
+use Rattle.std.proofs.lemmas.List.Sums.{sum_by-cons}
+use Rattle.std.proofs.Math.Seq.{take-append-add, take-append_seam}
+use Rattle.cube_cli.specs.ReplyEnds.{ends_from, whole_within}
+
+pub length-ends_from : (start : ℕ) (texts : List (List ℕ)) → length (ends_from start texts) ≡ length texts
+length-ends_from start [] = refl
+length-ends_from start (text ∷ texts) = ap suc (length-ends_from (start + length text) texts)
+
+-- one reply more ends where all of them end
+pub ends_from-push : (start : ℕ) (texts : List (List ℕ)) (text : List ℕ) (end : ℕ) → end ≡ start + length (concat texts) + length text
+    → ends_from start (texts ++ text ∷ []) ≡ ends_from start texts ++ end ∷ []
+ends_from-push start [] text end last = ap (λ n. n ∷ []) (omega arith)
+ends_from-push start (first ∷ texts) text end last =
+    ap (λ ends. (start + length first) ∷ ends) (ends_from-push (start + length first) texts text end (omega (arith, length-append first (concat texts))))
+
+-- a reply that ends within the bytes counts
+whole_within-whole : (bytes end : ℕ) (ends : List ℕ) → end ≤ bytes → whole_within bytes (end ∷ ends) ≡ suc (whole_within bytes ends)
+whole_within-whole bytes end ends le =
+    let inside : nat_le end bytes ≡ true = grind (arith, nat_tests) in
+    sum_by-cons (λ e. if nat_le e bytes then 1 else 0) end ends ∙ rw inside (omega arith)
+
+-- one that ends behind them does not
+whole_within-part : (bytes end : ℕ) (ends : List ℕ) → bytes < end → whole_within bytes (end ∷ ends) ≡ whole_within bytes ends
+whole_within-part bytes end ends lt =
+    let outside : nat_le end bytes ≡ false = grind (arith, nat_tests) in
+    sum_by-cons (λ e. if nat_le e bytes then 1 else 0) end ends ∙ rw outside (omega arith)
+
+-- no reply ends within fewer bytes than stand before it
+none_whole : (start bytes : ℕ) (texts : List (List ℕ)) → bytes < start → whole_within bytes (ends_from start texts) ≡ 0
+none_whole start bytes [] lt = refl
+none_whole start bytes (text ∷ texts) lt =
+    whole_within-part bytes (start + length text) (ends_from (start + length text) texts) (omega arith) ∙ none_whole (start + length text) bytes texts (omega arith)
+
+-- a text begins with its front
+pub starts_with_front : (front back : List ℕ) → StartsWith (front ++ back) front
+starts_with_front front back = take-append_seam front back
+
+-- so do two texts with one front, where the rests do
+pub starts_with_both : (front xs ys : List ℕ) → StartsWith xs ys → StartsWith (front ++ xs) (front ++ ys)
+starts_with_both front xs ys starts = rw length-append (take-append-add front xs (length ys) ∙ ap (λ l. front ++ l) starts)
+
+-- a text cut within its first part
+take_first : (front back : List ℕ) (p : ℕ) → p < length front → take p (front ++ back) ≡ take p front
+take_first front back p part = take-append-le p front back (omega arith)
+
+-- What p bytes of replies hold: so many of them whole, and a part of the next.
+pub record CutAt (texts : List (List ℕ)) (p : ℕ) (whole : ℕ) : Type 0 where
+  pub more : whole < length texts
+  pub holds : StartsWith (take p (concat texts)) (concat (take whole texts))
+  pub prefix : StartsWith (concat (take (suc whole) texts)) (take p (concat texts))
+  pub part : p < length (concat (take (suc whole) texts))
+
+cut_first : (text : List ℕ) (texts : List (List ℕ)) (p : ℕ) → p < length text → CutAt (text ∷ texts) p 0
+cut_first text texts p part = record {
+  more = omega arith;
+  holds = refl;
+  prefix = rw (append-nil text, take_first text (concat texts) p part, length-take-le p text (omega arith)) refl;
+  part = rw append-nil part;
+}
+
+cut_later : (text : List ℕ) (texts : List (List ℕ)) (p q whole : ℕ) → p ≡ length text + q → CutAt texts q whole → CutAt (text ∷ texts) p (suc whole)
+cut_later text texts p q whole split cut =
+    let taken : take p (text ++ concat texts) ≡ text ++ take q (concat texts) = rw split (take-append-add text (concat texts) q) in
+    record {
+      more = omega (arith, cut.more);
+      holds = rw taken (starts_with_both text (take q (concat texts)) (concat (take whole texts)) cut.holds);
+      prefix = rw taken (starts_with_both text (concat (take (suc whole) texts)) (take q (concat texts)) cut.prefix);
+      part = omega (arith, length-append text (concat (take (suc whole) texts)), cut.part);
+    }
+
+-- the ends within the first p bytes count the whole replies, also where some are empty
+pub cut_at : (texts : List (List ℕ)) (start p bytes : ℕ) → bytes ≡ start + p → p < length (concat texts) → CutAt texts p (whole_within bytes (ends_from start texts))
+cut_at [] start p bytes sum part = absurd (omega arith)
+cut_at (text ∷ texts) start p bytes sum part =
+    let end = start + length text in
+    let later = ends_from end texts in
+    elim (cases_lt p (length text)) [
+      | inl within ↦
+          let none : whole_within bytes (end ∷ later) ≡ 0 = whole_within-part bytes end later (omega arith) ∙ none_whole end bytes texts (omega arith) in
+          rw none (cut_first text texts p within)
+      | inr behind ↦
+          let q = p - length text in
+          let split : p ≡ length text + q = omega arith in
+          let ends : whole_within bytes (end ∷ later) ≡ suc (whole_within bytes later) = whole_within-whole bytes end later (omega arith) in
+          rw ends (cut_later text texts p q _ split (cut_at texts end q bytes (omega arith) (omega (arith, length-append text (concat texts)))))
+    ]

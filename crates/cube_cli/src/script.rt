@@ -1,0 +1,88 @@
+//! Doing a line of a script on a cube.
+ghost use Rattle.std.specs.Prelude.{◌≡◌, if◌then◌else◌, IfOk, IfSome, OnErr, OnOk, Some};
+ghost use Rattle.std.specs.Option.{option_copied};
+ghost use Rattle.script_text.specs.LineOf.{IsEditOf, IsLineOf};
+ghost use Rattle.script_text.specs.RowsText.{NamesCells};
+ghost use Rattle.cube_cli.specs.Run.{edited, refusals_in, rows_reply, step, step_of};
+
+use alloc_rows::Alloc;
+use cell_weight::WeightPolicy;
+use cube_base::{Code, Memory, Pairs};
+use cube_core::{Cube, EditFault};
+use fact_records::Edit;
+use script_text::{Line, LineFault, Reply, read_line};
+use std::alloc::Global;
+
+/// Does a line, and gives its reply, if it has one. An error leaves the cube as it was.
+pub fn do_line<P: WeightPolicy + Drop>(
+    alloc: Global,
+    cube: &mut Cube<P>,
+    line: &[u8],
+) -> Result<Option<Reply>, Memory>
+    ensures reply { IfOk result (λ reply. reply ≡ (step (P.weigh cube.old.policy) cube.old.schema cube.old.facts line.now).reply) }
+    ensures facts { OnOk result (cube.new ≡ record cube.old { facts = (step (P.weigh cube.old.policy) cube.old.schema cube.old.facts line.now).facts }) }
+    ensures cells { IfOk result (λ reply. IfSome reply (NamesCells cube.old.schema.dims)) }
+    ensures same { OnErr result (cube.new ≡ cube.old) }
+{
+    match read_line(cube.schema(), line) {
+        Ok(said) => do_said(alloc, cube, said),
+        Err(LineFault::Code(code)) => Ok(Some(Reply::Error(code))),
+        Err(LineFault::Memory) => Err(Memory),
+    }
+}
+
+/// Does what a line says.
+fn do_said<P: WeightPolicy + Drop>(
+    alloc: Global,
+    cube: &mut Cube<P>,
+    said: Line,
+) -> Result<Option<Reply>, Memory>
+    requires { IsLineOf cube.old.schema said }
+    ensures reply { IfOk result (λ reply. reply ≡ (step_of (P.weigh cube.old.policy) cube.old.schema cube.old.facts said).reply) }
+    ensures facts { OnOk result (cube.new ≡ record cube.old { facts = (step_of (P.weigh cube.old.policy) cube.old.schema cube.old.facts said).facts }) }
+    ensures cells { IfOk result (λ reply. IfSome reply (NamesCells cube.old.schema.dims)) }
+    ensures same { OnErr result (cube.new ≡ cube.old) }
+{
+    match said {
+        Line::Nothing => Ok(None),
+        Line::Edit(edit) => Ok(Some(do_edit(cube, &edit)?)),
+        Line::Terms(region) => Ok(Some(Reply::Terms(cube.answer(region)?))),
+        Line::Rows(id) => Ok(Some(rows_reply(alloc, cube.rows(id))?)),
+    }
+}
+
+/// Does an edit: `ok` with the number of the facts that it refreshed, or why it is refused.
+fn do_edit<P: WeightPolicy + Drop>(cube: &mut Cube<P>, edit: &Edit) -> Result<Reply, Memory>
+    requires { IsEditOf cube.old.schema edit.now }
+    ensures reply { IfOk result (λ reply. Some reply ≡ (edited (P.weigh cube.old.policy) cube.old.schema cube.old.facts edit.now).reply) }
+    ensures facts { OnOk result (cube.new ≡ record cube.old { facts = (edited (P.weigh cube.old.policy) cube.old.schema cube.old.facts edit.now).facts }) }
+    ensures cells { IfOk result (NamesCells cube.old.schema.dims) }
+    ensures same { OnErr result (cube.new ≡ cube.old) }
+{
+    match cube.edit(edit) {
+        Ok(receipt) => Ok(Reply::Ok(receipt.refreshed.as_slice().len() as u64)),
+        Err(EditFault::Code(code)) => Ok(Reply::Error(code)),
+        Err(EditFault::Rows { .. }) => Ok(Reply::Error(Code::Rows)),
+        Err(EditFault::Memory) => Err(Memory),
+    }
+}
+
+/// How a fact is spread: `missing` where there is none.
+fn rows_reply(alloc: Global, allocation: Option<&Alloc>) -> Result<Reply, Memory>
+    ensures { IfOk result (λ reply. reply ≡ rows_reply (option_copied allocation.entry)) }
+{
+    let Some(allocation) = allocation else {
+        return Ok(Reply::Error(Code::Missing));
+    };
+    Ok(Reply::Rows {
+        den: allocation.den(),
+        rows: Pairs::from(allocation.rows().to_vec(alloc)?),
+    })
+}
+
+/// Whether a reply refuses its line.
+pub fn is_refusal(reply: &Option<Reply>) -> bool
+    ensures { (if result then 1 else 0) ≡ refusals_in reply.now }
+{
+    matches!(reply, Some(Reply::Error(_)))
+}

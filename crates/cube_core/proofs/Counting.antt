@@ -1,0 +1,147 @@
+-- Statistics counted fact by fact, and how much they count over the cells of a region.
+use Rattle.std.proofs.Common.{◌≡◌, ℕ, ◌+◌, ◌<◌, ◌≤◌, Bool, true, false, List, [], ◌∷◌, length, refl, ap, sym, ◌∙◌, subst, arith, inl, inr}
+use Rattle.std.specs.Prelude.{◌==◌, if◌then◌else◌, Option, Some, None, unwrap_or}
+use Rattle.std.specs.List.{count_by, sum_by}
+use Rattle.std.specs.Option.{option_map_or}
+use Rattle.std.proofs.lemmas.Bool.{cases_eq}
+use Rattle.std.proofs.lemmas.Bool.Decides.{nat_tests}
+use Rattle.std.proofs.lemmas.List.Sums.{count_by-le-length, sum_by-cons}
+use Rattle.cube_model.specs.declared.edit.Fact.{Fact}
+use Rattle.cube_model.specs.declared.statistic.CellStat.{CellStat}
+use Rattle.cube_model.specs.Allocation.{is_just}
+use Rattle.cube_model.specs.Cells.{all_cells, cells_of, is_inside, places_from}
+use Rattle.cube_model.specs.Tree.{Dimension}
+use Rattle.region_algebra.specs.Space.{only_cell}
+use Rattle.staged_map.specs.Staged.{Places}
+use Rattle.cell_weight.specs.Stats.{Installs, KeepsStats, MOST_FACTS, stat_at}
+use Rattle.cube_core.specs.Counting.{AddsFact, CountFacts, with_fact}
+
+-- the cell is the one cell of the fact's region
+abbrev pub lies_at : List Dimension → ℕ → Fact → Bool
+lies_at dims cell fact = is_just cell (cells_of dims fact.region)
+
+-- how many of the facts lie at a cell
+abbrev pub facts_at : List Dimension → List Fact → ℕ → ℕ
+facts_at dims facts cell = count_by (lies_at dims cell) facts
+
+-- the statistics count those of the facts that are not left
+pub record Counted (dims : List Dimension) (facts left : List Fact) (stats : Places CellStat) : Type 0 where
+  pub counts : (cell : ℕ) → (stat_at stats cell).count + facts_at dims left cell ≡ facts_at dims facts cell
+  pub sums : (cell : ℕ) → (stat_at stats cell).sum ≡ 0
+
+facts_at-cons : (dims : List Dimension) (fact : Fact) (facts : List Fact) (cell : ℕ) → facts_at dims (fact ∷ facts) cell ≡ (if lies_at dims cell fact then 1 else 0) + facts_at dims facts cell
+facts_at-cons dims fact facts cell = sum_by-cons (λ f. if lies_at dims cell f then 1 else 0) fact facts
+
+-- the one cell that there is is the only one
+is_just-only : (cell : ℕ) (cells : List ℕ) → is_just cell cells ≡ option_map_or (λ k. k == cell) (only_cell cells) false
+is_just-only cell [] = refl
+is_just-only cell (c ∷ []) = refl
+is_just-only cell (c ∷ d ∷ cells) = refl
+
+just-none : (cell : ℕ) (cells : List ℕ) → only_cell cells ≡ None → is_just cell cells ≡ false
+just-none cell cells none = is_just-only cell cells ∙ ap (λ o. option_map_or (λ k. k == cell) o false) none
+
+just-some : (cell k : ℕ) (cells : List ℕ) → only_cell cells ≡ Some k → is_just cell cells ≡ (k == cell)
+just-some cell k cells some = is_just-only cell cells ∙ ap (λ o. option_map_or (λ k. k == cell) o false) some
+
+-- the same of equal facts that are left
+pub Counted-left : {dims : List Dimension} {facts left others : List Fact} {stats : Places CellStat} → left ≡ others → Counted dims facts left stats → Counted dims facts others stats
+Counted-left {dims} {facts} {left} {others} {stats} same counted = subst (λ (fs : List Fact). Counted dims facts fs stats) same counted
+
+module _ (dims : List Dimension) (facts left : List Fact) (fact : Fact) (old : Places CellStat) (before : Counted dims facts (fact ∷ left) old) where
+  -- a fact that is not on one cell counts nowhere
+  pub Counted-none : only_cell (cells_of dims fact.region) ≡ None → Counted dims facts left old
+  Counted-none none = record {
+    counts = λ cell. omega (arith, before.counts cell, facts_at-cons dims fact left cell, ap {B = ℕ} (λ b. if b then 1 else 0) (just-none cell (cells_of dims fact.region) none));
+    sums = before.sums;
+  }
+
+  module _ (k : ℕ) (some : only_cell (cells_of dims fact.region) ≡ Some k) where
+    -- what it adds to a cell
+    adds : (cell : ℕ) → (stat_at old cell).count + ((if k == cell then 1 else 0) + facts_at dims left cell) ≡ facts_at dims facts cell
+    adds cell = omega (arith, before.counts cell, facts_at-cons dims fact left cell, ap {B = ℕ} (λ b. if b then 1 else 0) (just-some cell k (cells_of dims fact.region) some))
+
+    -- there is room for it
+    pub Counted-room : length facts ≤ MOST_FACTS → (stat_at old k).count < MOST_FACTS
+    Counted-room few = grind (arith, nat_tests, adds k, count_by-le-length (lies_at dims k) facts)
+
+    -- and its cell has one more
+    pub Counted-some : (new : Places CellStat) → AddsFact old new k → Counted dims facts left new
+    Counted-some new one = record {
+      counts = λ cell. grind (arith, nat_tests, adds cell, one.each cell);
+      sums = λ cell. grind (arith, nat_tests, before.sums cell, one.each cell);
+    }
+
+abbrev stat_with : ℕ → ℕ → CellStat
+stat_with count sum = record { count = count; sum = sum }
+
+-- once no fact is left, all are counted
+pub Counted-all : (dims : List Dimension) (facts : List Fact) (stats : Places CellStat) → Counted dims facts [] stats → CountFacts dims facts stats
+Counted-all dims facts stats all = record {
+  each = λ cell.
+      let count : (stat_at stats cell).count ≡ facts_at dims facts cell = omega (arith, all.counts cell) in
+      ap (λ n. stat_with n (stat_at stats cell).sum) count ∙ ap (stat_with (facts_at dims facts cell)) (all.sums cell);
+}
+
+-- over the cells of a region
+
+-- a number is at most once among places
+once-if : (b : Bool) (k m : ℕ) (cells : List ℕ) → sum_by (λ c. if k == c then 1 else 0) (if b then m ∷ cells else cells) ≤ (if k == m then 1 else 0) + sum_by (λ c. if k == c then 1 else 0) cells
+once-if true k m cells = omega (arith, sum_by-cons (λ (c : ℕ). if k == c then 1 else 0) m cells)
+once-if false k m cells = omega arith
+
+never-below : {X : Type 0} (p : X → Bool) (k m : ℕ) (xs : List X) → k < m → sum_by (λ c. if k == c then 1 else 0) (places_from p m xs) ≤ 0
+never-below p k m [] below = omega arith
+never-below p k m (x ∷ xs) below = grind (arith, nat_tests, once-if (p x) k m (places_from p (m + 1) xs), never-below p k (m + 1) xs (omega arith))
+
+once : {X : Type 0} (p : X → Bool) (k m : ℕ) (xs : List X) → sum_by (λ c. if k == c then 1 else 0) (places_from p m xs) ≤ 1
+once p k m [] = omega arith
+once p k m (x ∷ xs) =
+    let step = once-if (p x) k m (places_from p (m + 1) xs) in
+    elim (cases_eq k m) [
+      | inl same ↦ grind (arith, nat_tests, step, never-below p k (m + 1) xs (omega (arith, same)))
+      | inr other ↦ grind (arith, nat_tests, step, once p k (m + 1) xs)
+    ]
+
+-- sums of what is at most the sum of two
+sum_by-le_both : (w f g : ℕ → ℕ) (cells : List ℕ) → ((c : ℕ) → w c ≤ f c + g c) → sum_by w cells ≤ sum_by f cells + sum_by g cells
+sum_by-le_both w f g [] each = omega arith
+sum_by-le_both w f g (c ∷ cells) each = omega (arith, each c, sum_by-le_both w f g cells each, sum_by-cons w c cells, sum_by-cons f c cells, sum_by-cons g c cells)
+
+sum_by-none : (w : ℕ → ℕ) (cells : List ℕ) → ((c : ℕ) → w c ≤ 0) → sum_by w cells ≤ 0
+sum_by-none w [] each = omega arith
+sum_by-none w (c ∷ cells) each = omega (arith, each c, sum_by-none w cells each, sum_by-cons w c cells)
+
+one_cell-if : (found : Option ℕ) (b : ℕ → Bool) (cells : List ℕ) → ((k : ℕ) → sum_by (λ c. if k == c then 1 else 0) cells ≤ 1) → ((c : ℕ) → b c ≡ option_map_or (λ k. k == c) found false) → sum_by (λ c. if b c then 1 else 0) cells ≤ 1
+one_cell-if None b cells each is = omega (arith, sum_by-none (λ c. if b c then 1 else 0) cells (λ c. omega (arith, ap {B = ℕ} (λ t. if t then 1 else 0) (is c))))
+one_cell-if (Some k) b cells each is =
+    omega (arith, each k, sum_by-le_both (λ c. if b c then 1 else 0) (λ c. if k == c then 1 else 0) (λ c. 0) cells (λ c. omega (arith, ap {B = ℕ} (λ t. if t then 1 else 0) (is c))), sum_by-none (λ c. 0) cells (λ c. omega arith))
+
+-- a fact lies at one cell of a region at most
+one_cell : (dims : List Dimension) (region : List ℕ) (fact : Fact) → sum_by (λ c. if lies_at dims c fact then 1 else 0) (cells_of dims region) ≤ 1
+unfolding cells_of
+one_cell dims region fact = one_cell-if (only_cell (cells_of dims fact.region)) (λ c. lies_at dims c fact) (cells_of dims region) (λ k. once (is_inside dims region) k 0 (all_cells dims)) (λ c. is_just-only c (cells_of dims fact.region))
+
+-- so over the cells of a region no more facts count than there are
+pub counts-le : (dims : List Dimension) (region : List ℕ) (facts : List Fact) (w : ℕ → ℕ) → ((c : ℕ) → w c ≤ facts_at dims facts c) → sum_by w (cells_of dims region) ≤ length facts
+counts-le dims region [] w each = sum_by-none w (cells_of dims region) each
+counts-le dims region (fact ∷ facts) w each =
+    omega (
+      arith,
+      one_cell dims region fact,
+      counts-le dims region facts (facts_at dims facts) (λ c. omega arith),
+      sum_by-le_both w (λ c. if lies_at dims c fact then 1 else 0) (facts_at dims facts) (cells_of dims region) (λ c. omega (arith, each c, facts_at-cons dims fact facts c)),
+    )
+
+pub CountFacts-le : (dims : List Dimension) (region : List ℕ) (facts : List Fact) (stats : Places CellStat) → CountFacts dims facts stats → sum_by (λ cell. (stat_at stats cell).count) (cells_of dims region) ≤ length facts
+CountFacts-le dims region facts stats counted = counts-le dims region facts (λ cell. (stat_at stats cell).count) (λ c. omega (arith, ap (λ (s : CellStat). s.count) (counted.each c)))
+
+-- a cell's new statistics, installed where all others stay, are those of one fact more
+pub AddsFact-installed : (old mid new : Places CellStat) (cell : ℕ) (stat : CellStat) → stat ≡ stat_at old cell → KeepsStats old mid → Installs mid new ((cell, with_fact stat) ∷ []) → AddsFact old new cell
+AddsFact-installed old mid new cell stat is keeps installs = record { each = λ c. either c (c == cell) refl }
+  where
+    either : (c : ℕ) (b : Bool) → (c == cell) ≡ b → stat_at new c ≡ (if b then with_fact (stat_at old c) else stat_at old c)
+    either c true test =
+        let same : c ≡ cell = grind (arith, nat_tests) in
+        installs.stats c ∙ ap (λ t. unwrap_or (if t then Some (with_fact stat) else None) (stat_at mid c)) test ∙ ap with_fact (is ∙ ap (stat_at old) (sym same))
+    either c false test = installs.stats c ∙ ap (λ t. unwrap_or (if t then Some (with_fact stat) else None) (stat_at mid c)) test ∙ keeps.stats c

@@ -1,0 +1,11 @@
+pub mod AddingUp
+pub mod Ascents
+pub mod Counting
+pub mod Judging
+pub mod Keeping
+pub mod Moderation
+pub mod Refreshing
+pub mod Rows
+pub mod SmallValues
+pub mod Spreading
+pub mod Walking

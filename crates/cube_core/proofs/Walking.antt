@@ -1,0 +1,152 @@
+-- The walk over the facts whose shares an answer adds up.
+use Rattle.std.proofs.Common.{◌≡◌, ℕ, ◌+◌, ◌-◌, ◌<◌, ◌≤◌, true, List, [], ◌∷◌, length, get_or, refl, ap, ◌∙◌, subst, arith, Some, None}
+use Rattle.std.specs.Prelude.{All}
+use Rattle.std.specs.BTreeMap.{BTreeMap, get}
+use Rattle.std.specs.Option.{option_map}
+use Rattle.std.specs.Ordering.{nat_cmp}
+use Rattle.std.proofs.lemmas.List.{length-map}
+use Rattle.std.proofs.lemmas.List.Elements.{All-head, All-tail}
+use Rattle.cube_model.specs.declared.edit.Fact.{Fact}
+use Rattle.cube_model.specs.Accepted.{MAX_FACTS}
+use Rattle.cube_model.specs.Allocation.{Allocation, ExtendedFact, Policy, allocation, extended}
+use Rattle.cube_model.specs.Answer.{answer, weight_inside}
+use Rattle.cube_model.specs.Cells.{AreRows, cells_of}
+use Rattle.cube_model.specs.Tree.{Dimension}
+use Rattle.alloc_rows.specs.Alloc.{IsAllocation}
+use Rattle.exact_fraction.specs.Moderate.{IsModerate, MOST_TERMS}
+use Rattle.fact_records.specs.declared.shape.Kind.TheVariants.{Number}
+use Rattle.fact_records.specs.declared.shape.Measure.{Measure}
+use Rattle.fact_records.specs.Shape.{IsShape, width_of_all}
+use Rattle.group_sum.specs.Terms.{AddsShare, AreTerms, Fits, TermList, are_terms_from}
+use Rattle.cube_core.specs.Cube.{IsBounded, IsCube, LIMIT, allocation_of}
+use Rattle.cube_core.proofs.AddingUp.{AddUp, add_up-next, add_up-none, answered}
+use Rattle.cube_core.proofs.Moderation.{AreModest, AreSmallValues, are_bounded, are_moderate, fits_next, length-answer, modest-next, modest-none}
+use Rattle.cube_core.proofs.Refreshing.{find-itself}
+use Rattle.cube_core.proofs.Rows.{AreRows-allocation, allocation_of-among, extended-among, rows_among}
+use Rattle.cube_core.proofs.SmallValues.{small-accepted}
+
+-- a fact whose allocation is kept, with rows of cells and small values
+pub record IsReady (weigh : Policy) (dims : List Dimension) (facts : List Fact) (kept : BTreeMap ℕ Allocation) (columns : ℕ) (f : Fact) : Type 0 where
+  pub there : get nat_cmp kept f.id ≡ Some (allocation weigh dims facts f)
+  pub rows : AreRows dims (allocation weigh dims facts f).rows
+  pub values : AreSmallValues columns f.cols
+
+-- the facts of a cube are
+all_ready : (weigh : Policy) (measures : List Measure) (dims : List Dimension) (facts : List Fact) (kept : BTreeMap ℕ Allocation) → IsShape measures → All (λ m. m.kind ≡ Number) measures
+    → IsCube weigh measures dims facts kept → All (IsReady weigh dims facts kept (width_of_all measures)) facts
+all_ready weigh measures dims facts kept shape numbers cube = λ k d lt.
+    let f = get_or facts k d in
+    let found : allocation_of f.id (extended weigh dims facts) ≡ Some (allocation weigh dims facts f) =
+    ap (allocation_of f.id) (extended-among weigh dims facts) ∙ allocation_of-among weigh dims facts facts f.id
+    ∙ ap (option_map (allocation weigh dims facts)) (find-itself facts cube.lawful.ascending k d lt) in
+    record {
+      there = cube.rows.each f.id ∙ found;
+      rows = AreRows-allocation weigh dims facts f;
+      values = small-accepted measures f.cols shape numbers (cube.lawful.each k d lt).values;
+    }
+
+-- Some facts are added up, and the others are left.
+pub record IsUnderWay (weigh : Policy) (dims : List Dimension) (facts : List Fact) (kept : BTreeMap ℕ Allocation) (columns : ℕ) (region : List ℕ) (list : TermList) (left : List Fact) : Type 0 where
+  pub terms : AreTerms list
+  pub columns_are : list.columns ≡ columns + 1
+  pub up : AddUp (cells_of dims region) columns (extended weigh dims facts) list.terms (rows_among weigh dims facts left)
+  pub modest : AreModest (length facts - length left) columns list.terms
+  pub within : length left ≤ length facts
+  pub ready : All (IsReady weigh dims facts kept columns) left
+
+-- at first all are left
+pub start : {weigh : Policy} {measures shape : List Measure} {dims : List Dimension} {facts walk : List Fact} {kept : BTreeMap ℕ Allocation} {columns : ℕ} {list : TermList} (region : List ℕ)
+    → IsCube weigh measures dims facts kept → IsShape measures → All (λ m. m.kind ≡ Number) measures → shape ≡ measures → columns ≡ 1 + width_of_all shape
+    → list ≡ record { columns = columns; terms = [] } → walk ≡ facts → IsUnderWay weigh dims facts kept (width_of_all measures) region list walk
+start {weigh} {measures} {shape} {dims} {facts} {walk} {kept} {columns} {list} region cube is_shape numbers same count empty all =
+    let width = width_of_all measures in
+    let counted : columns ≡ width + 1 = omega (arith, ap width_of_all same) in
+    let none : length facts - length facts ≡ 0 = omega arith in
+    rw (empty, counted, all) (record {
+      terms = record { some = omega arith; most = omega (arith, is_shape.most); terms = refl };
+      columns_are = refl;
+      up = rw (extended-among weigh dims facts) (add_up-none (cells_of dims region) width (rows_among weigh dims facts facts));
+      modest = rw none (modest-none width);
+      within = omega arith;
+      ready = all_ready weigh measures dims facts kept is_shape numbers cube;
+    })
+
+module _ {weigh : Policy} {dims : List Dimension} {facts : List Fact} {kept : BTreeMap ℕ Allocation} {columns : ℕ} {region : List ℕ} where
+  -- a fact is next
+  module _ {old : TermList} {ahead left : List Fact} {f : Fact} (before : IsUnderWay weigh dims facts kept columns region old ahead) (cut : ahead ≡ f ∷ left) where
+    turn : IsUnderWay weigh dims facts kept columns region old (f ∷ left)
+    turn = subst (IsUnderWay weigh dims facts kept columns region old) cut before
+
+    ready : IsReady weigh dims facts kept columns f
+    ready = All-head (IsReady weigh dims facts kept columns) f left turn.ready
+
+    -- its allocation is kept
+    pub next_there : None ≡ get nat_cmp kept f.id → ⊥
+    next_there none = let there = ready.there in cc
+
+    module _ {a : Allocation} (found : Some a ≡ get nat_cmp kept f.id) where
+      is : a ≡ allocation weigh dims facts f
+      is = let there = ready.there in cc
+
+      -- with rows of cells
+      pub next_rows : {space : List Dimension} → space ≡ dims → AreRows space a.rows
+      next_rows same = rw (same, is) ready.rows
+
+      -- its share fits, and then a fact less is left
+      module _ {space : List Dimension} {den weight : ℕ} (kept_a : IsAllocation a) (den_is : den ≡ a.den) (same : space ≡ dims) (weighs : weight ≡ weight_inside (cells_of space region) a) (most : weight ≤ a.den) where
+        within_den : weight ≤ den
+        within_den = omega arith
+
+        limit : den < LIMIT
+        limit = omega (arith, kept_a.limit)
+
+        pub next_fits : length facts ≤ MAX_FACTS → Fits old.terms den weight f.cols
+        next_fits few =
+            let within = turn.within in
+            fits_next (length facts - length (f ∷ left)) columns old turn.modest den weight f.cols within_den limit ready.values (omega arith)
+
+        abbrev row : ExtendedFact
+        row = record { id = f.id; values = f.cols; allocation = allocation weigh dims facts f }
+
+        share : {new : TermList} → AddsShare old new den weight f.cols → AddsShare old new (allocation weigh dims facts f).den (weight_inside (cells_of dims region) (allocation weigh dims facts f)) f.cols
+        share adds = rw (weighs, den_is, same, is) at adds
+
+        pub next : {new : TermList} → AreTerms new → AddsShare old new den weight f.cols → IsUnderWay weigh dims facts kept columns region new left
+        next {new} are adds =
+            let within = turn.within in
+            let one_more : length facts - length (f ∷ left) + 1 ≡ length facts - length left = omega arith in
+            record {
+              terms = are;
+              columns_are = adds.columns ∙ turn.columns_are;
+              up = add_up-next (cells_of dims region) columns (extended weigh dims facts) (rows_among weigh dims facts left) row old new (share adds) ready.values.count turn.up;
+              modest = rw (← one_more) (modest-next (length facts - length (f ∷ left)) columns old turn.modest den weight f.cols within_den limit ready.values new adds);
+              within = omega arith;
+              ready = All-tail (IsReady weigh dims facts kept columns) f left turn.ready;
+            }
+
+  -- at the end no fact is left
+  module _ {list : TermList} {ahead : List Fact} (before : IsUnderWay weigh dims facts kept columns region list ahead) (none : ahead ≡ []) where
+    last : IsUnderWay weigh dims facts kept columns region list []
+    last = subst (IsUnderWay weigh dims facts kept columns region list) none before
+
+    are : are_terms_from (columns + 1) 1 list.terms ≡ true
+    are = rw (← last.columns_are) last.terms.terms
+
+    modest : AreModest (length facts) columns list.terms
+    modest =
+        let all : length facts - 0 ≡ length facts = omega arith in
+        rw all at last.modest
+
+    pub end_answer : list.terms ≡ answer columns dims (extended weigh dims facts) region
+    end_answer = answered columns dims (extended weigh dims facts) region list.terms are last.up
+
+    length-rows : length (extended weigh dims facts) ≡ length facts
+    length-rows = rw (extended-among weigh dims facts) (length-map facts _)
+
+    pub end_moderate : length facts ≤ MAX_FACTS → IsModerate list.terms
+    end_moderate few =
+        let short : length list.terms ≤ MOST_TERMS = rw end_answer (omega (arith, length-answer columns dims (extended weigh dims facts) region, length-rows)) in
+        are_moderate (length facts) columns list.terms are modest few short
+
+    pub end_bounded : length facts ≤ MAX_FACTS → All IsBounded list.terms
+    end_bounded few = are_bounded (length facts) columns list.terms are modest few

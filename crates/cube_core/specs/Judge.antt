@@ -1,0 +1,52 @@
+-- Which edits of a cube are accepted.
+use Rattle.std.specs.Prelude.{Bool, List, [], ◌∷◌, Option, Some, None, if◌then◌else◌}
+use Rattle.cube_base.specs.declared.code.Code.{Code}
+use Rattle.cube_base.specs.declared.code.Code.TheVariants as code
+use Rattle.cube_model.specs.declared.edit.Fact.{Fact}
+use Rattle.cube_model.specs.declared.edit.Edit.{Edit}
+use Rattle.cube_model.specs.declared.edit.Edit.TheVariants.{Put, Change, Withdraw}
+use Rattle.cube_model.specs.Accepted.{has_many_rows, is_missing, is_over, is_repeat}
+use Rattle.cube_model.specs.Allocation.{Policy, extended}
+use Rattle.cube_model.specs.Facts.{after}
+use Rattle.cube_model.specs.Tree.{Dimension}
+use Rattle.fact_records.specs.declared.shape.Measure.{Measure}
+use Rattle.fact_records.specs.Accepted.{cols_refusal, region_refusal}
+
+-- the first refusal that there is
+abbrev pub first_refusal : List (Option Code) → Option Code
+first_refusal [] = None
+first_refusal (None ∷ refusals) = first_refusal refusals
+first_refusal (Some refusal ∷ refusals) = Some refusal
+
+-- a refusal where the condition holds
+abbrev pub refused_where : Bool → Code → Option Code
+refused_where holds refusal = if holds then Some refusal else None
+
+-- why the values of an edit's fact are refused
+abbrev pub edit_cols_refusal : List Measure → Edit → Option Code
+edit_cols_refusal measures (Put fact) = cols_refusal measures fact.cols
+edit_cols_refusal measures (Change fact) = cols_refusal measures fact.cols
+edit_cols_refusal measures (Withdraw id) = None
+
+-- why the region of an edit's fact is refused
+abbrev pub edit_region_refusal : List Dimension → Edit → Option Code
+edit_region_refusal dims (Put fact) = region_refusal dims fact.region
+edit_region_refusal dims (Change fact) = region_refusal dims fact.region
+edit_region_refusal dims (Withdraw id) = None
+
+-- why an edit is refused before its rows are looked at
+abbrev pub fact_refusal : List Measure → List Dimension → Edit → List Fact → Option Code
+fact_refusal measures dims edit facts =
+    first_refusal
+    (edit_cols_refusal measures edit
+    ∷ refused_where (is_repeat edit facts) code.Exists
+    ∷ refused_where (is_missing edit facts) code.Missing
+    ∷ edit_region_refusal dims edit
+    ∷ refused_where (is_over edit facts) code.Facts ∷ [])
+
+-- why an edit is refused: its fact is, or the facts after it have too many rows
+abbrev pub judge : Policy → List Measure → List Dimension → Edit → List Fact → Option Code
+judge weigh measures dims edit facts =
+    first_refusal
+    (fact_refusal measures dims edit facts
+    ∷ refused_where (has_many_rows (extended weigh dims (after edit facts))) code.Rows ∷ [])

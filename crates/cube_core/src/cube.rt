@@ -1,0 +1,164 @@
+//! The cube.
+ghost use Rattle.std.specs.Prelude.{◌≡◌, ◌+◌, ◌≤◌, [], true, All, IfErr, IfOk, IfSome, OnErr, OnOk};
+ghost use Rattle.std.specs.Option.{option_copied};
+ghost use Rattle.cube_model.specs.Allocation.{extended};
+ghost use Rattle.cube_model.specs.Answer.{answer};
+ghost use Rattle.cube_model.specs.Cells.{AreRows};
+ghost use Rattle.cube_model.specs.Difference.{refreshed};
+ghost use Rattle.cube_model.specs.Facts.{after};
+ghost use Rattle.exact_fraction.specs.Moderate.{IsModerate};
+ghost use Rattle.fact_records.specs.Shape.{width_of_all};
+ghost use Rattle.region_algebra.specs.Space.{is_region};
+ghost use Rattle.cube_core.specs.Cube.{AreLawful, IsBounded, IsEditOver, IsFaultOf, allocation_of, withdrawn};
+ghost use Rattle.cube_core.specs.Judge.{judge};
+
+#[cfg(test)]
+mod tests;
+
+use crate::EditFault;
+use crate::edits::after;
+use crate::judge::judge;
+use crate::refreshed::refreshed;
+use crate::spreads::spread_all;
+use alloc_rows::{Alloc, inside};
+use cell_weight::WeightPolicy;
+use cube_base::{Ids, Memory};
+use cube_model::Region;
+use fact_records::{Edit, FactList};
+use group_sum::Terms;
+use schema_text::Schema;
+use std::alloc::Global;
+use std::collections::BTreeMap;
+use std::marker::Model;
+
+/// What an accepted edit did.
+#[derive(Debug, Drop)]
+pub struct Receipt {
+    /// The ids of the facts that are new or lie otherwise than before, ascending.
+    pub refreshed: Ids,
+    /// The id that was withdrawn, if the edit withdrew one.
+    pub removed: Option<u64>,
+}
+
+/// A schema, a policy, and facts with the allocation of each. Contracts see the policy, the schema and the list of the
+/// facts; the allocations are those that the facts have. At each edit all of them are made anew.
+#[derive(Drop)]
+pub struct Cube<P: WeightPolicy + Drop> {
+    alloc: Global,
+    schema: Schema,
+    policy: P,
+    facts: FactList,
+    // The allocation of each fact, by its id.
+    allocations: BTreeMap<u64, Alloc>,
+}
+
+impl<P: WeightPolicy + Drop> Model for Cube<P> {
+    ghost use Rattle.cube_core.specs.Cube.{CubeValue, IsCube};
+
+    ghost Value = { CubeValue P };
+
+    ghost view = { λ c. record { policy = c.policy; schema = c.schema; facts = c.facts.facts } };
+
+    ghost invariant = { λ c. IsCube (P.weigh c.policy) c.schema.measures c.schema.dims c.facts.facts c.allocations };
+}
+
+impl<P: WeightPolicy + Drop> Cube<P> {
+    /// A cube without facts, which weighs cells by this policy.
+    pub fn new(alloc: Global, schema: Schema, policy: P) -> Result<Self, Memory>
+        ensures schema { IfOk result (λ cube. cube.schema ≡ schema) }
+        ensures policy { IfOk result (λ cube. cube.policy ≡ policy) }
+        ensures facts { IfOk result (λ cube. cube.facts ≡ []) }
+    {
+        Ok(Cube {
+            alloc,
+            schema,
+            policy,
+            facts: FactList::new(alloc),
+            allocations: BTreeMap::new(alloc),
+        })
+    }
+
+    /// The schema.
+    pub fn schema(&self) -> &Schema
+        ensures { result.now ≡ self.now.schema }
+    {
+        &self.schema
+    }
+
+    /// The facts.
+    pub fn facts(&self) -> &FactList
+        ensures facts { result.now.facts ≡ self.now.facts }
+        ensures lawful { AreLawful self.now.schema.measures self.now.schema.dims self.now.facts }
+    {
+        &self.facts
+    }
+
+    /// The allocation of the fact of an id: None exactly where there is none. It takes no memory.
+    pub fn rows(&self, id: u64) -> Option<&Alloc>
+        ensures rows { option_copied result ≡ allocation_of id (extended (P.weigh self.now.policy) self.now.schema.dims self.now.facts) }
+        ensures cells { IfSome (option_copied result) (λ a. AreRows self.now.schema.dims a.rows) }
+    {
+        self.allocations.get(&id)
+    }
+
+    /// Does an edit. The first of these that holds refuses it, and the cube is as it was: `Code` with `Value` or `Parts`,
+    /// the values of the fact are none of the measures; `Exists`, a put's id is there; `Missing`, the id of a change or a
+    /// withdrawal is not; `Region`, the region has more than 2^20 cells; `Facts`, a put finds 2^20 facts; and `Rows`, the
+    /// facts after the edit have more than 2^21 rows, with their number. `Memory` is want of memory.
+    pub fn edit(&mut self, edit: &Edit) -> Result<Receipt, EditFault>
+        requires { IsEditOver self.old.schema.dims edit.now }
+        ensures facts { OnOk result (self.new ≡ record self.old { facts = after edit.now self.old.facts }) }
+        ensures accepted { OnOk result (judge (P.weigh self.old.policy) self.old.schema.measures self.old.schema.dims edit.now self.old.facts ≡ None) }
+        ensures refreshed { IfOk result (λ receipt. receipt.refreshed ≡ refreshed (P.weigh self.old.policy) self.old.schema.dims self.old.facts (after edit.now self.old.facts)) }
+        ensures removed { IfOk result (λ receipt. receipt.removed ≡ withdrawn edit.now) }
+        ensures fault { IfErr result (IsFaultOf (P.weigh self.old.policy) self.old.schema.measures self.old.schema.dims edit.now self.old.facts) }
+        ensures same { OnErr result (self.new ≡ self.old) }
+    {
+        if let Err(code) = judge(self.schema.shape(), self.schema.space(), edit, &self.facts) {
+            return Err(EditFault::Code(code));
+        }
+        let facts = after(self.alloc, &self.facts, edit)?;
+        let allocations = spread_all(self.alloc, self.schema.space(), &self.policy, &facts)?;
+        let refreshed = refreshed(self.alloc, &self.allocations, &facts, &allocations)?;
+        self.facts = facts;
+        self.allocations = allocations;
+        Ok(Receipt {
+            refreshed,
+            removed: withdrawn(edit),
+        })
+    }
+
+    /// What the facts add up to inside a region: for each denominator among the allocations, ascending, the sums over the
+    /// facts of each column times the weight inside, the count first; where the count is 0 there is no term. It walks over
+    /// all facts.
+    pub fn answer(&self, r: Region) -> Result<Terms, Memory>
+        requires { is_region self.now.schema.dims r ≡ true }
+        ensures columns { IfOk result (λ terms. terms.columns ≡ width_of_all self.now.schema.measures + 1) }
+        ensures terms { IfOk result (λ terms. terms.terms ≡ answer (width_of_all self.now.schema.measures) self.now.schema.dims
+            (extended (P.weigh self.now.policy) self.now.schema.dims self.now.facts) r) }
+        ensures moderate { IfOk result (λ terms. IsModerate terms.terms) }
+        ensures bounded { IfOk result (λ terms. All IsBounded terms.terms) }
+    {
+        let space = self.schema.space();
+        let mut terms = Terms::empty(self.alloc, self.schema.shape().columns());
+        for fact in self.facts.iter() {
+            let Some(a) = self.allocations.get(&fact.id) else {
+                unreachable!()
+            };
+            let den = a.den();
+            let weight = inside(a, space, r);
+            terms.add_term(den, weight, fact.cols)?;
+        }
+        Ok(terms)
+    }
+}
+
+/// The id of a withdrawal.
+fn withdrawn(edit: &Edit) -> Option<u64>
+    ensures { result ≡ withdrawn edit.now }
+{
+    match edit {
+        Edit::Put(_) | Edit::Change(_) => None,
+        Edit::Withdraw(id) => Some(*id),
+    }
+}

@@ -1,0 +1,28 @@
+//! Why an edit fails.
+use cube_base::{Code, Memory};
+use thiserror::Error;
+
+/// Why an edit is not done. The cube is as it was.
+#[derive(Clone, Copy, Debug, Drop, Error, PartialEq, Eq)]
+pub enum EditFault {
+    /// It is refused. The code is not `Rows`.
+    #[error("refused: {word}", word = .0.word())]
+    Code(Code),
+    /// It is refused since the facts after it would have more than 2^21 rows: so many.
+    #[error("there would be {would} rows")]
+    Rows { would: u64 },
+    /// Want of memory.
+    #[error("no memory")]
+    Memory,
+}
+
+impl From<Memory> for EditFault {
+    ghost use Rattle.std.specs.Prelude.{◌≡◌};
+    ghost use Rattle.cube_core.specs.declared.fault.EditFault.TheVariants as edit_fault;
+
+    ghost from_gives = { λ _ fault. fault ≡ edit_fault.Memory };
+
+    fn from(_: Memory) -> Self {
+        EditFault::Memory
+    }
+}
