@@ -2,13 +2,15 @@
 # Times edits on cubes of several sizes with the built program: bench/edits.sh [RUNS] [large]
 #
 # A cube has 64 cities in 8 states, 52 weeks in 4 quarters, and the measure Amount. Of the mixed facts 13 in 16 are precise,
-# the others somewhere in a state, in a quarter, or in both. For each cube are printed the seconds of its inserts, and those
-# of a processor, which other work on the machine sways less; the milliseconds of a processor of one edit more on the full
-# cube, a change of a fact to another cell, or a withdrawal, as the mean of many; the most memory, as it is read again
-# and again, and, from 10,000 facts on, what that is for each fact and each row above a cube without facts. Seconds are the least of RUNS runs
-# (3 where not given, and 1 from 10,000 facts on), memory the most of them. What the program prints is checked against
-# bench/plain_model.py for the smallest cube, and counted for the others. With `large` the cube of 100,000 precise facts is
-# built too, which takes long: at each edit all facts are allocated anew.
+# the others somewhere in a state, in a quarter, or in both. For each cube are printed
+# - the seconds of a processor for its inserts, which other work on the machine sways less than those of a clock: the median of
+#   RUNS runs (3 where not given, and 1 from 10,000 facts on);
+# - the milliseconds of a processor of one edit more on the full cube, as the mean of many: changes of facts to other cells, and
+#   withdrawals with the inserts that put the facts back;
+# - the most memory, as it is read again and again, and, from 10,000 facts on, what that is for each fact and for each row above
+#   a cube without facts.
+# What the program prints is checked against bench/plain_model.py for the smallest cube, and counted for the others. With `large`
+# the cube of 100,000 precise facts is built too, which takes over an hour: at each edit all facts are allocated anew.
 set -euo pipefail
 
 runs=${1:-3}
@@ -17,8 +19,10 @@ top=$(cd -- "$(dirname -- "$0")/.." && pwd -P)
 "$top/cube" try <"$top/examples/repairs.txt" >/dev/null
 
 python3 - "$top/crates/cube/out/cube" "$runs" "$large" "$top/bench" <<'PYTHON'
+import itertools
 import os
 import re
+import statistics
 import sys
 import tempfile
 import time
@@ -58,67 +62,85 @@ def place_of(n, precise):
     return f"{place}\t{span}\t{amount}"
 
 
-def watched(child):
-    """The most kilobytes of a child, read again and again until it has ended, more often while it is young."""
-    most, start = 0, time.monotonic()
+def run_seconds(child):
+    """The seconds that a processor has spent on a child."""
+    with open(f"/proc/{child}/schedstat") as counts:
+        return int(counts.read().split()[0]) / 1e9
+
+
+def watched(child, sink):
+    """The most kilobytes of a child, and how many bytes it had written after how many seconds of a processor."""
+    most, steps, start = 0, [(0, 0.0)], time.monotonic()
     while os.waitid(os.P_PID, child, os.WEXITED | os.WNOWAIT | os.WNOHANG) is None:
+        written = os.fstat(sink.fileno()).st_size
+        if written > steps[-1][0]:
+            steps.append((written, run_seconds(child)))
         with open(f"/proc/{child}/status") as status:
             found = re.search(r"VmHWM:\s+(\d+)", status.read())
         most = int(found.group(1)) if found else most
         time.sleep(0.001 if time.monotonic() - start > 0.1 else 0)
-    return most
+    return most, steps
 
 
-def measured(lines):
-    """The seconds of a run over the lines, those of a processor, the kilobytes it took at most, and what it printed."""
-    text = "\n".join([*lines, ""]).encode()
+def measured(parts):
+    """The seconds of a processor that each part of a script takes, the most kilobytes, and what was printed."""
+    text = "".join(line + "\n" for part in parts for line in part).encode()
     with tempfile.TemporaryFile() as source, tempfile.TemporaryFile() as sink:
         source.write(text)
         source.seek(0)
-        start = time.monotonic()
         child = os.posix_spawn(program, [program, "try"], os.environ,
                                file_actions=[(os.POSIX_SPAWN_DUP2, source.fileno(), 0), (os.POSIX_SPAWN_DUP2, sink.fileno(), 1)])
-        kilobytes = watched(child)
+        kilobytes, steps = watched(child, sink)
         _, status, used = os.wait4(child, 0)
-        seconds = time.monotonic() - start
+        steps.append((os.fstat(sink.fileno()).st_size, used.ru_utime + used.ru_stime))
         sink.seek(0)
-        printed = sink.read()
-    if os.waitstatus_to_exitcode(status) != 0:
-        sys.exit(f"bench: a run ended with status {os.waitstatus_to_exitcode(status)}")
-    return seconds, used.ru_utime + used.ru_stime, kilobytes, printed
+        printed = sink.read().splitlines(keepends=True)
+    status = os.waitstatus_to_exitcode(status)
+    if status != 0 or len(printed) != sum(map(len, parts[1:])):
+        sys.exit(f"bench: a run ended with status {status} and {len(printed)} replies")
+    ends = [0, *itertools.accumulate(map(len, printed))]
+    taken, lines = [], 0
+    for part in parts[1:]:
+        start = max(used for written, used in steps if written <= ends[lines])
+        lines += len(part)
+        taken.append(next((used for written, used in steps if written > ends[lines]), steps[-1][1]) - start)
+    return taken, kilobytes, printed
 
 
-def least(lines, times):
-    """The least seconds and seconds of a processor, the most kilobytes, and the replies, of so many runs."""
-    all_runs = [measured(lines) for _ in range(times)]
-    replies = all_runs[0][3]
-    if replies.count(b"\n") != sum(line.split("\t")[0] in ("insert", "change", "withdraw", "rows") for line in lines):
-        sys.exit("bench: the number of replies is wrong")
-    return min(r[0] for r in all_runs), min(r[1] for r in all_runs), max(r[2] for r in all_runs), replies
+def middle(parts, times):
+    """The median of the seconds for each part, the most kilobytes, and the replies, of so many runs."""
+    all_runs = [measured(parts) for _ in range(times)]
+    return [statistics.median(used) for used in zip(*(r[0] for r in all_runs))], max(r[1] for r in all_runs), all_runs[0][2]
 
 
 def row(policy, what, facts, with_edits):
-    precise, times, edits_more = what == "precise", runs if facts < 10_000 else 1, max(100, facts // 5)
-    inserts = schema(policy) + [f"insert\t{n}\t{place_of(n, precise)}" for n in range(1, facts + 1)]
-    empty = least(schema(policy), times)[2]
-    clock, used, kilobytes, replies = least(inserts, times)
-    if facts == 100 and plain_model.run(["try"], "\n".join([*inserts, ""]).encode())[0] != replies:
+    """Between the parts stand questions, whose replies are so many that those to all lines before are written."""
+    precise, times = what == "precise", runs if facts < 10_000 else 1
+    ids = [1 + n % facts for n in range(max(200_000 // facts, facts // 10))]
+    inserts = [f"insert\t{n}\t{place_of(n, precise)}" for n in range(1, facts + 1)]
+    changes = [f"change\t{id}\t{place_of(n + facts, precise)}" for n, id in enumerate(ids)]
+    moves = [line for id in ids for line in (f"withdraw\t{id}", f"insert\t{id}\t{place_of(id, precise)}")]
+    rows = [f"rows\t{n}" for n in range(1, facts + 1)]
+    questions = [f"rows\t{next(n for n in range(1, facts + 1) if precise or mixed(n) // 4096 % 16 > 2)}"] * 4096
+    parts = [schema(policy), inserts, questions, rows, questions]
+    parts += [changes, questions, moves, questions] if with_edits else []
+    empty = measured([schema(policy)])[1]
+    used, kilobytes, replies = middle(parts, times)
+    if facts == 100 and plain_model.run(["try"], "\n".join([*parts[0], *inserts, ""]).encode())[0] != b"".join(replies[:facts]):
         sys.exit("bench: the model has other replies")
-    shown = measured(inserts + [f"rows\t{n}" for n in range(1, facts + 1)])[3] if with_edits else b""
-    rows = sum(int(reply.split(b"\t")[2]) for reply in shown.split(b"\n") if reply.startswith(b"rows")) or facts
+    first = facts + len(questions)
+    number = sum(int(reply.split(b"\t")[2]) for reply in replies[first : first + facts])
     edits = ["-", "-"]
     if with_edits:
-        changes = [f"change\t{n}\t{place_of(n + facts, precise)}" for n in range(1, edits_more + 1)]
-        withdrawals = [f"withdraw\t{n}" for n in range(1, edits_more + 1)]
-        edits = [f"{1000 * (least(inserts + more, times)[1] - used) / edits_more:.2f}" for more in (changes, withdrawals)]
+        edits = [f"{1000 * used[k] / len(parts[k + 1]):.3f}" for k in (4, 6)]
     memory = 1024 * (kilobytes - empty)
-    each = [f"{memory / n:.0f}" if facts >= 10_000 else "-" for n in (facts, rows)]
-    print(f"| {policy:7} | {what:7} | {facts:6} | {rows:7} | {clock:8.2f} | {used:9.2f} | {edits[0]:>8} | {edits[1]:>8} "
-          f"| {kilobytes / 1024:6.1f} | {each[0]:>7} | {each[1]:>7} |", flush=True)
+    each = [f"{memory / n:.0f}" if facts >= 10_000 else "-" for n in (facts, number)]
+    print(f"| {policy:7} | {what:7} | {facts:6} | {number:7} | {used[0]:9.2f} | {edits[0]:>9} | {edits[1]:>19} "
+          f"| {kilobytes / 1024:6.1f} | {each[0]:>8} | {each[1]:>7} |", flush=True)
 
 
-print("| policy  | facts   | number | rows    | inserts s | processor s | change ms | withdrawal ms | MiB | B a fact | B a row |")
-print("|---------|---------|-------:|--------:|----------:|------------:|----------:|--------------:|----:|---------:|--------:|")
+print("| policy  | facts   | number | rows    | inserts s | change ms | withdraw, insert ms | MiB    | B a fact | B a row |")
+print("|---------|---------|-------:|--------:|----------:|----------:|--------------------:|-------:|---------:|--------:|")
 for policy in "uniform", "count":
     for facts in 100, 1000, 10000:
         row(policy, "mixed", facts, True)
