@@ -9,7 +9,7 @@
 #   withdrawals with the inserts that put the facts back;
 # - the most memory, as it is read again and again, and, from 10,000 facts on, what that is for each fact and for each row above
 #   a cube without facts.
-# What the program prints is checked against bench/plain_model.py for the smallest cube, and counted for the others. With `large`
+# The replies to the inserts are checked against bench/plain_model.py for the smallest cube, and counted for the others. With `large`
 # the cube of 100,000 precise facts is built too, which takes over an hour: at each edit all facts are allocated anew.
 set -euo pipefail
 
@@ -19,6 +19,7 @@ top=$(cd -- "$(dirname -- "$0")/.." && pwd -P)
 "$top/cube" try <"$top/examples/repairs.txt" >/dev/null
 
 python3 - "$top/crates/cube/out/cube" "$runs" "$large" "$top/bench" <<'PYTHON'
+import contextlib
 import itertools
 import os
 import re
@@ -68,6 +69,13 @@ def run_seconds(child):
         return int(counts.read().split()[0]) / 1e9
 
 
+def most_kilobytes(child):
+    """The most kilobytes that a child has had; None where it is ending."""
+    with open(f"/proc/{child}/status") as status:
+        found = re.search(r"VmHWM:\s+(\d+)", status.read())
+    return int(found.group(1)) if found else None
+
+
 def watched(child, sink):
     """The most kilobytes of a child, and how many bytes it had written after how many seconds of a processor."""
     most, steps, start = 0, [(0, 0.0)], time.monotonic()
@@ -75,9 +83,7 @@ def watched(child, sink):
         written = os.fstat(sink.fileno()).st_size
         if written > steps[-1][0]:
             steps.append((written, run_seconds(child)))
-        with open(f"/proc/{child}/status") as status:
-            found = re.search(r"VmHWM:\s+(\d+)", status.read())
-        most = int(found.group(1)) if found else most
+        most = most_kilobytes(child) or most
         time.sleep(0.001 if time.monotonic() - start > 0.1 else 0)
     return most, steps
 
@@ -113,6 +119,41 @@ def middle(parts, times):
     return [statistics.median(used) for used in zip(*(r[0] for r in all_runs))], max(r[1] for r in all_runs), all_runs[0][2]
 
 
+def full_pipe():
+    """The ends of a pipe that has no room left, so that whoever writes to it waits."""
+    reader, writer = os.pipe()
+    os.set_blocking(writer, False)
+    with contextlib.suppress(BlockingIOError):
+        while True:
+            os.write(writer, bytes(1024))
+    os.set_blocking(writer, True)
+    return reader, writer
+
+
+def state(child):
+    """The letter for what a child does: S where it waits."""
+    with open(f"/proc/{child}/stat") as stat:
+        return stat.read().rpartition(")")[2].split()[0]
+
+
+def empty_kilobytes(policy):
+    """The most kilobytes of a cube without facts, read while it waits to write the reply to its one question."""
+    reader, writer = full_pipe()
+    with tempfile.TemporaryFile() as source:
+        source.write("".join(line + "\n" for line in [*schema(policy), "rows\t1"]).encode())
+        source.seek(0)
+        child = os.posix_spawn(program, [program, "try"], os.environ,
+                               file_actions=[(os.POSIX_SPAWN_DUP2, source.fileno(), 0), (os.POSIX_SPAWN_DUP2, writer, 1)])
+        os.close(writer)
+        while any(state(child) != "S" or time.sleep(0.01) for _ in range(10)):
+            pass
+        most = most_kilobytes(child)
+    with open(reader, "rb") as printed:
+        printed.read()
+    os.waitpid(child, 0)
+    return most
+
+
 def row(policy, what, facts, with_edits):
     """Between the parts stand questions, whose replies are so many that those to all lines before are written."""
     precise, times = what == "precise", runs if facts < 10_000 else 1
@@ -124,7 +165,6 @@ def row(policy, what, facts, with_edits):
     questions = [f"rows\t{next(n for n in range(1, facts + 1) if precise or mixed(n) // 4096 % 16 > 2)}"] * 4096
     parts = [schema(policy), inserts, questions, rows, questions]
     parts += [changes, questions, moves, questions] if with_edits else []
-    empty = measured([schema(policy)])[1]
     used, kilobytes, replies = middle(parts, times)
     if facts == 100 and plain_model.run(["try"], "\n".join([*parts[0], *inserts, ""]).encode())[0] != b"".join(replies[:facts]):
         sys.exit("bench: the model has other replies")
@@ -133,8 +173,10 @@ def row(policy, what, facts, with_edits):
     edits = ["-", "-"]
     if with_edits:
         edits = [f"{1000 * used[k] / len(parts[k + 1]):.3f}" for k in (4, 6)]
-    memory = 1024 * (kilobytes - empty)
-    each = [f"{memory / n:.0f}" if facts >= 10_000 else "-" for n in (facts, number)]
+    each = ["-", "-"]
+    if facts >= 10_000:
+        memory = 1024 * (kilobytes - empty_kilobytes(policy))
+        each = [f"{memory / n:.0f}" for n in (facts, number)]
     print(f"| {policy:7} | {what:7} | {facts:6} | {number:7} | {used[0]:9.2f} | {edits[0]:>9} | {edits[1]:>19} "
           f"| {kilobytes / 1024:6.1f} | {each[0]:>8} | {each[1]:>7} |", flush=True)
 

@@ -16,6 +16,7 @@ import resource
 import subprocess
 import sys
 import time
+from fractions import Fraction
 
 program, runs = sys.argv[1], int(sys.argv[2])
 
@@ -77,10 +78,39 @@ def divisors(primes, most):
     return sorted(found)
 
 
+UNIT = 10**9
+SCALE = 7
+
+
+def seen(lo, hi, num=0, den=0):
+    """What the program prints of bounds and a fraction, none of which is below 0."""
+    return (lo + hi + num + den) % 2**64
+
+
+def seen_fraction(f):
+    return seen(math.floor(f * UNIT), math.ceil(f * UNIT), f.numerator, f.denominator)
+
+
 def fractions(what, dens, exact):
+    """Sums 1 over each number, and divides this count by itself and a scale."""
+    lo, hi = sum(UNIT // den for den in dens), sum(-(-UNIT // den) for den in dens)
+    if exact:
+        common = math.lcm(*dens)
+        total = seen_fraction(Fraction(sum(common // den for den in dens), common))
+        quotient = seen_fraction(Fraction(1, SCALE))
+    else:
+        total = seen(lo, hi)
+        quotient = seen(lo * UNIT // (hi * SCALE), -(-hi * UNIT // (lo * SCALE)))
     text = "".join(f"{den}\n" for den in dens)
-    once_told = len(dens), int(exact)
-    row(f"sum 1 over {len(dens)} numbers, {what}", (("fractions", 1), once_told, text), (("fractions", 4), once_told, text), 3)
+    for word, what_done, number in ("fractions", "sum", total), ("quotients", "divide", quotient):
+        done = len(dens), number
+        row(f"{what_done} 1 over {len(dens)} numbers, {what}", ((word, 1), done, text), ((word, 4), done, text), 3)
+
+
+def groups(what, dens):
+    text = "".join(f"{den}\n" for den in dens)
+    done = len(dens), max(dens)
+    row(f"group 1 over {len(dens)} numbers, {what}", (("terms", 1), done, text), (("terms", 4), done, text), 3)
 
 
 def schema(leaves):
@@ -119,7 +149,9 @@ for order in "ascending", "shuffled":
     for puts in 250_000, 500_000, 1_000_000:
         facts(order, puts, puts // 2)
 smooth = divisors({2: 12, 3: 8, 5: 5, 7: 4, 11: 3, 13: 2, 17: 2, 19: 1, 23: 1, 29: 1, 31: 1}, 2**60)
-for count in 25_000, 50_000, 100_000:
+groups("ascending", range(1, 10_001))
+groups("in no order", [1 + place * 7_001 % 10_007 for place in range(10_000)])
+for count in 10_000, 25_000, 50_000, 100_000:
     fractions("in one fraction", smooth[:count], True)
     fractions("too wide for one", range(1, count + 1), False)
 texts()

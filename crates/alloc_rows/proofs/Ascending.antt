@@ -1,13 +1,14 @@
 -- Rows of a region's cells over their sum are an allocation.
-use Rattle.std.proofs.Common.{◌≡◌, ℕ, ◌+◌, ◌^◌, ◌<◌, ◌≤◌, Bool, true, false, List, [], ◌∷◌, length, map, refl, ap, sym, ◌∙◌, arith}
+use Rattle.std.proofs.Common.{◌≡◌, ℕ, ◌+◌, ◌<◌, ◌≤◌, Bool, true, false, List, [], ◌∷◌, length, map, refl, ap, sym, ◌∙◌, arith}
 use Rattle.std.proofs.lemmas.Bool.Decides.{nat_tests}
 use Rattle.std.proofs.lemmas.List.Elements.{filter_passes}
 use Rattle.std.proofs.lemmas.List.Sums.{sum_by-cons}
 use Rattle.std.specs.List.{sum_by}
 use Rattle.std.specs.Prelude.{All, nat_lt, ◌&&◌, if◌then◌else◌}
 use Rattle.cube_model.specs.Cells.{all_cells, cells_of, is_inside, places_from}
+use Rattle.cube_model.specs.Limits.{DEN_LIMIT, MAX_CELLS}
 use Rattle.cube_model.specs.Tree.{Dimension}
-use Rattle.alloc_rows.specs.Alloc.{IsAllocation, LIMIT, ascend_from}
+use Rattle.alloc_rows.specs.Alloc.{IsAllocation, ascend_from}
 use Rattle.alloc_rows.proofs.Weighed.{rows_of}
 
 -- rows that ascend from a number on ascend from a smaller one
@@ -38,7 +39,7 @@ rows_of-some weight cells k d within = grind (arith, nat_tests, filter_passes (�
 
 -- the rows of a region's cells over their sum are an allocation
 pub IsAllocation-weighed : (weight : ℕ → ℕ) (dims : List Dimension) (region : List ℕ) (den : ℕ) (rows : List (ℕ × ℕ))
-    → den ≡ sum_by weight (cells_of dims region) → rows ≡ rows_of weight (cells_of dims region) → 1 ≤ den → den < LIMIT → IsAllocation (record { den = den; rows = rows })
+    → den ≡ sum_by weight (cells_of dims region) → rows ≡ rows_of weight (cells_of dims region) → 1 ≤ den → den < DEN_LIMIT → IsAllocation (record { den = den; rows = rows })
 unfolding cells_of
 IsAllocation-weighed weight dims region den rows sum are some limit = record {
   ascending = rw are (rows_of-ascend weight (is_inside dims region) 0 (all_cells dims));
@@ -58,6 +59,6 @@ sum_by-ones [] = refl
 sum_by-ones (cell ∷ cells) = omega (arith, sum_by-cons (λ (c : ℕ). 1) cell cells, sum_by-ones cells)
 
 pub IsAllocation-even : (dims : List Dimension) (region : List ℕ) (den : ℕ) (rows : List (ℕ × ℕ))
-    → den ≡ length (cells_of dims region) → rows ≡ map (λ cell. (cell, 1)) (cells_of dims region) → 1 ≤ den → den ≤ 2 ^ 20 → IsAllocation (record { den = den; rows = rows })
+    → den ≡ length (cells_of dims region) → rows ≡ map (λ cell. (cell, 1)) (cells_of dims region) → 1 ≤ den → den ≤ MAX_CELLS → IsAllocation (record { den = den; rows = rows })
 IsAllocation-even dims region den rows count are some few =
     IsAllocation-weighed (λ cell. 1) dims region den rows (count ∙ sum_by-ones (cells_of dims region)) (are ∙ rows_of-even (cells_of dims region)) some (omega arith)

@@ -3,7 +3,7 @@ use Rattle.std.proofs.Common.{◌≡◌, ℕ, ◌+◌, ◌*◌, ◌≤◌, List,
 use Rattle.std.proofs.lemmas.List.{append-nil}
 use Rattle.std.specs.List.{sum_by}
 use Rattle.std.specs.Prelude.{nat_lt}
-use Rattle.cell_weight.specs.Stats.{HEAVIEST}
+use Rattle.cube_model.specs.Limits.{MAX_VALUE}
 
 -- the rows of the cells that weigh something
 abbrev pub rows_of : (ℕ → ℕ) → List ℕ → List (ℕ × ℕ)
@@ -14,7 +14,7 @@ pub record Weighed (weight count : ℕ → ℕ) (cells done left : List ℕ) (to
   pub all : done ++ left ≡ cells
   pub sum : total ≡ sum_by weight done
   pub rows_are : rows ≡ rows_of weight done
-  pub bound : total ≤ length done + sum_by count done * HEAVIEST
+  pub bound : total ≤ length done + sum_by count done * MAX_VALUE
 
 -- what a walk yielded is all, once nothing is left
 pub walked : (done left cells : List ℕ) → done ++ left ≡ cells → left ≡ [] → done ≡ cells

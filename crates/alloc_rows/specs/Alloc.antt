@@ -1,19 +1,12 @@
 -- What an allocation keeps, and what statistics have to be for it to be that of facts.
-use Rattle.std.specs.Prelude.{◌≡◌, ℕ, ◌+◌, ◌^◌, ◌<◌, ◌≤◌, Bool, true, List, [], ◌∷◌, All, sum_by, nat_le, ◌&&◌}
+use Rattle.std.specs.Prelude.{◌≡◌, ℕ, ◌+◌, ◌<◌, ◌≤◌, Bool, true, List, [], ◌∷◌, All, sum_by, nat_le, ◌&&◌}
 use Rattle.cube_model.specs.Allocation.{Allocation, stat_of}
+use Rattle.cube_model.specs.Limits.{DEN_LIMIT}
 use Rattle.cube_model.specs.Tree.{Dimension}
 use Rattle.cube_model.specs.declared.edit.Fact.{Fact}
 use Rattle.cube_model.specs.declared.statistic.CellStat.{CellStat}
 use Rattle.staged_map.specs.Staged.{Places}
 use Rattle.cell_weight.specs.Stats.{stat_at}
-
--- the limit on denominators
-abbrev pub LIMIT : ℕ
-LIMIT = 2 ^ 60
-
--- the most cells of the region of a fact that can be allocated
-abbrev pub MOST_CELLS : ℕ
-MOST_CELLS = 2 ^ 20
 
 -- rows whose cells ascend strictly, from at least this one on
 abbrev pub ascend_from : ℕ → List (ℕ × ℕ) → Bool
@@ -26,7 +19,7 @@ pub record IsAllocation (a : Allocation) : Type 0 where
   pub weights : All (λ row. 1 ≤ row.1) a.rows
   pub total : sum_by (λ row. row.1) a.rows ≡ a.den
   pub some : 1 ≤ a.den
-  pub limit : a.den < LIMIT
+  pub limit : a.den < DEN_LIMIT
 
 -- what is kept for each of these cells is what the facts make it
 abbrev pub AreStatsOf : List Dimension → List Fact → Places CellStat → List ℕ → Type 0

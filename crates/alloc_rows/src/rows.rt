@@ -58,8 +58,9 @@ impl Alloc {
     }
 }
 
-/// How much of an allocation lies inside a region: the sum of the weights of the rows whose cells are the region's. It
-/// takes no memory and costs a few operations a row and dimension.
+/// How much of an allocation lies inside a region: the sum of the weights of the rows whose cells are the region's. The
+/// region is one of the space, and so are the cells, as `allocate` gives them. It takes no memory and costs a few
+/// operations a row and dimension.
 pub fn inside(a: &Alloc, space: &Space, r: Region) -> u64
     requires region { is_region space.now r ≡ true }
     requires cells { AreRows space.now a.now.rows }

@@ -3,10 +3,11 @@ ghost use Rattle.std.specs.Prelude.{◌≡◌, ◌<◌, ◌≤◌, true, List, I
 ghost use Rattle.std.specs.List.{sum_by};
 ghost use Rattle.cube_model.specs.Allocation.{allocation, spread, spread_by, spread_evenly};
 ghost use Rattle.cube_model.specs.Cells.{AreRows, cells_of};
+ghost use Rattle.cube_model.specs.Limits.{DEN_LIMIT, MAX_CELLS, MAX_FACTS};
 ghost use Rattle.cube_model.specs.declared.edit.Fact.{Fact};
-ghost use Rattle.cell_weight.specs.Stats.{MOST_FACTS, stat_at};
+ghost use Rattle.cell_weight.specs.Stats.{stat_at};
 ghost use Rattle.region_algebra.specs.Space.{is_region};
-ghost use Rattle.alloc_rows.specs.Alloc.{AreStatsOf, LIMIT, MOST_CELLS};
+ghost use Rattle.alloc_rows.specs.Alloc.{AreStatsOf};
 
 #[cfg(test)]
 mod tests;
@@ -19,8 +20,9 @@ use region_algebra::Space;
 use std::alloc::Global;
 
 /// The allocation of a fact: on one cell, it is there whole. Else it is spread over the cells of its region by what the
-/// policy makes them weigh, or evenly where all weigh 0. It looks at each cell of the region once, or twice where all
-/// weigh 0.
+/// policy makes them weigh, or evenly where all weigh 0. The region is one of the space and has at most 2^20 cells, and the
+/// counts of the statistics over these cells add up to at most 2^20. It looks at each cell of the region once, or twice
+/// where all weigh 0.
 pub fn allocate<P: WeightPolicy>(
     alloc: Global,
     space: &Space,
@@ -29,8 +31,8 @@ pub fn allocate<P: WeightPolicy>(
     f: &Fact,
 ) -> Result<Alloc, Memory>
     requires region { is_region space.now f.now.region ≡ true }
-    requires few { length (cells_of space.now f.now.region) ≤ MOST_CELLS }
-    requires counted { sum_by (λ cell. (stat_at stats.now cell).count) (cells_of space.now f.now.region) ≤ MOST_FACTS }
+    requires few { length (cells_of space.now f.now.region) ≤ MAX_CELLS }
+    requires counted { sum_by (λ cell. (stat_at stats.now cell).count) (cells_of space.now f.now.region) ≤ MAX_FACTS }
     ensures spread { IfOk result (λ a. a ≡ spread (λ cell. P.weigh policy.now (stat_at stats.now cell)) (cells_of space.now f.now.region)) }
     ensures of_facts { IfOk result (λ a. (facts : List Fact) → AreStatsOf space.now facts stats.now (cells_of space.now f.now.region) → a ≡ allocation (P.weigh policy.now) space.now facts f.now) }
     ensures cells { IfOk result (λ a. AreRows space.now a.rows) }
@@ -38,7 +40,7 @@ pub fn allocate<P: WeightPolicy>(
     spread_over(alloc, space, policy, stats, f.region)
 }
 
-// The allocation of a fact in this region.
+/// The allocation of a fact in this region.
 fn spread_over<P: WeightPolicy>(
     alloc: Global,
     space: &Space,
@@ -47,8 +49,8 @@ fn spread_over<P: WeightPolicy>(
     r: Region,
 ) -> Result<Alloc, Memory>
     requires region { is_region space.now r ≡ true }
-    requires few { length (cells_of space.now r) ≤ MOST_CELLS }
-    requires counted { sum_by (λ cell. (stat_at stats.now cell).count) (cells_of space.now r) ≤ MOST_FACTS }
+    requires few { length (cells_of space.now r) ≤ MAX_CELLS }
+    requires counted { sum_by (λ cell. (stat_at stats.now cell).count) (cells_of space.now r) ≤ MAX_FACTS }
     ensures { IfOk result (λ a. a ≡ spread (λ cell. P.weigh policy.now (stat_at stats.now cell)) (cells_of space.now r)) }
 {
     if space.cell_count(r) == 1 {
@@ -61,7 +63,7 @@ fn spread_over<P: WeightPolicy>(
     Ok(Alloc::of_rows(total, rows))
 }
 
-// The sum of the weights of a region's cells, and the cells that weigh something with their weights, ascending.
+/// The sum of the weights of a region's cells, and the cells that weigh something with their weights, ascending.
 fn weigh_cells<P: WeightPolicy>(
     alloc: Global,
     space: &Space,
@@ -70,11 +72,11 @@ fn weigh_cells<P: WeightPolicy>(
     r: Region,
 ) -> Result<(u64, Vec<(u64, u64)>), Memory>
     requires region { is_region space.now r ≡ true }
-    requires few { length (cells_of space.now r) ≤ MOST_CELLS }
-    requires counted { sum_by (λ cell. (stat_at stats.now cell).count) (cells_of space.now r) ≤ MOST_FACTS }
+    requires few { length (cells_of space.now r) ≤ MAX_CELLS }
+    requires counted { sum_by (λ cell. (stat_at stats.now cell).count) (cells_of space.now r) ≤ MAX_FACTS }
     ensures total { IfOk result (λ weighed. weighed.0 ≡ sum_by (λ cell. P.weigh policy.now (stat_at stats.now cell)) (cells_of space.now r)) }
     ensures rows { IfOk result (λ weighed. weighed.1.items ≡ (spread_by (λ cell. P.weigh policy.now (stat_at stats.now cell)) (cells_of space.now r)).rows) }
-    ensures limit { IfOk result (λ weighed. weighed.0 < LIMIT) }
+    ensures limit { IfOk result (λ weighed. weighed.0 < DEN_LIMIT) }
 {
     let mut total = 0;
     let mut rows = Vec::new(alloc);
@@ -88,10 +90,10 @@ fn weigh_cells<P: WeightPolicy>(
     Ok((total, rows))
 }
 
-// Weight 1 for each of a region's cells.
+/// Weight 1 for each of a region's cells.
 fn spread_evenly(alloc: Global, space: &Space, r: Region) -> Result<Alloc, Memory>
     requires region { is_region space.now r ≡ true }
-    requires few { length (cells_of space.now r) ≤ MOST_CELLS }
+    requires few { length (cells_of space.now r) ≤ MAX_CELLS }
     ensures { IfOk result (λ a. a ≡ spread_evenly (cells_of space.now r)) }
 {
     let count = space.cell_count(r);

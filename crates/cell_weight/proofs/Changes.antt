@@ -1,40 +1,36 @@
 -- One more change of cells' statistics, staged or installed.
-use Rattle.std.proofs.Common.{◌≡◌, ℕ, zero, suc, ◌+◌, ◌<◌, ◌≤◌, true, false, cond, List, [], ◌∷◌, ◌++◌, take, get_or, length, Option, Some, None, eqb, refl, ◌∙◌, unwrap_or, arith}
+use Rattle.std.proofs.Common.{◌≡◌, ℕ, zero, suc, ◌+◌, ◌<◌, ◌≤◌, true, false, cond, List, [], ◌∷◌, ◌++◌, ◌||◌, take, drop, get_or, length, Option, Some, None, eqb, refl, ap, sym, ◌∙◌, unwrap_or, arith}
+use Rattle.std.proofs.lemmas.Bool.{or_left}
 use Rattle.std.proofs.lemmas.Bool.Decides.{nat_tests}
 use Rattle.std.proofs.lemmas.Grind.{common_steps}
-use Rattle.std.proofs.lemmas.List.{get_or-map, take_all, take_more}
+use Rattle.std.proofs.lemmas.List.{get_or-map, take-append-drop, take_all, take_more}
+use Rattle.std.proofs.lemmas.List.Folds.{list_any-append}
 use Rattle.std.proofs.lemmas.Map.Entries.{All-lookup, length-keys_of}
 use Rattle.std.proofs.lemmas.Map.Keys.{IsDistinct-tail, apart_from_distinct}
-use Rattle.std.specs.List.{All}
+use Rattle.std.specs.List.{All, list_any}
 use Rattle.std.specs.Map.{keys_of}
 use Rattle.std.specs.Option.{IfSome, option_or, option_map_or}
 use Rattle.cube_model.specs.declared.statistic.CellStat.{CellStat}
-use Rattle.staged_map.specs.Staged.{Places, Reserves, ReservesSome, has_place, value_at}
-use Rattle.cell_weight.specs.Stats.{AreOfDifferentCells, AreStats, Installs, IsStat, KeepsPlaces, KeepsStats, change_of, has_facts, have_places, stat_at}
-
--- these cells have places, and nothing was lost
-pub record Stages (old new : Places CellStat) (changes : List (ℕ × CellStat)) : Type 0 where
-  pub values : (cell : ℕ) → value_at new cell ≡ value_at old cell
-  pub kept : (cell : ℕ) → has_place old cell ≡ true → has_place new cell ≡ true
-  pub staged : have_places new changes ≡ true
+use Rattle.staged_map.specs.Staged.{Places, Reserves, ReservesSome, has_place}
+use Rattle.staged_map.proofs.Changes.{Reserves-next}
+use Rattle.cell_weight.specs.Stats.{AreOfDifferentCells, AreStats, Installs, IsStat, change_of, has_facts, have_places, stat_at}
 
 -- the changes before this one are installed, and the others have places
 pub record Installing (old new : Places CellStat) (changes : List (ℕ × CellStat)) (i : ℕ) : Type 0 where
   pub before : Installs old new (take i changes)
   pub left : (j : ℕ) (d : ℕ × CellStat) → i ≤ j → j < length changes → has_place new (get_or changes j d).0 ≡ true
 
-have_places-kept : (old new : Places CellStat) (changes : List (ℕ × CellStat)) → ((cell : ℕ) → has_place old cell ≡ true → has_place new cell ≡ true) → have_places old changes ≡ true → have_places new changes ≡ true
-have_places-kept old new [] kept has = refl
-have_places-kept old new (change ∷ changes) kept has =
-    let first : has_place old change.0 ≡ true = grind (arith, has) in
-    let rest : have_places old changes ≡ true = grind (arith, has) in
-    grind (arith, kept change.0 first, have_places-kept old new changes kept rest)
+-- a changed cell is one of the keys
+keys_of-at : (changes : List (ℕ × CellStat)) (i : ℕ) (d : ℕ × CellStat) → i < length changes → get_or (keys_of changes) i 0 ≡ (get_or changes i d).0
+keys_of-at changes i d within = get_or-map (λ (change : ℕ × CellStat). change.0) changes i d 0 within
 
-have_places-push : (places : Places CellStat) (changes : List (ℕ × CellStat)) (change : ℕ × CellStat) → have_places places changes ≡ true → has_place places change.0 ≡ true → have_places places (changes ++ change ∷ []) ≡ true
-have_places-push places [] change has last = grind (arith, last)
-have_places-push places (first ∷ changes) change has last =
-    let rest : have_places places changes ≡ true = grind (arith, has) in
-    grind (arith, has, have_places-push places changes change rest last)
+-- where all keys got places, each changed cell has one
+have_places-from : (places : Places CellStat) (changes : List (ℕ × CellStat)) → ((cell : ℕ) → list_any (eqb cell) (keys_of changes) ≡ true → has_place places cell ≡ true) → have_places places changes ≡ true
+have_places-from places [] has = refl
+have_places-from places (change ∷ changes) has =
+    let first : has_place places change.0 ≡ true = has change.0 (grind (arith, common_steps, nat_tests)) in
+    let rest : have_places places changes ≡ true = have_places-from places changes (λ cell among. has cell (grind (arith, common_steps, among))) in
+    grind (arith, first, rest)
 
 -- what is looked up among changes and one more
 change_of-push : (changes : List (ℕ × CellStat)) (change : ℕ × CellStat) (cell : ℕ) → change_of (changes ++ change ∷ []) cell ≡ option_or (change_of changes cell) (cond (eqb cell change.0) (Some change.1) None)
@@ -59,19 +55,6 @@ change_of-before (change ∷ changes) (suc i) d distinct within =
     grind (arith, nat_tests, rest, cells-apart (change ∷ changes) 0 (suc i) d d distinct (omega arith) within)
 
 module _ (old between new : Places CellStat) (changes : List (ℕ × CellStat)) (i : ℕ) (d : ℕ × CellStat) (within : i < length changes) where
-  pub Stages-next : Stages old between (take i changes) → Reserves between new ((get_or changes i d).0 ∷ []) → Stages old new (take (i + 1) changes)
-  Stages-next before last = record {
-    values = λ cell. last.values cell ∙ before.values cell;
-    kept = λ cell has. keeps cell (before.kept cell has);
-    staged = rw (take_more changes i d within) (have_places-push new (take i changes) (get_or changes i d) (have_places-kept between new (take i changes) keeps before.staged) here);
-  }
-    where
-      keeps : (cell : ℕ) → has_place between cell ≡ true → has_place new cell ≡ true
-      keeps cell has = grind (arith, common_steps, last.places cell, has)
-
-      here : has_place new (get_or changes i d).0 ≡ true
-      here = grind (arith, common_steps, nat_tests, last.places (get_or changes i d).0)
-
   pub Installing-next : AreOfDifferentCells changes → Installing old between changes i → Installs between new (get_or changes i d ∷ []) → Installing old new changes (i + 1)
   Installing-next distinct so_far last = record {
     before = rw (take_more changes i d within) (record { stats = stats; places = places });
@@ -90,12 +73,39 @@ module _ (old between new : Places CellStat) (changes : List (ℕ × CellStat)) 
       left : (j : ℕ) (e : ℕ × CellStat) → i + 1 ≤ j → j < length changes → has_place new (get_or changes j e).0 ≡ true
       left j e later there = grind (arith, common_steps, nat_tests, cells-apart changes i j d e distinct (omega arith) there, last.places (get_or changes j e).0, so_far.left j e (omega arith) there)
 
-module _ (old between new : Places CellStat) (changes : List (ℕ × CellStat)) (cell : ℕ) where
-  pub KeepsStats-part : Stages old between changes → ReservesSome between new (cell ∷ []) → KeepsStats old new
-  KeepsStats-part before some = record { stats = λ k. grind (arith, common_steps, before.values k, some.values k) }
+module _ (old between new : Places CellStat) (changes : List (ℕ × CellStat)) (i : ℕ) (d : ℕ × CellStat) (within : i < length changes) (before : Reserves old between (take i (keys_of changes))) where
+  here : get_or (keys_of changes) i 0 ≡ (get_or changes i d).0
+  here = keys_of-at changes i d within
 
-  pub KeepsPlaces-part : Stages old between changes → ReservesSome between new (cell ∷ []) → KeepsPlaces old new
-  KeepsPlaces-part before some = record { places = λ k has. some.kept k (before.kept k has) }
+  inside : i < length (keys_of changes)
+  inside = omega (arith, length-keys_of changes)
+
+  -- the cell of one change more has a place
+  pub Reserves-change : Reserves between new ((get_or changes i d).0 ∷ []) → Reserves old new (take (i + 1) (keys_of changes))
+  Reserves-change last = Reserves-next old new between (keys_of changes) i inside before (rw (← here) at last)
+
+  -- or it gets none
+  pub ReservesSome-change : ReservesSome between new ((get_or changes i d).0 ∷ []) → ReservesSome old new (keys_of changes)
+  ReservesSome-change last = record {
+    values = λ k. last.values k ∙ before.values k;
+    kept = λ k there. last.kept k (before.places k ∙ or_left _ _ there);
+    among = λ k there. among k (last.among k there);
+  }
+    where
+      whole : (k : ℕ) → list_any (eqb k) (keys_of changes) ≡ ((list_any (eqb k) (take i (keys_of changes)) || list_any (eqb k) (get_or (keys_of changes) i 0 ∷ [])) || list_any (eqb k) (drop (i + 1) (keys_of changes)))
+      whole k =
+          sym (ap (list_any (eqb k)) (take-append-drop (i + 1) (keys_of changes)))
+          ∙ list_any-append (eqb k) (take (i + 1) (keys_of changes)) (drop (i + 1) (keys_of changes))
+          ∙ ap (λ any. any || list_any (eqb k) (drop (i + 1) (keys_of changes))) (ap (list_any (eqb k)) (take_more (keys_of changes) i 0 inside) ∙ list_any-append (eqb k) (take i (keys_of changes)) (get_or (keys_of changes) i 0 ∷ []))
+
+      among : (k : ℕ) → (has_place between k || list_any (eqb k) ((get_or changes i d).0 ∷ [])) ≡ true → (has_place old k || list_any (eqb k) (keys_of changes)) ≡ true
+      among k part_has = grind (arith, common_steps, part_has, before.places k, whole k, here)
+
+-- all changed cells have places
+pub have_places-reserved : (old new : Places CellStat) (changes : List (ℕ × CellStat)) (i : ℕ) → length changes ≤ i → Reserves old new (take i (keys_of changes)) → have_places new changes ≡ true
+have_places-reserved old new changes i end part =
+    let all : take i (keys_of changes) ≡ keys_of changes = take_all i (keys_of changes) (omega (arith, length-keys_of changes)) in
+    have_places-from new changes (λ cell among. grind (arith, common_steps, part.places cell, among, all))
 
 IsStat-either : (change : Option CellStat) (stat : CellStat) → IsStat stat → IfSome change IsStat → IsStat (unwrap_or change stat)
 IsStat-either None stat is change_is = is

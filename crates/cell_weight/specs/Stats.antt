@@ -1,22 +1,16 @@
 -- What is known of a cell's precise facts, and what changes of it do.
-use Rattle.std.specs.Prelude.{◌≡◌, ℕ, ◌*◌, ◌^◌, ◌≤◌, Bool, true, List, not, ◌&&◌, ◌==◌, Option, unwrap_or, nat_eq}
+use Rattle.std.specs.Prelude.{◌≡◌, ℕ, ◌*◌, ◌≤◌, Bool, List, not, ◌&&◌, ◌==◌, Option, unwrap_or, nat_eq}
 use Rattle.std.specs.List.{IsDistinct, list_all}
 use Rattle.std.specs.Map.{lookup, keys_of}
 use Rattle.std.specs.Option.{option_map_or}
 use Rattle.cube_model.specs.declared.statistic.CellStat.{CellStat}
+use Rattle.cube_model.specs.Limits.{MAX_FACTS, MAX_VALUE}
 use Rattle.staged_map.specs.Staged.{Places, has_place, value_at}
-
--- the most facts, and the most that a fact weighs
-abbrev pub MOST_FACTS : ℕ
-MOST_FACTS = 2 ^ 20
-
-abbrev pub HEAVIEST : ℕ
-HEAVIEST = 10 ^ 12
 
 -- statistics that facts can have
 pub record IsStat (stat : CellStat) : Type 0 where
-  pub few : stat.count ≤ MOST_FACTS
-  pub light : stat.sum ≤ stat.count * HEAVIEST
+  pub few : stat.count ≤ MAX_FACTS
+  pub light : stat.sum ≤ stat.count * MAX_VALUE
 
 -- what a cell has where no fact lies
 abbrev pub no_facts : CellStat
@@ -45,14 +39,6 @@ AreOfDifferentCells changes = IsDistinct nat_eq (keys_of changes)
 -- each changed cell has a place
 abbrev pub have_places : Places CellStat → List (ℕ × CellStat) → Bool
 have_places places changes = list_all (λ change. has_place places change.0) changes
-
--- every cell has the statistics that it had
-pub record KeepsStats (old new : Places CellStat) : Type 0 where
-  pub stats : (cell : ℕ) → stat_at new cell ≡ stat_at old cell
-
--- every cell that had a place has one
-pub record KeepsPlaces (old new : Places CellStat) : Type 0 where
-  pub places : (cell : ℕ) → has_place old cell ≡ true → has_place new cell ≡ true
 
 -- Each changed cell has its new statistics, and every other what it had. A changed cell has a place exactly where its
 -- new statistics are not zeros.

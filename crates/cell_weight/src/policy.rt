@@ -1,22 +1,26 @@
 //! Policies: what a cell weighs, by its statistics.
 ghost use Rattle.std.specs.Prelude.{◌≡◌, ℕ, ◌+◌, ◌*◌, ◌≤◌};
 ghost use Rattle.cube_model.specs.Allocation.{by_count, uniform};
+ghost use Rattle.cube_model.specs.Limits.{MAX_VALUE};
 ghost use Rattle.cube_model.specs.declared.statistic.CellStat.{CellStat};
-ghost use Rattle.cell_weight.specs.Stats.{HEAVIEST, IsStat};
+ghost use Rattle.cell_weight.specs.Stats.{IsStat};
 ghost use Rattle.std.proofs.Common.{arith};
 
 use cube_model::CellStat;
 
-/// What a cell weighs, by the statistics of its precise facts.
+/// What a cell weighs, by the statistics of its precise facts. A policy keeps two laws: the weight is a function of the
+/// policy and these statistics, `weigh`, and it is at most 1 + count * 10^12. By the second law a denominator is below
+/// 2^60, since a fact is spread over at most 2^20 cells, at which at most 2^20 precise facts lie.
 pub trait WeightPolicy {
     ghost weigh: { Self → CellStat → ℕ };
 
-    /// The weight of a cell with these statistics.
+    /// The weight of a cell with these statistics, which must be such as facts can have: at most 2^20 of them, with a sum
+    /// of at most 10^12 each.
     fn weight(&self, s: CellStat) -> u64
         requires { IsStat s }
         ensures { result ≡ weigh self.now s };
 
-    ghost bound: { (policy : Self) (s : CellStat) → IsStat s → weigh policy s ≤ 1 + s.count * HEAVIEST };
+    ghost bound: { (policy : Self) (s : CellStat) → IsStat s → weigh policy s ≤ 1 + s.count * MAX_VALUE };
 }
 
 /// Every cell weighs 1.

@@ -1,7 +1,8 @@
 //! The statistics of the cells.
-ghost use Rattle.std.specs.Prelude.{◌≡◌, [], ◌∷◌, All, OnOk, true};
-ghost use Rattle.staged_map.specs.Staged.{has_place};
-ghost use Rattle.cell_weight.specs.Stats.{AreOfDifferentCells, Installs, IsStat, KeepsPlaces, KeepsStats, has_facts, have_places, stat_at};
+ghost use Rattle.std.specs.Prelude.{◌≡◌, [], ◌∷◌, All, OnErr, OnOk, true};
+ghost use Rattle.std.specs.Map.{keys_of};
+ghost use Rattle.staged_map.specs.Staged.{Reserves, ReservesSome, has_place};
+ghost use Rattle.cell_weight.specs.Stats.{AreOfDifferentCells, Installs, IsStat, has_facts, have_places, stat_at};
 
 use cube_base::Memory;
 use cube_model::CellStat;
@@ -49,12 +50,12 @@ impl StatIndex {
         self.stats.get(cell).copied().unwrap_or(NO_FACTS)
     }
 
-    /// Gives each changed cell a place, so that `install` cannot be refused. All statistics stay. On an error some of the
-    /// cells may have got a place.
+    /// Gives each changed cell a place, so that `install` needs no memory. All statistics stay. On an error some of the
+    /// changed cells may have got a place.
     pub fn stage(&mut self, changes: &[(u64, CellStat)]) -> Result<(), Memory>
-        ensures stats { KeepsStats self.old self.new }
-        ensures places { KeepsPlaces self.old self.new }
-        ensures ok { OnOk result (have_places self.new changes.now ≡ true) }
+        ensures ok { OnOk result (Reserves self.old self.new (keys_of changes.now)) }
+        ensures ready { OnOk result (have_places self.new changes.now ≡ true) }
+        ensures err { OnErr result (ReservesSome self.old self.new (keys_of changes.now)) }
     {
         for (cell, _) in changes {
             self.stats.reserve(&[*cell])?;
@@ -62,7 +63,8 @@ impl StatIndex {
         Ok(())
     }
 
-    /// Gives each changed cell its new statistics. Where these are zeros, its place goes too. It takes no memory.
+    /// Gives each changed cell its new statistics, which must be such as facts can have. The cells differ from one another
+    /// and have places, as `stage` gives them. Where the new statistics are zeros, the place goes too. It takes no memory.
     pub fn install(&mut self, changes: &[(u64, CellStat)])
         requires distinct { AreOfDifferentCells changes.now }
         requires places { have_places self.old changes.now ≡ true }
@@ -75,7 +77,7 @@ impl StatIndex {
     }
 }
 
-// Gives a cell that has a place its new statistics.
+/// Gives a cell that has a place its new statistics.
 fn put(stats: &mut Staged<CellStat>, cell: u64, stat: CellStat)
     requires { has_place stats.old cell ≡ true }
     ensures { Installs stats.old stats.new ((cell, stat) ∷ []) }
@@ -87,7 +89,7 @@ fn put(stats: &mut Staged<CellStat>, cell: u64, stat: CellStat)
     }
 }
 
-// Whether a cell with these statistics has facts.
+/// Whether a cell with these statistics has facts.
 fn has_facts(stat: CellStat) -> bool
     ensures { result ≡ has_facts stat }
 {
@@ -110,7 +112,7 @@ mod tests {
         sum: 1_048_576_000_000_000_000,
     };
 
-    // Each cell has these statistics, by which `ByCount` weighs it; `Uniform` weighs it 1.
+    /// Each cell has these statistics, by which `ByCount` weighs it; `Uniform` weighs it 1.
     fn expect_stats(rt: &impl Abort, index: &StatIndex, stats: &[(u64, CellStat)]) {
         for (cell, stat) in stats {
             assert_eq!(rt; index.stat(*cell), *stat, "at {cell}");

@@ -7,59 +7,59 @@ ghost use Rattle.cube_base.specs.Code.{word_of};
 pub enum Code {
     /// A line has more than 4,096 bytes.
     Long,
-    /// A text is not UTF-8, or in a line has a byte below 32 other than TAB, or 127.
+    /// The bytes are not UTF-8; a line's are refused for a control byte other than TAB too.
     Text,
-    /// The first field is no command word.
+    /// No command begins with this field.
     Command,
-    /// The number of fields is wrong.
+    /// A line has too few or too many fields for its word.
     Fields,
-    /// An id is not a number from 1 to 2^63 - 1.
+    /// An id is misspelled, 0, or 2^63 or more.
     Id,
-    /// A field is not a node name of its dimension.
+    /// No node of the dimension has this name.
     Node,
-    /// A field is not a measure's name, or names one of the wrong kind.
+    /// No measure has this name, or it is of another kind than is asked for.
     Measure,
-    /// A value is not a signed number from -10^12 to 10^12.
+    /// A value is misspelled, or above 10^12 in absolute value.
     Value,
-    /// A value is not a distribution of the measure.
+    /// Parts are misspelled, too few or too many for the measure's outcomes, or do not add up to its scale.
     Parts,
-    /// An insert of an id that is there.
+    /// A fact to insert has the id of another.
     Exists,
-    /// A change, withdrawal or look-up of an id that is not there.
+    /// No fact has the id that is changed, withdrawn or asked for.
     Missing,
-    /// A region has more than 2^20 cells.
+    /// A fact's region is larger than 2^20 cells.
     Region,
-    /// There are 2^20 facts already.
+    /// No fact more can be held: 2^20 are.
     Facts,
-    /// The facts after the edit have more than 2^21 rows.
+    /// After the edit there would be more rows than 2^21.
     Rows,
-    /// The count is 0.
+    /// There is nothing to divide by: the count is 0.
     Undefined,
-    /// There are more than 65,536 worlds.
+    /// The worlds to list pass 65,536.
     Many,
-    /// The product of denominators is above 2^60.
+    /// The denominators multiply to more than 2^60.
     Wide,
-    /// A field is not a name, a name comes twice, or no view has it.
+    /// A name is misspelled, stands there already, or is that of no view.
     Name,
-    /// The first field of a schema line is no schema word, or one that may not stand here.
+    /// A schema line begins with a word that there is not, or not at this place.
     Order,
-    /// No known policy.
+    /// No policy has this name.
     Policy,
-    /// A number of the schema is wrong.
+    /// The version, a depth or a scale is misspelled or out of its range.
     Number,
-    /// A depth does not fit the tree.
+    /// A node lies at a depth that does not follow from the line before.
     Depth,
-    /// The line would pass a limit.
+    /// There are too many dimensions, nodes, columns or views.
     Limit,
-    /// The product of leaf counts is 2^62 or more.
+    /// The space has 2^62 cells or more.
     Cells,
-    /// The product of node counts is 2^62 or more.
+    /// The space has 2^62 regions or more.
     Nodes,
-    /// The input ended before the schema's end.
+    /// The last line of the schema is missing.
     Cut,
-    /// A line that is not skipped follows the schema's end.
+    /// Behind the schema's last line stands one that says something.
     Tail,
-    /// The header of a CSV file is not the expected one.
+    /// A CSV file does not begin with the columns of the schema.
     Header,
 }
 

@@ -10,7 +10,7 @@ pub const MAX_COLS: usize = 7;
 #[derive(Clone, Copy, Debug)]
 pub struct Cols {
     len: u32,
-    values: [i64; 7],
+    values: [i64; MAX_COLS],
 }
 
 impl Model for Cols {
@@ -40,7 +40,7 @@ impl Cols {
         if values.len() > MAX_COLS {
             return None;
         }
-        let mut held = [0; 7];
+        let mut held = [0; MAX_COLS];
         held[..values.len()].copy_from_slice(values);
         Some(Cols {
             len: values.len() as u32,

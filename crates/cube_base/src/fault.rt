@@ -20,14 +20,14 @@ impl<T: Drop> From<AllocFailed<T>> for Memory {
     }
 }
 
-/// A fault of the outside: a read failed.
+/// A fault of the outside: a source could not be read. The source counts it.
 #[derive(Clone, Copy, Debug, PartialEq, Eq)]
 pub struct Failed;
 
 /// Why a sink took nothing.
 #[derive(Clone, Copy, Debug, PartialEq, Eq)]
 pub enum SinkError {
-    /// A fault of the outside.
+    /// A fault of the outside. The sink counts it.
     Failed,
     /// Want of memory.
     Memory,

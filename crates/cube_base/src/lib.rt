@@ -15,7 +15,7 @@ pub use code::Code;
 pub use cols::{Cols, MAX_COLS};
 pub use fault::{Failed, Memory, SinkError};
 pub use memory_io::{MemSink, MemSource};
-pub use name::{MAX_NAME_LEN, Name, has_name_bytes};
+pub use name::{MAX_NAME_LEN, Name, is_name};
 pub use outside::{Sink, Source, write_from, write_whole};
 pub use plain_list::{Bytes, Ids, Names, Nums, Pairs, PlainList};
 pub use standard_io::{StdSink, StdSource};

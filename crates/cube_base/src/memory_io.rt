@@ -48,8 +48,8 @@ impl Calls {
     }
 }
 
-/// A source of given bytes. Its calls are numbered from 1, and those in `fails` answer `Failed`.
-/// Every other call gives as many of the bytes left as fit into `step` and into the caller's buffer.
+/// A source of given bytes. A call gives `step` of them, or fewer where fewer are left or the caller's buffer is shorter; the
+/// calls listed in `fails`, counted from 1, answer `Failed` instead.
 #[derive(Debug, Drop)]
 pub struct MemSource {
     bytes: Bytes,
@@ -129,9 +129,8 @@ impl Source for MemSource {
     }
 }
 
-/// A sink that keeps the bytes it takes. Its calls are numbered from 1, and those in `fails` answer
-/// `Failed`. Every other call takes as many bytes as fit into `step`, or answers `Memory` and takes
-/// none where there is no room for them.
+/// A sink that keeps the bytes it takes. A call takes `step` of them at most, or answers `Memory` and takes none where there is
+/// no room for them; the calls listed in `fails`, counted from 1, answer `Failed` instead.
 #[derive(Debug, Drop)]
 pub struct MemSink {
     taken: Vec<u8>,

@@ -30,7 +30,7 @@ impl Name {
         ensures refused { IfOk result (λ name. IsNone name ↔ (is_name text.now ≡ false)) }
         ensures named { IfOk result (λ name. IfSome name (λ n. n ≡ text.now)) }
     {
-        if !has_name_bytes(text) {
+        if !is_name(text) {
             return Ok(None);
         }
         let text = String::from_str(alloc, text)?;
@@ -47,7 +47,7 @@ impl Name {
 }
 
 /// Whether a text keeps the rule on names, which for a text is one on its length and its bytes.
-pub fn has_name_bytes(text: &str) -> bool
+pub fn is_name(text: &str) -> bool
     ensures bytes { result ≡ has_name_bytes text.now }
     ensures name { result ≡ is_name text.now }
 {

@@ -14,7 +14,8 @@ pub trait Source {
     /// How many faults there have been. The count never falls.
     ghost faults: { Self → ℕ };
 
-    /// Puts the next bytes into the front of `into`, and says how many: 0 is the end of the input.
+    /// Puts the next bytes into the front of `into`, which is not empty, and says how many: 0 is the end of the input.
+    /// `Failed` comes at a fault of the outside alone, and no byte is lost by it; `into` then holds anything.
     fn read(&mut self, into: &mut [u8]) -> Result<usize, Failed>
         requires { 0 < length into.old }
         ensures within { IfOk result (λ n. n ≤ length into.new) }
@@ -30,7 +31,8 @@ pub trait Sink {
     /// How many faults there have been. The count never falls.
     ghost faults: { Self → ℕ };
 
-    /// Takes one byte or more from the front of `piece`, and says how many. On an error it took none.
+    /// Takes one byte or more from the front of `piece`, which is not empty, and says how many. On an error it took
+    /// none: `Failed` comes at a fault of the outside alone, and `Memory` is counted as none.
     fn write(&mut self, piece: &[u8]) -> Result<usize, SinkError>
         requires { 0 < length piece.now }
         ensures some { IfOk result (λ n. 0 < n) }

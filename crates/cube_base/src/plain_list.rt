@@ -5,7 +5,7 @@ use crate::{Memory, Name};
 use std::alloc::Global;
 use std::marker::Model;
 
-/// A list of items in order. It is made from a `Vec` and gives it back without taking memory.
+/// Items in order. To make one of a `Vec`, or a `Vec` of one, moves the items and takes no memory.
 #[derive(Debug, Drop)]
 pub struct PlainList<T> {
     items: Vec<T>,
@@ -15,9 +15,9 @@ pub struct PlainList<T> {
 pub type Bytes = PlainList<u8>;
 /// Ids of facts, or numbers of calls.
 pub type Ids = PlainList<u64>;
-/// Names.
+/// Names of dimensions, or of the outcomes of a measure.
 pub type Names = PlainList<Name>;
-/// Whole numbers.
+/// Whole numbers, as sums of values.
 pub type Nums = PlainList<i128>;
 /// Pairs of two numbers, as a cell and its weight.
 pub type Pairs = PlainList<(u64, u64)>;
@@ -44,6 +44,14 @@ impl<T> PlainList<T> {
     {
         self.items.as_slice()
     }
+
+    /// The items as a `Vec`.
+    pub fn into_vec(self) -> Vec<T>
+        ensures { result.items ≡ self }
+    {
+        let PlainList { items } = self;
+        items
+    }
 }
 
 impl<T: Drop> PlainList<T> {
@@ -62,16 +70,6 @@ impl<T> From<Vec<T>> for PlainList<T> {
 
     fn from(items: Vec<T>) -> Self {
         PlainList { items }
-    }
-}
-
-impl<T> PlainList<T> {
-    /// The items as a `Vec`.
-    pub fn into_vec(self) -> Vec<T>
-        ensures { result.items ≡ self }
-    {
-        let PlainList { items } = self;
-        items
     }
 }
 

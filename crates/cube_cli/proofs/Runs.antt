@@ -1,28 +1,20 @@
 -- A run line by line: its replies, and one line more.
 use Rattle.std.proofs.Common.{◌≡◌, ℕ, zero, suc, ◌+◌, ◌≤◌, List, [], ◌∷◌, ◌++◌, length, take, Option, Some, None, refl, ap, arith}
-use Rattle.std.specs.List.{concat}
 use Rattle.cube_model.specs.declared.edit.Fact.{Fact}
 use Rattle.cube_model.specs.Allocation.{Policy}
 use Rattle.schema_text.specs.Schema.{SchemaValue}
 use Rattle.script_text.specs.declared.reply.Reply.{Reply}
 use Rattle.script_text.specs.declared.reply.Reply.TheVariants as reply
 use Rattle.cube_cli.specs.Run.{refusals_in, run, step, text_of}
-use Rattle.cube_cli.specs.Replies.{replies}
 
--- the bytes of a run are its replies
-pub reply-run : (weigh : Policy) (schema : SchemaValue) (facts : List Fact) (lines : List (List ℕ)) → (run weigh schema facts lines).reply ≡ concat (replies weigh schema facts lines)
-reply-run weigh schema facts [] = refl
-reply-run weigh schema facts (line ∷ lines) =
-    let now = step weigh schema facts line in
-    ap (λ l. text_of schema.dims now.reply ++ l) (reply-run weigh schema now.facts lines)
-
-pub length-replies : (weigh : Policy) (schema : SchemaValue) (facts : List Fact) (lines : List (List ℕ)) → length (replies weigh schema facts lines) ≡ length lines
+-- each line has its reply, which may be empty
+pub length-replies : (weigh : Policy) (schema : SchemaValue) (facts : List Fact) (lines : List (List ℕ)) → length (run weigh schema facts lines).replies ≡ length lines
 length-replies weigh schema facts [] = refl
 length-replies weigh schema facts (line ∷ lines) = ap suc (length-replies weigh schema (step weigh schema facts line).facts lines)
 
 -- the replies to the first lines are the first replies
 pub replies-take : (n : ℕ) (weigh : Policy) (schema : SchemaValue) (facts : List Fact) (lines : List (List ℕ))
-    → replies weigh schema facts (take n lines) ≡ take n (replies weigh schema facts lines)
+    → (run weigh schema facts (take n lines)).replies ≡ take n (run weigh schema facts lines).replies
 replies-take zero weigh schema facts lines = refl
 replies-take (suc n) weigh schema facts [] = refl
 replies-take (suc n) weigh schema facts (line ∷ lines) =
@@ -31,7 +23,7 @@ replies-take (suc n) weigh schema facts (line ∷ lines) =
 
 -- one line more
 pub replies-push : (weigh : Policy) (schema : SchemaValue) (facts : List Fact) (lines : List (List ℕ)) (line : List ℕ)
-    → replies weigh schema facts (lines ++ line ∷ []) ≡ replies weigh schema facts lines ++ text_of schema.dims (step weigh schema (run weigh schema facts lines).facts line).reply ∷ []
+    → (run weigh schema facts (lines ++ line ∷ [])).replies ≡ (run weigh schema facts lines).replies ++ text_of schema.dims (step weigh schema (run weigh schema facts lines).facts line).reply ∷ []
 replies-push weigh schema facts [] line = refl
 replies-push weigh schema facts (first ∷ lines) line =
     let now = step weigh schema facts first in

@@ -4,7 +4,7 @@ use Rattle.std.specs.List.{concat}
 use Rattle.std.specs.Io.{StartsWith}
 use Rattle.std.proofs.lemmas.List.{take_all, take-append-drop, take-append-le, length-take-le}
 use Rattle.std.proofs.Math.Seq.{take-append-add}
-use Rattle.cube_cli.specs.Replies.{BrokenAt, StoppedAt}
+use Rattle.cube_cli.specs.End.{Broken, Stopped}
 use Rattle.cube_cli.specs.ReplyEnds.{ends_from, whole_within}
 use Rattle.cube_cli.proofs.ReplyEnds.{cut_at, starts_with_front, starts_with_both}
 
@@ -43,7 +43,7 @@ take-add k j texts le =
 -- Where the first k replies were taken whole, and then p bytes of the others, the reply in which the cut lies
 -- is broken, and those before it are whole.
 pub broken_at : (texts : List (List ℕ)) (k p : ℕ) → k ≤ length texts → p < length (concat (drop k texts))
-    → BrokenAt texts (k + whole_within p (ends_from 0 (drop k texts)) + 1) (concat (take k texts) ++ take p (concat (drop k texts)))
+    → Broken texts (k + whole_within p (ends_from 0 (drop k texts)) + 1) (concat (take k texts) ++ take p (concat (drop k texts)))
 broken_at texts k p le part =
     let rest = drop k texts in
     let whole = whole_within p (ends_from 0 rest) in
@@ -64,7 +64,7 @@ broken_at texts k p le part =
     }
 
 -- these replies were taken, and of the later ones, of which there is at most one, nothing
-pub stopped_before : (texts later : List (List ℕ)) (done : ℕ) → length later ≤ 1 → done ≡ length texts + length later → StoppedAt (texts ++ later) done (concat texts)
+pub stopped_before : (texts later : List (List ℕ)) (done : ℕ) → length later ≤ 1 → done ≡ length texts + length later → Stopped (texts ++ later) done (concat texts)
 stopped_before texts later done few count =
     let whole : take done (texts ++ later) ≡ texts ++ later = take_all done (texts ++ later) (omega (arith, length-append texts later)) in
     let before : take (done - 1) (texts ++ later) ≡ take (done - 1) texts = take-append-le (done - 1) texts later (omega arith) in
@@ -75,7 +75,7 @@ stopped_before texts later done few count =
     }
 
 -- among more replies it stops at the same one
-pub stopped-more : (texts more : List (List ℕ)) (done : ℕ) (written : List ℕ) → StoppedAt texts done written → StoppedAt (texts ++ more) done written
+pub stopped-more : (texts more : List (List ℕ)) (done : ℕ) (written : List ℕ) → Stopped texts done written → Stopped (texts ++ more) done written
 stopped-more texts more done written stopped =
     let first = take-append-le done texts more stopped.among in
     let before = take-append-le (done - 1) texts more (omega (arith, stopped.among)) in
@@ -85,7 +85,7 @@ stopped-more texts more done written stopped =
       holds = rw before stopped.holds;
     }
 
-pub broken-more : (texts more : List (List ℕ)) (done : ℕ) (written : List ℕ) → BrokenAt texts done written → BrokenAt (texts ++ more) done written
+pub broken-more : (texts more : List (List ℕ)) (done : ℕ) (written : List ℕ) → Broken texts done written → Broken (texts ++ more) done written
 broken-more texts more done written broken =
     record {
       stopped = stopped-more texts more done written broken.stopped;

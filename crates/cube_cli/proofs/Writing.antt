@@ -12,10 +12,9 @@ use Rattle.cube_cli.specs.declared.outbox.Outbox.{Outbox}
 use Rattle.cube_cli.specs.declared.end.End.{End}
 use Rattle.cube_cli.specs.declared.end.End.TheVariants.{Finished, Usage, Schema, ReadFault, WriteFault, Memory, TooLong}
 use Rattle.cube_cli.specs.Broken.{end_of_sink}
-use Rattle.cube_cli.specs.End.{Wrote}
-use Rattle.cube_cli.specs.Replies.{BrokenAt, StoppedAt}
+use Rattle.cube_cli.specs.End.{Broken, Stopped, Wrote}
 use Rattle.cube_cli.specs.ReplyEnds.{ends_from, whole_within}
-use Rattle.cube_cli.specs.Serving.{BreaksOff, HasGathered}
+use Rattle.cube_cli.specs.Progress.{BreaksOff, HasGathered}
 use Rattle.cube_cli.proofs.ReplyEnds.{length-ends_from, ends_from-push}
 use Rattle.cube_cli.proofs.Texts.{concat-append, concat-take-drop, broken_at, stopped_before, stopped-more, broken-more}
 
@@ -26,7 +25,7 @@ wrote (Some xs) None bytes P appends here = absurd appends
 wrote (Some xs) (Some ys) bytes P appends here = (rw appends (take-append_seam xs bytes), subst P (sym (ap (drop (length xs)) appends ∙ drop-append_seam xs bytes)) here)
 
 -- of what was written something weaker holds
-pub wrote-weaker : (before after : Option (List ℕ)) (P Q : List ℕ → Type 0) → ((bytes : List ℕ) → P bytes → Q bytes) → Wrote before after P → Wrote before after Q
+wrote-weaker : (before after : Option (List ℕ)) (P Q : List ℕ → Type 0) → ((bytes : List ℕ) → P bytes → Q bytes) → Wrote before after P → Wrote before after Q
 wrote-weaker None after P Q weaker written = tt
 wrote-weaker (Some xs) None P Q weaker written = written
 wrote-weaker (Some xs) (Some ys) P Q weaker written = (written.0, weaker _ written.1)
@@ -63,13 +62,13 @@ breaks_off-part texts start a b old error p faults faults_after broken gathered 
     let k = old.lines in
     let text = old.text.items in
     let whole = whole_within p (ends_from 0 (drop k texts)) in
-    let at : BrokenAt texts broken (concat (take k texts) ++ take p text) =
+    let at : Broken texts broken (concat (take k texts) ++ take p text) =
     rw (is_broken, gathered.ends)
-    (subst (λ l. p < length l → BrokenAt texts (k + whole + 1) (concat (take k texts) ++ take p l)) (sym gathered.text) (broken_at texts k p gathered.among) part) in
+    (subst (λ l. p < length l → Broken texts (k + whole + 1) (concat (take k texts) ++ take p l)) (sym gathered.text) (broken_at texts k p gathered.among) part) in
     let taken : Appends start b (concat (take k texts) ++ take p text) = Appends-trans start a b (concat (take k texts)) (take p text) gathered.bytes bytes in
-    ends error counts (wrote start b _ (BrokenAt texts broken) taken at) (wrote start b _ (StoppedAt texts broken) taken at.stopped)
+    ends error counts (wrote start b _ (Broken texts broken) taken at) (wrote start b _ (Stopped texts broken) taken at.stopped)
   where
-    ends : (e : SinkError) → CountsSinkFault {T = ℕ} faults faults_after (Err e) → Wrote start b (BrokenAt texts broken) → Wrote start b (StoppedAt texts broken)
+    ends : (e : SinkError) → CountsSinkFault {T = ℕ} faults faults_after (Err e) → Wrote start b (Broken texts broken) → Wrote start b (Stopped texts broken)
         → BreaksOff texts start b faults faults_after (end_of_sink e broken)
     ends sink_error.Failed rose broken stopped = (rose, broken)
     ends sink_error.Memory same broken stopped = (same, stopped)
@@ -78,12 +77,12 @@ breaks_off-part texts start a b old error p faults faults_after broken gathered 
 pub breaks_off-whole : (texts later : List (List ℕ)) (start b : Option (List ℕ)) (done faults faults_after : ℕ) → Appends start b (concat texts) → length later ≤ 1 → done ≡ length texts + length later
     → faults_after ≡ faults → BreaksOff (texts ++ later) start b faults faults_after (Memory done)
 breaks_off-whole texts later start b done faults faults_after bytes few count same =
-    (same, wrote start b (concat texts) (StoppedAt (texts ++ later) done) bytes (stopped_before texts later done few count))
+    (same, wrote start b (concat texts) (Stopped (texts ++ later) done) bytes (stopped_before texts later done few count))
 
 -- a run that breaks off among some replies does among more
 pub breaks_off-more : (texts more : List (List ℕ)) (start b : Option (List ℕ)) (faults faults_after : ℕ) (end : End) → BreaksOff texts start b faults faults_after end → BreaksOff (texts ++ more) start b faults faults_after end
-breaks_off-more texts more start b faults faults_after (WriteFault done) off = (off.0, wrote-weaker start b (BrokenAt texts done) (BrokenAt (texts ++ more) done) (broken-more texts more done) off.1)
-breaks_off-more texts more start b faults faults_after (Memory done) off = (off.0, wrote-weaker start b (StoppedAt texts done) (StoppedAt (texts ++ more) done) (stopped-more texts more done) off.1)
+breaks_off-more texts more start b faults faults_after (WriteFault done) off = (off.0, wrote-weaker start b (Broken texts done) (Broken (texts ++ more) done) (broken-more texts more done) off.1)
+breaks_off-more texts more start b faults faults_after (Memory done) off = (off.0, wrote-weaker start b (Stopped texts done) (Stopped (texts ++ more) done) (stopped-more texts more done) off.1)
 breaks_off-more texts more start b faults faults_after (Finished refused) off = off
 breaks_off-more texts more start b faults faults_after Usage off = off
 breaks_off-more texts more start b faults faults_after (Schema _ _) off = off

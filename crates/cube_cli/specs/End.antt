@@ -2,6 +2,7 @@
 use Rattle.std.specs.Prelude.{◌≡◌, ℕ, ◌-◌, ◌<◌, ◌≤◌, Bool, true, false, List, [], ◌∷◌, length, take, drop, ⊤, Option, Some, None, IfSome, IsSome, IsSomeAnd, Err, codes}
 use Rattle.std.specs.Option.{option_map, option_map_or}
 use Rattle.std.specs.Result.{result_ok}
+use Rattle.std.specs.List.{concat}
 use Rattle.std.specs.Io.{StartsWith}
 use Rattle.std.specs.Io.KnownBytes.{Appends, IsAtEnd, Keeps}
 use Rattle.std.specs.Cmp.Lexicographic.{pointwise}
@@ -28,6 +29,19 @@ pub record Seen : Type 0 where
   pub taken_after : Option (List ℕ)
   pub write_faults : ℕ
   pub write_faults_after : ℕ
+
+-- what a source and a sink tell of a call
+abbrev pub seen_of : {S K : Type 0} → (S → Option (List ℕ)) → (S → ℕ) → (K → Option (List ℕ)) → (K → ℕ) → S → S → K → K → Seen
+seen_of left read_faults taken write_faults source source_after sink sink_after = record {
+  left = left source;
+  left_after = left source_after;
+  read_faults = read_faults source;
+  read_faults_after = read_faults source_after;
+  taken = taken sink;
+  taken_after = taken sink_after;
+  write_faults = write_faults sink;
+  write_faults_after = write_faults sink_after;
+}
 
 -- no fault of the outside was met
 pub record NoFault (seen : Seen) : Type 0 where
@@ -59,24 +73,21 @@ script_of input read = lines_of (drop read.size input)
 abbrev pub outcome_of : List ℕ → Option Outcome
 outcome_of input = option_map (λ read. run_of read.schema (script_of input read)) (schema_in input)
 
--- the number of script lines, and the replies to the first n of them; there are none without a schema
-abbrev pub script_len : List ℕ → ℕ
-script_len input = option_map_or (λ read. length (script_of input read)) (schema_in input) 0
+-- the replies to an input's lines; there are none without a schema
+abbrev pub replies_of : List ℕ → List (List ℕ)
+replies_of input = option_map_or (λ outcome. outcome.replies) (outcome_of input) []
 
-abbrev pub first_replies : List ℕ → ℕ → List ℕ
-first_replies input n = option_map_or (λ read. (run_of read.schema (take n (script_of input read))).reply) (schema_in input) []
+-- What was written of these replies when the run stopped: a part of the first so many, with all but the last of
+-- them whole.
+pub record Stopped (replies : List (List ℕ)) (done : ℕ) (written : List ℕ) : Type 0 where
+  pub among : done ≤ length replies
+  pub prefix : StartsWith (concat (take done replies)) written
+  pub holds : StartsWith written (concat (take (done - 1) replies))
 
--- What was written when a run stopped: a part of the replies to the lines that were done, with all but the
--- last whole.
-pub record Stopped (input : List ℕ) (done : ℕ) (written : List ℕ) : Type 0 where
-  pub among : done ≤ script_len input
-  pub prefix : StartsWith (first_replies input done) written
-  pub holds : StartsWith written (first_replies input (done - 1))
-
--- the last reply is not whole
-pub record Broken (input : List ℕ) (done : ℕ) (written : List ℕ) : Type 0 where
-  pub stopped : Stopped input done written
-  pub part : length written < length (first_replies input done)
+-- the last of them is not whole
+pub record Broken (replies : List (List ℕ)) (done : ℕ) (written : List ℕ) : Type 0 where
+  pub stopped : Stopped replies done written
+  pub part : length written < length (concat (take done replies))
 
 -- What each end says.
 abbrev pub Says : List (List ℕ) → Seen → End → Type 0
@@ -87,18 +98,18 @@ Says words seen (Schema line why) = (is_command words ≡ true) × NoFault seen 
     × WasRead seen (λ input. schema_of input ≡ Err (record { line = line; reason = why }))
 -- the bytes written are the replies of the run, which refuses so many lines
 Says words seen (Finished refused) = (is_command words ≡ true) × NoFault seen
-    × WasRead seen (λ input. IsSomeAnd (outcome_of input) (λ outcome. (refused ≡ outcome.refused) × Appends seen.taken seen.taken_after outcome.reply))
+    × WasRead seen (λ input. IsSomeAnd (outcome_of input) (λ outcome. (refused ≡ outcome.refused) × Appends seen.taken seen.taken_after (concat outcome.replies)))
 -- a read failed before any line was done
 Says words seen (ReadFault done) = (is_command words ≡ true) × Rose seen.read_faults seen.read_faults_after × (seen.write_faults_after ≡ seen.write_faults)
     × WroteNothing seen × (done ≡ 0)
 -- 2^30 bytes were taken before any line was done, and one more came
 Says words seen (TooLong done) = (is_command words ≡ true) × NoFault seen × WroteNothing seen × (done ≡ 0) × GoesOn seen.left seen.left_after
--- a write failed: the reply to the last line is not whole
+-- a write failed: the last of the first `done` replies is not whole
 Says words seen (WriteFault done) = (is_command words ≡ true) × Rose seen.write_faults seen.write_faults_after × (seen.read_faults_after ≡ seen.read_faults)
-    × WasRead seen (λ input. Wrote seen.taken seen.taken_after (Broken input done))
+    × WasRead seen (λ input. Wrote seen.taken seen.taken_after (Broken (replies_of input) done))
 -- memory was wanting
 Says words seen (Memory done) = (is_command words ≡ true) × NoFault seen
-    × IfSome seen.left (λ input. Wrote seen.taken seen.taken_after (Stopped input done))
+    × IfSome seen.left (λ input. Wrote seen.taken seen.taken_after (Stopped (replies_of input) done))
 
 -- the run was done to its end, or memory was wanting
 abbrev pub IsDone : End → Type 0

@@ -1,5 +1,6 @@
 -- Two small inputs, and what they give, worked out by hand.
 use Rattle.std.specs.Prelude.{◌≡◌, ℕ, List, [], ◌∷◌, ◌++◌, codes, IsSomeAnd}
+use Rattle.std.specs.List.{concat}
 use Rattle.cube_model.specs.Text.{line_text}
 use Rattle.cube_cli.specs.End.{outcome_of}
 
@@ -29,7 +30,8 @@ city_and_state_replies =
     ++ line_text (codes "ok") (codes "1" ∷ [])
     ++ line_text (codes "terms") (codes "2" ∷ codes "1" ∷ codes "1" ∷ codes "2" ∷ codes "1" ∷ [])
 
--- a fact somewhere in the state, a remark, the fact's repeat, an unknown line, and the rows of a fact that is not there
+-- a fact somewhere in the state, a remark, the fact's repeat, an unknown line, the count in the state, and the rows of a
+-- fact that is not there
 abbrev pub refused_and_skipped : List ℕ
 refused_and_skipped =
     texas
@@ -37,16 +39,18 @@ refused_and_skipped =
     ++ line_text (codes "#again") []
     ++ line_text (codes "insert") (codes "1" ∷ codes "TX" ∷ [])
     ++ line_text (codes "total") (codes "TX" ∷ [])
+    ++ line_text (codes "terms") (codes "TX" ∷ [])
     ++ line_text (codes "rows") (codes "2" ∷ [])
 
--- the remark has no reply
+-- the remark has no reply, and the fact counts two halves in its state
 abbrev pub refused_and_skipped_replies : List ℕ
 refused_and_skipped_replies =
     line_text (codes "ok") (codes "1" ∷ [])
     ++ line_text (codes "error") (codes "exists" ∷ [])
     ++ line_text (codes "error") (codes "command" ∷ [])
+    ++ line_text (codes "terms") (codes "1" ∷ codes "2" ∷ codes "2" ∷ [])
     ++ line_text (codes "error") (codes "missing" ∷ [])
 
 -- an input gives these replies, and this many of its lines are refused
 abbrev pub Gives : List ℕ → List ℕ → ℕ → Type 0
-Gives input replies refused = IsSomeAnd (outcome_of input) (λ outcome. (outcome.reply ≡ replies) × (outcome.refused ≡ refused))
+Gives input replies refused = IsSomeAnd (outcome_of input) (λ outcome. (concat outcome.replies ≡ replies) × (outcome.refused ≡ refused))

@@ -2,9 +2,8 @@ pub mod Broken
 pub mod End
 pub mod Examples
 pub mod Input
-pub mod Replies
+pub mod Progress
 pub mod ReplyEnds
 pub mod Run
-pub mod Serves
-pub mod Serving
+pub mod RunsScript
 pub mod Status

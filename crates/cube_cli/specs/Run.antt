@@ -1,5 +1,5 @@
 -- What a script does, line by line.
-use Rattle.std.specs.Prelude.{ℕ, ◌+◌, List, [], ◌∷◌, ◌++◌, length, Option, Some, None, Result, Ok, Err}
+use Rattle.std.specs.Prelude.{ℕ, ◌+◌, List, [], ◌∷◌, length, Option, Some, None, Result, Ok, Err}
 use Rattle.std.specs.Option.{option_map_or}
 use Rattle.cube_base.specs.declared.code.Code.{Code}
 use Rattle.cube_base.specs.declared.code.Code.TheVariants.{Missing}
@@ -18,7 +18,7 @@ use Rattle.script_text.specs.declared.line.Line.{Line}
 use Rattle.script_text.specs.declared.line.Line.TheVariants as line
 use Rattle.script_text.specs.declared.reply.Reply.{Reply}
 use Rattle.script_text.specs.declared.reply.Reply.TheVariants as reply
-use Rattle.script_text.specs.RowsText.{reply_text_over}
+use Rattle.script_text.specs.Reply.{reply_text}
 use Rattle.script_text.specs.ScriptLine.{line_of}
 use Rattle.cube_core.specs.Cube.{allocation_of}
 use Rattle.cube_core.specs.Judge.{judge}
@@ -75,12 +75,12 @@ step_from weigh schema facts (Ok said) = step_of weigh schema facts said
 step_from weigh schema facts (Err refusal) = replied facts (reply.Error refusal)
 
 unfoldable pub step : Policy → SchemaValue → List Fact → List ℕ → Step
-step weigh schema facts bytes = step_from weigh schema facts (line_of schema bytes)
+step weigh schema facts bytes = step_from weigh schema facts (line_of schema.dims schema.measures bytes)
 
 -- the text of a reply, if there is one
 abbrev pub text_of : List Dimension → Option Reply → List ℕ
 text_of dims None = []
-text_of dims (Some said) = reply_text_over dims said
+text_of dims (Some said) = reply_text dims said
 
 -- how many refusals a reply is
 abbrev pub refusals_in : Option Reply → ℕ
@@ -90,18 +90,19 @@ refusals_in (Some (reply.Error _)) = 1
 refusals_in (Some (reply.Terms _)) = 0
 refusals_in (Some (reply.Rows _ _)) = 0
 
--- what lines do: all replies, the facts at the end, and the number of refusals
+-- What lines do: the text of the reply to each, which is empty where there is none, the facts at the end, and the
+-- number of refusals.
 pub record Outcome : Type 0 where
-  pub reply : List ℕ
+  pub replies : List (List ℕ)
   pub facts : List Fact
   pub refused : ℕ
 
 abbrev pub run : Policy → SchemaValue → List Fact → List (List ℕ) → Outcome
-run weigh schema facts [] = record { reply = []; facts = facts; refused = 0 }
+run weigh schema facts [] = record { replies = []; facts = facts; refused = 0 }
 run weigh schema facts (line ∷ lines) =
     let now = step weigh schema facts line in
     let later = run weigh schema now.facts lines in
-    record { reply = text_of schema.dims now.reply ++ later.reply; facts = later.facts; refused = refusals_in now.reply + later.refused }
+    record { replies = text_of schema.dims now.reply ∷ later.replies; facts = later.facts; refused = refusals_in now.reply + later.refused }
 
 -- the run of a whole script from no facts on, under the policy of the schema
 abbrev pub run_of : SchemaValue → List (List ℕ) → Outcome

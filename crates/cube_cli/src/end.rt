@@ -5,7 +5,8 @@ ghost use Rattle.cube_cli.specs.Status.{status_of};
 use cube_base::Code;
 use std::fmt;
 
-/// How a run ended. `done` is the number of script lines that were done.
+/// How a run ended. Of a run that stops, a part of the replies to the first `done` script lines is written, with all
+/// but the last of them whole.
 #[derive(Clone, Copy, Debug, PartialEq, Eq)]
 pub enum End {
     /// The input was read to its end, and this many of its lines were answered `error`.
@@ -14,13 +15,13 @@ pub enum End {
     Usage,
     /// The schema is refused: its first faulty line, counted from 1, and why.
     Schema { line: u64, code: Code },
-    /// Reading failed.
+    /// Reading failed. The whole input is read before a line is done, so `done` is 0.
     ReadFault { done: u64 },
-    /// Writing failed.
+    /// Writing failed. The reply to line `done`, counted from 1, is not whole; lines behind it may have been done.
     WriteFault { done: u64 },
-    /// An allocation was refused.
+    /// An allocation was refused. Lines behind the first `done` may have been done.
     Memory { done: u64 },
-    /// The input has more than 2^30 bytes.
+    /// The input has more than 2^30 bytes. No line was done, and `done` is 0.
     TooLong { done: u64 },
 }
 

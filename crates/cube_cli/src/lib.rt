@@ -7,11 +7,10 @@ mod input;
 mod laws;
 mod outbox;
 mod script;
-mod server;
+mod script_run;
 #[cfg(test)]
 mod tests;
 
 pub use command::cube;
 pub use end::End;
-pub use input::MAX_INPUT;
 pub use laws::worked_examples;

@@ -3,11 +3,11 @@ ghost use Rattle.std.specs.Prelude.{◌≡◌, ◌+◌, ◌<◌, ◌≤◌, ◌^
 ghost use Rattle.std.specs.Io.KnownBytes.{Appends};
 ghost use Rattle.std.specs.List.{concat};
 ghost use Rattle.cube_base.specs.Outside.{CountsSinkFault};
-ghost use Rattle.script_text.specs.RowsText.{NamesCells};
+ghost use Rattle.script_text.specs.Reply.{NamesCells};
 ghost use Rattle.cube_cli.specs.Broken.{end_of_sink};
 ghost use Rattle.cube_cli.specs.ReplyEnds.{whole_within};
 ghost use Rattle.cube_cli.specs.Run.{text_of};
-ghost use Rattle.cube_cli.specs.Serving.{BreaksOff, HasGathered};
+ghost use Rattle.cube_cli.specs.Progress.{BreaksOff, HasGathered};
 
 use crate::End;
 use cube_base::{Memory, Sink, SinkError, write_from};

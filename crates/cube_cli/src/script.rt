@@ -2,7 +2,7 @@
 ghost use Rattle.std.specs.Prelude.{◌≡◌, if◌then◌else◌, IfOk, IfSome, OnErr, OnOk, Some};
 ghost use Rattle.std.specs.Option.{option_copied};
 ghost use Rattle.script_text.specs.LineOf.{IsEditOf, IsLineOf};
-ghost use Rattle.script_text.specs.RowsText.{NamesCells};
+ghost use Rattle.script_text.specs.Reply.{NamesCells};
 ghost use Rattle.cube_cli.specs.Run.{edited, refusals_in, rows_reply, step, step_of};
 
 use alloc_rows::Alloc;
@@ -37,7 +37,7 @@ fn do_said<P: WeightPolicy + Drop>(
     cube: &mut Cube<P>,
     said: Line,
 ) -> Result<Option<Reply>, Memory>
-    requires { IsLineOf cube.old.schema said }
+    requires { IsLineOf cube.old.schema.dims cube.old.schema.measures said }
     ensures reply { IfOk result (λ reply. reply ≡ (step_of (P.weigh cube.old.policy) cube.old.schema cube.old.facts said).reply) }
     ensures facts { OnOk result (cube.new ≡ record cube.old { facts = (step_of (P.weigh cube.old.policy) cube.old.schema cube.old.facts said).facts }) }
     ensures cells { IfOk result (λ reply. IfSome reply (NamesCells cube.old.schema.dims)) }
@@ -53,7 +53,7 @@ fn do_said<P: WeightPolicy + Drop>(
 
 /// Does an edit: `ok` with the number of the facts that it refreshed, or why it is refused.
 fn do_edit<P: WeightPolicy + Drop>(cube: &mut Cube<P>, edit: &Edit) -> Result<Reply, Memory>
-    requires { IsEditOf cube.old.schema edit.now }
+    requires { IsEditOf cube.old.schema.dims cube.old.schema.measures edit.now }
     ensures reply { IfOk result (λ reply. Some reply ≡ (edited (P.weigh cube.old.policy) cube.old.schema cube.old.facts edit.now).reply) }
     ensures facts { OnOk result (cube.new ≡ record cube.old { facts = (edited (P.weigh cube.old.policy) cube.old.schema cube.old.facts edit.now).facts }) }
     ensures cells { IfOk result (NamesCells cube.old.schema.dims) }

@@ -112,6 +112,28 @@ fn input_of(alloc: Global, schema: &[&str], script: &str) -> Result<String, Allo
     Ok(text)
 }
 
+/// The script of these lines, and their replies. A line that is skipped has an empty reply.
+fn joined(alloc: Global, lines: &[(&str, &str)]) -> Result<(String, String), AllocError> {
+    let mut script = String::new(alloc);
+    let mut replies = String::new(alloc);
+    for (line, reply) in lines {
+        script.push_str(line)?;
+        replies.push_str(reply)?;
+    }
+    Ok((script, replies))
+}
+
+/// The run of these lines behind a schema is done, refuses so many of them, and answers each by its reply.
+fn expect_lines(
+    rt: &(impl Abort + AllocGlobal),
+    schema: &[&str],
+    lines: &[(&str, &str)],
+    refused: u64,
+) -> Result<(), Fail> {
+    let (script, replies) = joined(rt.alloc(), lines)?;
+    expect_replies(rt, schema, &script, &replies, refused)
+}
+
 /// The run of a script behind a schema is done, refuses so many lines, and writes these replies.
 fn expect_replies(
     rt: &(impl Abort + AllocGlobal),

@@ -1,8 +1,8 @@
--- Facts in order of their ids, one after another, and what edits do to the order and to their number.
-use Rattle.std.proofs.Common.{◌≡◌, ℕ, zero, suc, ◌+◌, ◌<◌, ◌≤◌, Bool, true, false, List, [], ◌∷◌, ◌++◌, length, refl, ap, ◌∙◌, arith, length-append}
-use Rattle.std.specs.Prelude.{All, filter, nat_lt, not, ◌==◌, if◌then◌else◌}
+-- Facts in order of their ids, one after another, and what edits do to their number.
+use Rattle.std.proofs.Common.{◌≡◌, ℕ, suc, ◌+◌, ◌<◌, ◌≤◌, Bool, true, false, List, [], ◌∷◌, ◌++◌, length, refl, ap, ◌∙◌, arith, length-append}
+use Rattle.std.specs.Prelude.{All, filter, nat_lt, not, ◌==◌}
 use Rattle.std.proofs.lemmas.Bool.Decides.{nat_tests}
-use Rattle.std.proofs.lemmas.List.Elements.{All-append, All-cons, All-filter, All-head, All-nil, All-tail, All-weaker, filter_passes}
+use Rattle.std.proofs.lemmas.List.Elements.{All-cons, All-head, All-nil, All-tail, All-weaker}
 use Rattle.std.proofs.lemmas.List.Folds.{list_any_none}
 use Rattle.cube_model.specs.declared.edit.Fact.{Fact}
 use Rattle.cube_model.specs.Facts.{has_id, put, withdraw}
@@ -15,45 +15,10 @@ ascending-first fact facts up k d within = up 0 (suc k) d (omega arith) (omega a
 pub ascending-rest : (fact : Fact) (facts : List Fact) → IsAscending (fact ∷ facts) → IsAscending facts
 ascending-rest fact facts up i j d before within = up (suc i) (suc j) d (omega arith) (omega arith)
 
-ascending-cons : (fact : Fact) (facts : List Fact) → All (λ f. fact.id < f.id) facts → IsAscending facts → IsAscending (fact ∷ facts)
-ascending-cons fact facts first up i zero d before within = absurd (omega arith)
-ascending-cons fact facts first up zero (suc j) d before within = first j d (omega arith)
-ascending-cons fact facts first up (suc i) (suc j) d before within = up i j d (omega arith) (omega arith)
-
 -- no fact behind the first has its id
 pub first-alone : (fact : Fact) (facts : List Fact) → IsAscending (fact ∷ facts) → has_id fact.id facts ≡ false
 first-alone fact facts up =
     list_any_none (λ f. f.id == fact.id) facts (All-weaker (λ f. fact.id < f.id) (λ f. (f.id == fact.id) ≡ false) (λ f above. grind (arith, nat_tests)) facts (ascending-first fact facts up))
-
-ascending-filter : (p : Fact → Bool) (facts : List Fact) → IsAscending facts → IsAscending (filter p facts)
-ascending-filter p [] up = up
-ascending-filter p (fact ∷ facts) up =
-    either (p fact) (ascending-filter p facts (ascending-rest fact facts up)) (All-filter p (λ f. fact.id < f.id) facts (ascending-first fact facts up))
-  where
-    either : (b : Bool) → IsAscending (filter p facts) → All (λ f. fact.id < f.id) (filter p facts) → IsAscending (if b then fact ∷ filter p facts else filter p facts)
-    either true rest first = ascending-cons fact (filter p facts) first rest
-    either false rest first = rest
-
--- smaller ids, an id, and greater ones
-ascending-between : (front : List Fact) (fact : Fact) (back : List Fact) → IsAscending front → All (λ f. f.id < fact.id) front → IsAscending back → All (λ f. fact.id < f.id) back → IsAscending (front ++ fact ∷ back)
-ascending-between [] fact back front_up smaller back_up greater = ascending-cons fact back greater back_up
-ascending-between (f ∷ front) fact back front_up smaller back_up greater =
-    let here : f.id < fact.id = All-head (λ (g : Fact). g.id < fact.id) f front smaller in
-    let behind = All-cons (λ (g : Fact). f.id < g.id) fact back here (All-weaker (λ (g : Fact). fact.id < g.id) (λ (g : Fact). f.id < g.id) (λ g above. omega arith) back greater) in
-    ascending-cons f (front ++ fact ∷ back) (All-append (λ (g : Fact). f.id < g.id) front (fact ∷ back) (ascending-first f front front_up) behind)
-    (ascending-between front fact back (ascending-rest f front front_up) (All-tail (λ (g : Fact). g.id < fact.id) f front smaller) back_up greater)
-
--- edits keep the order
-pub ascending-put : (fact : Fact) (facts : List Fact) → IsAscending facts → IsAscending (put fact facts)
-ascending-put fact facts up =
-    ascending-between (filter (λ f. nat_lt f.id fact.id) facts) fact (filter (λ f. nat_lt fact.id f.id) facts)
-    (ascending-filter (λ f. nat_lt f.id fact.id) facts up)
-    (All-weaker (λ f. nat_lt f.id fact.id ≡ true) (λ f. f.id < fact.id) (λ f passes. grind (arith, nat_tests)) (filter (λ f. nat_lt f.id fact.id) facts) (filter_passes (λ f. nat_lt f.id fact.id) facts))
-    (ascending-filter (λ f. nat_lt fact.id f.id) facts up)
-    (All-weaker (λ f. nat_lt fact.id f.id ≡ true) (λ f. fact.id < f.id) (λ f passes. grind (arith, nat_tests)) (filter (λ f. nat_lt fact.id f.id) facts) (filter_passes (λ f. nat_lt fact.id f.id) facts))
-
-pub ascending-withdraw : (id : ℕ) (facts : List Fact) → IsAscending facts → IsAscending (withdraw id facts)
-ascending-withdraw id facts up = ascending-filter (λ f. not (f.id == id)) facts up
 
 -- edits and the number of facts
 two_parts-le : (id : ℕ) (facts : List Fact) → length (filter (λ f. nat_lt f.id id) facts) + length (filter (λ f. nat_lt id f.id) facts) ≤ length facts

@@ -1,6 +1,6 @@
 -- Statistics counted fact by fact, and how much they count over the cells of a region.
-use Rattle.std.proofs.Common.{◌≡◌, ℕ, ◌+◌, ◌<◌, ◌≤◌, Bool, true, false, List, [], ◌∷◌, length, refl, ap, sym, ◌∙◌, subst, arith, inl, inr}
-use Rattle.std.specs.Prelude.{◌==◌, if◌then◌else◌, Option, Some, None, unwrap_or}
+use Rattle.std.proofs.Common.{◌≡◌, ℕ, ◌+◌, ◌<◌, ◌≤◌, Bool, true, false, List, [], ◌∷◌, length, refl, ap, ◌∙◌, subst, arith, inl, inr}
+use Rattle.std.specs.Prelude.{◌&&◌, ◌==◌, if◌then◌else◌, Option, Some, None}
 use Rattle.std.specs.List.{count_by, sum_by}
 use Rattle.std.specs.Option.{option_map_or}
 use Rattle.std.proofs.lemmas.Bool.{cases_eq}
@@ -8,17 +8,14 @@ use Rattle.std.proofs.lemmas.Bool.Decides.{nat_tests}
 use Rattle.std.proofs.lemmas.List.Sums.{count_by-le-length, sum_by-cons}
 use Rattle.cube_model.specs.declared.edit.Fact.{Fact}
 use Rattle.cube_model.specs.declared.statistic.CellStat.{CellStat}
-use Rattle.cube_model.specs.Allocation.{is_just}
-use Rattle.cube_model.specs.Cells.{all_cells, cells_of, is_inside, places_from}
+use Rattle.cube_model.specs.Cells.{all_cells, cells_of, is_among, is_inside, is_single, places_from}
+use Rattle.cube_model.specs.Facts.{lies_at}
+use Rattle.cube_model.specs.Limits.{MAX_FACTS}
 use Rattle.cube_model.specs.Tree.{Dimension}
 use Rattle.region_algebra.specs.Space.{only_cell}
 use Rattle.staged_map.specs.Staged.{Places}
-use Rattle.cell_weight.specs.Stats.{Installs, KeepsStats, MOST_FACTS, stat_at}
-use Rattle.cube_core.specs.Counting.{AddsFact, CountFacts, with_fact}
-
--- the cell is the one cell of the fact's region
-abbrev pub lies_at : List Dimension → ℕ → Fact → Bool
-lies_at dims cell fact = is_just cell (cells_of dims fact.region)
+use Rattle.cell_weight.specs.Stats.{stat_at}
+use Rattle.cube_core.specs.Counting.{AddsFact, CountFacts}
 
 -- how many of the facts lie at a cell
 abbrev pub facts_at : List Dimension → List Fact → ℕ → ℕ
@@ -32,17 +29,15 @@ pub record Counted (dims : List Dimension) (facts left : List Fact) (stats : Pla
 facts_at-cons : (dims : List Dimension) (fact : Fact) (facts : List Fact) (cell : ℕ) → facts_at dims (fact ∷ facts) cell ≡ (if lies_at dims cell fact then 1 else 0) + facts_at dims facts cell
 facts_at-cons dims fact facts cell = sum_by-cons (λ f. if lies_at dims cell f then 1 else 0) fact facts
 
--- the one cell that there is is the only one
-is_just-only : (cell : ℕ) (cells : List ℕ) → is_just cell cells ≡ option_map_or (λ k. k == cell) (only_cell cells) false
-is_just-only cell [] = refl
-is_just-only cell (c ∷ []) = refl
-is_just-only cell (c ∷ d ∷ cells) = refl
+-- a cell among those of which there is one is the only one
+single-among : (cells : List ℕ) (cell : ℕ) → (is_single cells && is_among cells cell) ≡ option_map_or (λ k. k == cell) (only_cell cells) false
+single-among [] cell = refl
+single-among (c ∷ []) cell = grind (arith, nat_tests)
+single-among (c ∷ d ∷ cells) cell = grind (arith, nat_tests)
 
-just-none : (cell : ℕ) (cells : List ℕ) → only_cell cells ≡ None → is_just cell cells ≡ false
-just-none cell cells none = is_just-only cell cells ∙ ap (λ o. option_map_or (λ k. k == cell) o false) none
-
-just-some : (cell k : ℕ) (cells : List ℕ) → only_cell cells ≡ Some k → is_just cell cells ≡ (k == cell)
-just-some cell k cells some = is_just-only cell cells ∙ ap (λ o. option_map_or (λ k. k == cell) o false) some
+-- a fact lies where its one cell is, if there is one
+lies_at-only : (dims : List Dimension) (fact : Fact) (cell : ℕ) (only : Option ℕ) → only_cell (cells_of dims fact.region) ≡ only → lies_at dims cell fact ≡ option_map_or (λ k. k == cell) only false
+lies_at-only dims fact cell only is = single-among (cells_of dims fact.region) cell ∙ ap (λ o. option_map_or (λ k. k == cell) o false) is
 
 -- the same of equal facts that are left
 pub Counted-left : {dims : List Dimension} {facts left others : List Fact} {stats : Places CellStat} → left ≡ others → Counted dims facts left stats → Counted dims facts others stats
@@ -52,17 +47,17 @@ module _ (dims : List Dimension) (facts left : List Fact) (fact : Fact) (old : P
   -- a fact that is not on one cell counts nowhere
   pub Counted-none : only_cell (cells_of dims fact.region) ≡ None → Counted dims facts left old
   Counted-none none = record {
-    counts = λ cell. omega (arith, before.counts cell, facts_at-cons dims fact left cell, ap {B = ℕ} (λ b. if b then 1 else 0) (just-none cell (cells_of dims fact.region) none));
+    counts = λ cell. omega (arith, before.counts cell, facts_at-cons dims fact left cell, ap {B = ℕ} (λ b. if b then 1 else 0) (lies_at-only dims fact cell None none));
     sums = before.sums;
   }
 
   module _ (k : ℕ) (some : only_cell (cells_of dims fact.region) ≡ Some k) where
     -- what it adds to a cell
     adds : (cell : ℕ) → (stat_at old cell).count + ((if k == cell then 1 else 0) + facts_at dims left cell) ≡ facts_at dims facts cell
-    adds cell = omega (arith, before.counts cell, facts_at-cons dims fact left cell, ap {B = ℕ} (λ b. if b then 1 else 0) (just-some cell k (cells_of dims fact.region) some))
+    adds cell = omega (arith, before.counts cell, facts_at-cons dims fact left cell, ap {B = ℕ} (λ b. if b then 1 else 0) (lies_at-only dims fact cell (Some k) some))
 
     -- there is room for it
-    pub Counted-room : length facts ≤ MOST_FACTS → (stat_at old k).count < MOST_FACTS
+    pub Counted-room : length facts ≤ MAX_FACTS → (stat_at old k).count < MAX_FACTS
     Counted-room few = grind (arith, nat_tests, adds k, count_by-le-length (lies_at dims k) facts)
 
     -- and its cell has one more
@@ -120,7 +115,7 @@ one_cell-if (Some k) b cells each is =
 -- a fact lies at one cell of a region at most
 one_cell : (dims : List Dimension) (region : List ℕ) (fact : Fact) → sum_by (λ c. if lies_at dims c fact then 1 else 0) (cells_of dims region) ≤ 1
 unfolding cells_of
-one_cell dims region fact = one_cell-if (only_cell (cells_of dims fact.region)) (λ c. lies_at dims c fact) (cells_of dims region) (λ k. once (is_inside dims region) k 0 (all_cells dims)) (λ c. is_just-only c (cells_of dims fact.region))
+one_cell dims region fact = one_cell-if (only_cell (cells_of dims fact.region)) (λ c. lies_at dims c fact) (cells_of dims region) (λ k. once (is_inside dims region) k 0 (all_cells dims)) (λ c. lies_at-only dims fact c _ refl)
 
 -- so over the cells of a region no more facts count than there are
 pub counts-le : (dims : List Dimension) (region : List ℕ) (facts : List Fact) (w : ℕ → ℕ) → ((c : ℕ) → w c ≤ facts_at dims facts c) → sum_by w (cells_of dims region) ≤ length facts
@@ -135,13 +130,3 @@ counts-le dims region (fact ∷ facts) w each =
 
 pub CountFacts-le : (dims : List Dimension) (region : List ℕ) (facts : List Fact) (stats : Places CellStat) → CountFacts dims facts stats → sum_by (λ cell. (stat_at stats cell).count) (cells_of dims region) ≤ length facts
 CountFacts-le dims region facts stats counted = counts-le dims region facts (λ cell. (stat_at stats cell).count) (λ c. omega (arith, ap (λ (s : CellStat). s.count) (counted.each c)))
-
--- a cell's new statistics, installed where all others stay, are those of one fact more
-pub AddsFact-installed : (old mid new : Places CellStat) (cell : ℕ) (stat : CellStat) → stat ≡ stat_at old cell → KeepsStats old mid → Installs mid new ((cell, with_fact stat) ∷ []) → AddsFact old new cell
-AddsFact-installed old mid new cell stat is keeps installs = record { each = λ c. either c (c == cell) refl }
-  where
-    either : (c : ℕ) (b : Bool) → (c == cell) ≡ b → stat_at new c ≡ (if b then with_fact (stat_at old c) else stat_at old c)
-    either c true test =
-        let same : c ≡ cell = grind (arith, nat_tests) in
-        installs.stats c ∙ ap (λ t. unwrap_or (if t then Some (with_fact stat) else None) (stat_at mid c)) test ∙ ap with_fact (is ∙ ap (stat_at old) (sym same))
-    either c false test = installs.stats c ∙ ap (λ t. unwrap_or (if t then Some (with_fact stat) else None) (stat_at mid c)) test ∙ keeps.stats c

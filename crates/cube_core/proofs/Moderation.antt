@@ -1,5 +1,5 @@
 -- What is added up fact by fact stays within bounds.
-use Rattle.std.proofs.Common.{◌≡◌, ℕ, zero, suc, ◌+◌, ◌*◌, ◌^◌, ◌<◌, ◌≤◌, true, false, List, [], ◌∷◌, length, map, refl, inl, inr, arith, ℤ, pos, ◌+ℤ◌, ◌*ℤ◌, length-append}
+use Rattle.std.proofs.Common.{◌≡◌, ℕ, zero, suc, ◌+◌, ◌*◌, ◌<◌, ◌≤◌, true, false, List, [], ◌∷◌, length, map, refl, inl, inr, arith, ℤ, pos, ◌+ℤ◌, ◌*ℤ◌, length-append}
 use Rattle.std.specs.Prelude.{All, if◌then◌else◌, nat_abs, nat_lt, slice_index_or, ◌==◌}
 use Rattle.std.specs.List.{range_with_len}
 use Rattle.std.proofs.lemmas.Bool.{cases_eq}
@@ -12,21 +12,22 @@ use Rattle.cube_model.specs.declared.term.Term.{Term}
 use Rattle.cube_model.specs.Allocation.{ExtendedFact}
 use Rattle.cube_model.specs.Answer.{answer, bound_of, count_at, count_of, numerator_of, sum_at, terms_below}
 use Rattle.cube_model.specs.Cells.{cells_of}
+use Rattle.cube_model.specs.Limits.{DEN_LIMIT, MAX_FACTS, MAX_VALUE}
 use Rattle.cube_model.specs.Tree.{Dimension}
-use Rattle.exact_fraction.specs.Moderate.{IsModerate, IsModerateTerm, MOST_TERMS, MOST_VALUE}
+use Rattle.exact_fraction.specs.Moderate.{IsModerate, IsModerateTerm}
 use Rattle.group_sum.specs.Place.{no_term, term_at}
 use Rattle.group_sum.specs.Terms.{AddsShare, Fits, TermList, are_terms_from, is_term}
 use Rattle.group_sum.proofs.Adding.{StandsFor, stands_at}
 use Rattle.group_sum.proofs.Ascending.{is_term_at}
-use Rattle.cube_core.specs.Cube.{IsBounded, LIMIT}
+use Rattle.cube_core.specs.Cube.{IsBounded}
 use Rattle.cube_core.proofs.AddingUp.{count_at-cons}
 
--- Of so many facts: no count passes their number times its denominator, no sum MOST_VALUE times its count, and nothing
--- has a denominator from LIMIT on.
+-- Of so many facts: no count passes their number times its denominator, no sum MAX_VALUE times its count, and nothing
+-- has a denominator from DEN_LIMIT on.
 pub record AreModest (facts columns : ℕ) (terms : List Term) : Type 0 where
   pub counts : (d : ℕ) → count_of terms d ≤ facts * d
-  pub sums : (d k : ℕ) → k < columns → nat_abs (numerator_of terms d (k + 1)) ≤ MOST_VALUE * count_of terms d
-  pub limit : (d : ℕ) → LIMIT ≤ d → count_of terms d ≡ 0
+  pub sums : (d k : ℕ) → k < columns → nat_abs (numerator_of terms d (k + 1)) ≤ MAX_VALUE * count_of terms d
+  pub limit : (d : ℕ) → DEN_LIMIT ≤ d → count_of terms d ≡ 0
 
 pub modest-none : (columns : ℕ) → AreModest 0 columns []
 modest-none columns = record {
@@ -38,30 +39,30 @@ modest-none columns = record {
 -- values that a fact may have
 pub record AreSmallValues (columns : ℕ) (values : List ℤ) : Type 0 where
   pub count : length values ≡ columns
-  pub small : (k : ℕ) → k < columns → nat_abs (slice_index_or values k (pos 0)) ≤ MOST_VALUE
+  pub small : (k : ℕ) → k < columns → nat_abs (slice_index_or values k (pos 0)) ≤ MAX_VALUE
 
 -- the product of a weight and a value
-product-small : (weight : ℕ) (value : ℤ) → nat_abs value ≤ MOST_VALUE → nat_abs (pos weight *ℤ value) ≤ MOST_VALUE * weight
+product-small : (weight : ℕ) (value : ℤ) → nat_abs value ≤ MAX_VALUE → nat_abs (pos weight *ℤ value) ≤ MAX_VALUE * weight
 product-small weight value small = omega (arith, unsigned_abs-mul (pos weight) value, mul-le-mul_left weight small)
 
-sum-small : (sum product : ℤ) (m n : ℕ) → nat_abs sum ≤ MOST_VALUE * m → nat_abs product ≤ MOST_VALUE * n → nat_abs (sum +ℤ product) ≤ MOST_VALUE * (m + n)
+sum-small : (sum product : ℤ) (m n : ℕ) → nat_abs sum ≤ MAX_VALUE * m → nat_abs product ≤ MAX_VALUE * n → nat_abs (sum +ℤ product) ≤ MAX_VALUE * (m + n)
 sum-small sum product m n first second = omega (arith, ints)
 
 -- a share of a fact more
 module _ (facts columns : ℕ) (old : TermList) (modest : AreModest facts columns old.terms) (den weight : ℕ) (values : List ℤ)
-    (within : weight ≤ den) (limit : den < LIMIT) (small : AreSmallValues columns values) where
+    (within : weight ≤ den) (limit : den < DEN_LIMIT) (small : AreSmallValues columns values) where
   -- fits
-  pub fits_next : facts < 2 ^ 20 → Fits old.terms den weight values
+  pub fits_next : facts < MAX_FACTS → Fits old.terms den weight values
   fits_next few =
       let count : count_of old.terms den + weight ≤ (facts + 1) * den = omega (arith, modest.counts den) in
-      let bound : (facts + 1) * den ≤ 2 ^ 20 * den = mul-le-mul_right den (omega arith) in
+      let bound : (facts + 1) * den ≤ MAX_FACTS * den = mul-le-mul_right den (omega arith) in
       record {
         count = omega arith;
         sums = λ k lt.
             let inside : k < columns = omega (arith, small.count) in
             let product = product-small weight (slice_index_or values k (pos 0)) (small.small k inside) in
             let sum = sum-small (numerator_of old.terms den (k + 1)) (pos weight *ℤ slice_index_or values k (pos 0)) (count_of old.terms den) weight (modest.sums den k inside) product in
-            let most : MOST_VALUE * (count_of old.terms den + weight) ≤ MOST_VALUE * (2 ^ 20 * den) = mul-le-mul_left MOST_VALUE (omega arith) in
+            let most : MAX_VALUE * (count_of old.terms den + weight) ≤ MAX_VALUE * (MAX_FACTS * den) = mul-le-mul_left MAX_VALUE (omega arith) in
             omega arith;
       }
 
@@ -73,7 +74,7 @@ module _ (facts columns : ℕ) (old : TermList) (modest : AreModest facts column
       | inr other ↦ grind (arith, nat_tests, modest.counts d, adds.counts d)
     ]
 
-    sum_next : (d k : ℕ) → k < columns → nat_abs (numerator_of new.terms d (k + 1)) ≤ MOST_VALUE * count_of new.terms d
+    sum_next : (d k : ℕ) → k < columns → nat_abs (numerator_of new.terms d (k + 1)) ≤ MAX_VALUE * count_of new.terms d
     sum_next d k inside =
         let lt : k < length values = omega (arith, small.count) in
         let before = modest.sums d k inside in
@@ -125,7 +126,7 @@ length-answer columns dims rows region =
     length-terms_below (cells_of dims region) rows (λ den. map (λ column. sum_at (cells_of dims region) rows column den) (range_with_len 0 columns)) (bound_of rows)
 
 -- modest terms are moderate and bounded
-module _ (facts columns : ℕ) (terms : List Term) (are : are_terms_from (columns + 1) 1 terms ≡ true) (modest : AreModest facts columns terms) (few : facts ≤ 2 ^ 20) where
+module _ (facts columns : ℕ) (terms : List Term) (are : are_terms_from (columns + 1) 1 terms ≡ true) (modest : AreModest facts columns terms) (few : facts ≤ MAX_FACTS) where
   module _ (i : ℕ) (lt : i < length terms) where
     stands : StandsFor terms columns (term_at terms i)
     stands = stands_at (columns + 1) terms are columns i refl (term_at terms i) lt (get_or_default terms i no_term (term_at terms i) lt)
@@ -133,17 +134,17 @@ module _ (facts columns : ℕ) (terms : List Term) (are : are_terms_from (column
     whole : is_term (columns + 1) (term_at terms i) ≡ true
     whole = is_term_at (columns + 1) 1 terms are i lt
 
-    sums_at : All (λ sum. nat_abs sum ≤ MOST_VALUE * (term_at terms i).count) (term_at terms i).sums
-    sums_at = All-from_get_or (λ sum. nat_abs sum ≤ MOST_VALUE * (term_at terms i).count) (term_at terms i).sums (pos 0)
+    sums_at : All (λ sum. nat_abs sum ≤ MAX_VALUE * (term_at terms i).count) (term_at terms i).sums
+    sums_at = All-from_get_or (λ sum. nat_abs sum ≤ MAX_VALUE * (term_at terms i).count) (term_at terms i).sums (pos 0)
         (λ k within. rw (← stands.sums k, ← stands.count) (modest.sums (term_at terms i).den k (omega (arith, stands.columns))))
 
-    count_at_most : (term_at terms i).count ≤ 2 ^ 20 * (term_at terms i).den
+    count_at_most : (term_at terms i).count ≤ MAX_FACTS * (term_at terms i).den
     count_at_most = omega (arith, stands.count, modest.counts (term_at terms i).den, mul-le-mul_right (term_at terms i).den few)
 
     moderate_at : IsModerateTerm (term_at terms i)
     moderate_at = record { count = count_at_most; sums = sums_at }
 
-    den_at : (term_at terms i).den < LIMIT
+    den_at : (term_at terms i).den < DEN_LIMIT
     den_at = grind (arith, nat_tests, whole, stands.count, modest.limit (term_at terms i).den)
 
     bounded_at : IsBounded (term_at terms i)
@@ -153,7 +154,7 @@ module _ (facts columns : ℕ) (terms : List Term) (are : are_terms_from (column
       sums = λ k d within. omega (arith, sums_at k d within, count_at_most, den_at);
     }
 
-  pub are_moderate : length terms ≤ MOST_TERMS → IsModerate terms
+  pub are_moderate : length terms ≤ MAX_FACTS → IsModerate terms
   are_moderate short = record { few = short; each = All-from_get_or IsModerateTerm terms no_term moderate_at }
 
   pub are_bounded : All IsBounded terms

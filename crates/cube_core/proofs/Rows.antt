@@ -10,8 +10,9 @@ use Rattle.std.proofs.lemmas.List.Sums.{sum_by-cons}
 use Rattle.cube_model.specs.declared.edit.Fact.{Fact}
 use Rattle.cube_model.specs.Allocation.{Allocation, ExtendedFact, Policy, allocation, extended, row_count, spread, spread_by, spread_evenly}
 use Rattle.cube_model.specs.Cells.{AreRows, cells_of}
+use Rattle.cube_model.specs.Limits.{MAX_CELLS}
 use Rattle.cube_model.specs.Tree.{Dimension}
-use Rattle.fact_records.specs.Accepted.{MAX_CELLS, region_refusal}
+use Rattle.fact_records.specs.Accepted.{region_refusal}
 use Rattle.alloc_rows.proofs.Spreading.{AreRows-spreads}
 use Rattle.cube_core.specs.Cube.{allocation_of}
 

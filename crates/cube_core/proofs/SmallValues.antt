@@ -6,7 +6,7 @@ use Rattle.std.proofs.lemmas.Bool.{cases_eq}
 use Rattle.std.proofs.lemmas.Bool.Decides.{nat_tests}
 use Rattle.std.proofs.lemmas.List.Elements.{All-head, All-tail}
 use Rattle.cube_base.specs.declared.code.Code.TheVariants as code
-use Rattle.exact_fraction.specs.Moderate.{MOST_VALUE}
+use Rattle.cube_model.specs.Limits.{MAX_VALUE}
 use Rattle.fact_records.specs.declared.shape.Kind.{Kind}
 use Rattle.fact_records.specs.declared.shape.Kind.TheVariants.{Number}
 use Rattle.fact_records.specs.declared.shape.Measure.{Measure}
@@ -28,7 +28,7 @@ neither false b e = (refl, e)
 one-value : (values : List ℤ) (k : ℕ) → k < length values → take 1 (drop k values) ≡ get_or values k (pos 0) ∷ []
 one-value values k lt = ap (take 1) (drop-cons values k (pos 0) lt)
 
-small-here : (kind : Kind) (column k : ℕ) (values : List ℤ) → kind ≡ Number → column ≡ k + 1 → k < length values → is_large kind (take (width_of kind) (drop (column - 1) values)) ≡ false → nat_abs (get_or values k (pos 0)) ≤ MOST_VALUE
+small-here : (kind : Kind) (column k : ℕ) (values : List ℤ) → kind ≡ Number → column ≡ k + 1 → k < length values → is_large kind (take (width_of kind) (drop (column - 1) values)) ≡ false → nat_abs (get_or values k (pos 0)) ≤ MAX_VALUE
 small-here kind column k values number place lt small =
     let at : column - 1 ≡ k = omega arith in
     let test : is_large Number (take 1 (drop (column - 1) values)) ≡ false = rw number at small in
@@ -36,7 +36,7 @@ small-here kind column k values number place lt small =
     grind (arith, nat_tests)
 
 small-from : (first : ℕ) (measures : List Measure) (values : List ℤ) → AreInOrder first measures → All (λ m. m.kind ≡ Number) measures → has_large_value measures values ≡ false
-    → (k : ℕ) → first ≤ k + 1 → k + 1 < first + length measures → k < length values → nat_abs (get_or values k (pos 0)) ≤ MOST_VALUE
+    → (k : ℕ) → first ≤ k + 1 → k + 1 < first + length measures → k < length values → nat_abs (get_or values k (pos 0)) ≤ MAX_VALUE
 small-from first [] values order numbers small k from to lt = absurd (omega arith)
 small-from first (m ∷ measures) values order numbers small k from to lt =
     let number = All-head (λ (m : Measure). m.kind ≡ Number) m measures numbers in

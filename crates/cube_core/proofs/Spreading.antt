@@ -1,5 +1,5 @@
 -- The allocations of facts, kept one after another.
-use Rattle.std.proofs.Common.{◌≡◌, ℕ, ◌+◌, ◌^◌, ◌<◌, ◌≤◌, Bool, true, false, List, [], ◌∷◌, length, refl, ap, ◌∙◌, subst, arith}
+use Rattle.std.proofs.Common.{◌≡◌, ℕ, ◌+◌, ◌*◌, ◌<◌, ◌≤◌, Bool, true, false, List, [], ◌∷◌, length, refl, ap, ◌∙◌, subst, arith}
 use Rattle.std.specs.Prelude.{All, ◌==◌, if◌then◌else◌, Option, Some, None}
 use Rattle.std.specs.BTreeMap.{BTreeMap, get, is_at}
 use Rattle.std.specs.Map.{lookup}
@@ -8,9 +8,10 @@ use Rattle.std.specs.Ordering.{nat_cmp}
 use Rattle.std.proofs.lemmas.Bool.Decides.{nat_tests}
 use Rattle.std.proofs.lemmas.List.Elements.{All-tail}
 use Rattle.cube_model.specs.declared.edit.Fact.{Fact}
-use Rattle.cube_model.specs.Accepted.{MAX_ROWS, has_many_rows}
+use Rattle.cube_model.specs.Accepted.{has_many_rows}
 use Rattle.cube_model.specs.Allocation.{Allocation, Policy, allocation, extended, row_count}
 use Rattle.cube_model.specs.Facts.{has_id}
+use Rattle.cube_model.specs.Limits.{MAX_CELLS, MAX_FACTS, MAX_ROWS}
 use Rattle.cube_model.specs.Tree.{Dimension}
 use Rattle.fact_records.specs.Accepted.{region_refusal}
 use Rattle.fact_records.specs.FactList.{IsAscending}
@@ -111,7 +112,7 @@ Spreading-left {weigh} {dims} {facts} {left} {others} {kept} {rows} same spreadi
 
 -- the rows of one fact more can be counted
 pub Spreading-fits : (weigh : Policy) (dims : List Dimension) (facts : List Fact) (fact : Fact) (left : List Fact) (kept : BTreeMap ℕ Allocation) (rows : ℕ) → Spreading weigh dims facts (fact ∷ left) kept rows → AreSpreadable dims facts
-    → (a : Allocation) → a ≡ allocation weigh dims facts fact → rows + length a.rows ≤ 2 ^ 40
+    → (a : Allocation) → a ≡ allocation weigh dims facts fact → rows + length a.rows ≤ MAX_FACTS * MAX_CELLS
 Spreading-fits weigh dims facts fact left kept rows before spreadable a is =
     omega (arith, before.count, spreadable.few, row_count-cons weigh dims facts fact left, row_count-le weigh dims facts facts spreadable.sizes, ap (λ (b : Allocation). length b.rows) is)
 

@@ -7,18 +7,18 @@ use Rattle.std.specs.Ordering.{nat_cmp}
 use Rattle.std.proofs.lemmas.List.{length-map}
 use Rattle.std.proofs.lemmas.List.Elements.{All-head, All-tail}
 use Rattle.cube_model.specs.declared.edit.Fact.{Fact}
-use Rattle.cube_model.specs.Accepted.{MAX_FACTS}
 use Rattle.cube_model.specs.Allocation.{Allocation, ExtendedFact, Policy, allocation, extended}
 use Rattle.cube_model.specs.Answer.{answer, weight_inside}
 use Rattle.cube_model.specs.Cells.{AreRows, cells_of}
+use Rattle.cube_model.specs.Limits.{DEN_LIMIT, MAX_FACTS}
 use Rattle.cube_model.specs.Tree.{Dimension}
 use Rattle.alloc_rows.specs.Alloc.{IsAllocation}
-use Rattle.exact_fraction.specs.Moderate.{IsModerate, MOST_TERMS}
+use Rattle.exact_fraction.specs.Moderate.{IsModerate}
 use Rattle.fact_records.specs.declared.shape.Kind.TheVariants.{Number}
 use Rattle.fact_records.specs.declared.shape.Measure.{Measure}
 use Rattle.fact_records.specs.Shape.{IsShape, width_of_all}
 use Rattle.group_sum.specs.Terms.{AddsShare, AreTerms, Fits, TermList, are_terms_from}
-use Rattle.cube_core.specs.Cube.{IsBounded, IsCube, LIMIT, allocation_of}
+use Rattle.cube_core.specs.Cube.{IsBounded, IsCube, allocation_of}
 use Rattle.cube_core.proofs.AddingUp.{AddUp, add_up-next, add_up-none, answered}
 use Rattle.cube_core.proofs.Moderation.{AreModest, AreSmallValues, are_bounded, are_moderate, fits_next, length-answer, modest-next, modest-none}
 use Rattle.cube_core.proofs.Refreshing.{find-itself}
@@ -38,11 +38,11 @@ all_ready weigh measures dims facts kept shape numbers cube = λ k d lt.
     let f = get_or facts k d in
     let found : allocation_of f.id (extended weigh dims facts) ≡ Some (allocation weigh dims facts f) =
     ap (allocation_of f.id) (extended-among weigh dims facts) ∙ allocation_of-among weigh dims facts facts f.id
-    ∙ ap (option_map (allocation weigh dims facts)) (find-itself facts cube.lawful.ascending k d lt) in
+    ∙ ap (option_map (allocation weigh dims facts)) (find-itself facts cube.valid.ascending k d lt) in
     record {
       there = cube.rows.each f.id ∙ found;
       rows = AreRows-allocation weigh dims facts f;
-      values = small-accepted measures f.cols shape numbers (cube.lawful.each k d lt).values;
+      values = small-accepted measures f.cols shape numbers (cube.valid.each k d lt).values;
     }
 
 -- Some facts are added up, and the others are left.
@@ -97,7 +97,7 @@ module _ {weigh : Policy} {dims : List Dimension} {facts : List Fact} {kept : BT
         within_den : weight ≤ den
         within_den = omega arith
 
-        limit : den < LIMIT
+        limit : den < DEN_LIMIT
         limit = omega (arith, kept_a.limit)
 
         pub next_fits : length facts ≤ MAX_FACTS → Fits old.terms den weight f.cols
@@ -145,7 +145,7 @@ module _ {weigh : Policy} {dims : List Dimension} {facts : List Fact} {kept : BT
 
     pub end_moderate : length facts ≤ MAX_FACTS → IsModerate list.terms
     end_moderate few =
-        let short : length list.terms ≤ MOST_TERMS = rw end_answer (omega (arith, length-answer columns dims (extended weigh dims facts) region, length-rows)) in
+        let short : length list.terms ≤ MAX_FACTS = rw end_answer (omega (arith, length-answer columns dims (extended weigh dims facts) region, length-rows)) in
         are_moderate (length facts) columns list.terms are modest few short
 
     pub end_bounded : length facts ≤ MAX_FACTS → All IsBounded list.terms

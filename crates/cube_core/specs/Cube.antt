@@ -1,5 +1,5 @@
 -- What a cube is and keeps, and what its calls say.
-use Rattle.std.specs.Prelude.{◌≡◌, ◌≢◌, ℕ, ◌^◌, ◌<◌, ◌≤◌, true, List, All, length, nat_abs, Option, Some, None, ⊤, ◌==◌}
+use Rattle.std.specs.Prelude.{◌≡◌, ◌≢◌, ℕ, ◌<◌, ◌≤◌, true, List, All, length, nat_abs, Option, Some, None, ⊤, ◌==◌}
 use Rattle.std.specs.Ordering.{nat_cmp}
 use Rattle.std.specs.Option.{option_map}
 use Rattle.std.specs.List.{find}
@@ -9,9 +9,9 @@ use Rattle.cube_model.specs.declared.edit.Fact.{Fact}
 use Rattle.cube_model.specs.declared.edit.Edit.{Edit}
 use Rattle.cube_model.specs.declared.edit.Edit.TheVariants.{Put, Change, Withdraw}
 use Rattle.cube_model.specs.declared.term.Term.{Term}
-use Rattle.cube_model.specs.Accepted.{MAX_FACTS, MAX_ROWS}
 use Rattle.cube_model.specs.Allocation.{Allocation, ExtendedFact, Policy, extended, row_count}
 use Rattle.cube_model.specs.Facts.{IsId, after}
+use Rattle.cube_model.specs.Limits.{DEN_LIMIT, MAX_FACTS, MAX_ROWS, WIDE}
 use Rattle.cube_model.specs.Tree.{Dimension}
 use Rattle.fact_records.specs.declared.shape.Measure.{Measure}
 use Rattle.fact_records.specs.Accepted.{cols_refusal, region_refusal}
@@ -39,16 +39,16 @@ IsEditOver dims (Change fact) = IsPlaced dims fact
 IsEditOver dims (Withdraw id) = IsId id
 
 -- a fact that a cube may have
-pub record IsLawful (measures : List Measure) (dims : List Dimension) (fact : Fact) : Type 0 where
+pub record IsValid (measures : List Measure) (dims : List Dimension) (fact : Fact) : Type 0 where
   pub placed : IsPlaced dims fact
   pub values : cols_refusal measures fact.cols ≡ None
   pub size : region_refusal dims fact.region ≡ None
 
--- facts that a cube may have: ascending by id, each lawful, and not too many
-pub record AreLawful (measures : List Measure) (dims : List Dimension) (facts : List Fact) : Type 0 where
+-- facts that a cube may have: ascending by id, each valid, and not too many
+pub record AreValid (measures : List Measure) (dims : List Dimension) (facts : List Fact) : Type 0 where
   pub ascending : IsAscending facts
   pub few : length facts ≤ MAX_FACTS
-  pub each : All (IsLawful measures dims) facts
+  pub each : All (IsValid measures dims) facts
 
 -- facts that can be spread: ascending by id, each in a region of the space that is not too large, and not too many
 pub record AreSpreadable (dims : List Dimension) (facts : List Fact) : Type 0 where
@@ -65,9 +65,9 @@ allocation_of id rows = option_map (λ e. e.allocation) (find (λ e. e.id == id)
 pub record AreAllocationsOf (rows : List ExtendedFact) (kept : BTreeMap ℕ Allocation) : Type 0 where
   pub each : (id : ℕ) → get nat_cmp kept id ≡ allocation_of id rows
 
--- What a cube keeps: its facts are lawful, its allocations are those made anew from its facts, and these have not too many rows.
+-- What a cube keeps: its facts are valid, its allocations are those made anew from its facts, and these have not too many rows.
 pub record IsCube (weigh : Policy) (measures : List Measure) (dims : List Dimension) (facts : List Fact) (kept : BTreeMap ℕ Allocation) : Type 0 where
-  pub lawful : AreLawful measures dims facts
+  pub valid : AreValid measures dims facts
   pub rows : AreAllocationsOf (extended weigh dims facts) kept
   pub few_rows : row_count (extended weigh dims facts) ≤ MAX_ROWS
 
@@ -83,16 +83,8 @@ withdrawn (Put fact) = None
 withdrawn (Change fact) = None
 withdrawn (Withdraw id) = Some id
 
--- the limit on the numerators of an answer
-abbrev pub WIDE : ℕ
-WIDE = 2 ^ 120
-
--- the limit on denominators
-abbrev pub LIMIT : ℕ
-LIMIT = 2 ^ 60
-
--- the denominator is below LIMIT, and every numerator is below WIDE in absolute value
+-- a term of an answer: its denominator is one that an allocation may have, and every numerator is below the limit of terms in absolute value
 pub record IsBounded (t : Term) : Type 0 where
-  pub den : t.den < LIMIT
+  pub den : t.den < DEN_LIMIT
   pub count : t.count < WIDE
   pub sums : All (λ sum. nat_abs sum < WIDE) t.sums

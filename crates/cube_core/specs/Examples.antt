@@ -1,4 +1,4 @@
--- A small cube, for which rows, answers and refusals were worked out by hand.
+-- A small cube, for which rows, answers, refreshed facts and refusals were worked out by hand.
 use Rattle.std.specs.Prelude.{ℕ, List, [], ◌∷◌, pos}
 use Rattle.cube_model.specs.declared.edit.Fact.{Fact}
 use Rattle.cube_model.specs.declared.term.Term.{Term}

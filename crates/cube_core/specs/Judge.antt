@@ -1,11 +1,11 @@
 -- Which edits of a cube are accepted.
-use Rattle.std.specs.Prelude.{Bool, List, [], ◌∷◌, Option, Some, None, if◌then◌else◌}
+use Rattle.std.specs.Prelude.{List, [], ◌∷◌, Option, Some, None}
 use Rattle.cube_base.specs.declared.code.Code.{Code}
 use Rattle.cube_base.specs.declared.code.Code.TheVariants as code
 use Rattle.cube_model.specs.declared.edit.Fact.{Fact}
 use Rattle.cube_model.specs.declared.edit.Edit.{Edit}
 use Rattle.cube_model.specs.declared.edit.Edit.TheVariants.{Put, Change, Withdraw}
-use Rattle.cube_model.specs.Accepted.{has_many_rows, is_missing, is_over, is_repeat}
+use Rattle.cube_model.specs.Accepted.{first_that_holds, has_many_rows, is_missing, is_over, is_repeat}
 use Rattle.cube_model.specs.Allocation.{Policy, extended}
 use Rattle.cube_model.specs.Facts.{after}
 use Rattle.cube_model.specs.Tree.{Dimension}
@@ -17,10 +17,6 @@ abbrev pub first_refusal : List (Option Code) → Option Code
 first_refusal [] = None
 first_refusal (None ∷ refusals) = first_refusal refusals
 first_refusal (Some refusal ∷ refusals) = Some refusal
-
--- a refusal where the condition holds
-abbrev pub refused_where : Bool → Code → Option Code
-refused_where holds refusal = if holds then Some refusal else None
 
 -- why the values of an edit's fact are refused
 abbrev pub edit_cols_refusal : List Measure → Edit → Option Code
@@ -39,14 +35,13 @@ abbrev pub fact_refusal : List Measure → List Dimension → Edit → List Fact
 fact_refusal measures dims edit facts =
     first_refusal
     (edit_cols_refusal measures edit
-    ∷ refused_where (is_repeat edit facts) code.Exists
-    ∷ refused_where (is_missing edit facts) code.Missing
+    ∷ first_that_holds ((is_repeat edit facts, code.Exists) ∷ (is_missing edit facts, code.Missing) ∷ [])
     ∷ edit_region_refusal dims edit
-    ∷ refused_where (is_over edit facts) code.Facts ∷ [])
+    ∷ first_that_holds ((is_over edit facts, code.Facts) ∷ []) ∷ [])
 
 -- why an edit is refused: its fact is, or the facts after it have too many rows
 abbrev pub judge : Policy → List Measure → List Dimension → Edit → List Fact → Option Code
 judge weigh measures dims edit facts =
     first_refusal
     (fact_refusal measures dims edit facts
-    ∷ refused_where (has_many_rows (extended weigh dims (after edit facts))) code.Rows ∷ [])
+    ∷ first_that_holds ((has_many_rows (extended weigh dims (after edit facts)), code.Rows) ∷ []) ∷ [])

@@ -1,15 +1,16 @@
 //! The cube.
 ghost use Rattle.std.specs.Prelude.{◌≡◌, ◌+◌, ◌≤◌, [], true, All, IfErr, IfOk, IfSome, OnErr, OnOk};
 ghost use Rattle.std.specs.Option.{option_copied};
-ghost use Rattle.cube_model.specs.Allocation.{extended};
+ghost use Rattle.cube_model.specs.Allocation.{extended, row_count};
 ghost use Rattle.cube_model.specs.Answer.{answer};
 ghost use Rattle.cube_model.specs.Cells.{AreRows};
 ghost use Rattle.cube_model.specs.Difference.{refreshed};
 ghost use Rattle.cube_model.specs.Facts.{after};
+ghost use Rattle.cube_model.specs.Limits.{MAX_ROWS};
 ghost use Rattle.exact_fraction.specs.Moderate.{IsModerate};
 ghost use Rattle.fact_records.specs.Shape.{width_of_all};
 ghost use Rattle.region_algebra.specs.Space.{is_region};
-ghost use Rattle.cube_core.specs.Cube.{AreLawful, IsBounded, IsEditOver, IsFaultOf, allocation_of, withdrawn};
+ghost use Rattle.cube_core.specs.Cube.{AreValid, IsBounded, IsEditOver, IsFaultOf, allocation_of, withdrawn};
 ghost use Rattle.cube_core.specs.Judge.{judge};
 
 #[cfg(test)]
@@ -42,6 +43,9 @@ pub struct Receipt {
 
 /// A schema, a policy, and facts with the allocation of each. Contracts see the policy, the schema and the list of the
 /// facts; the allocations are those that the facts have. At each edit all of them are made anew.
+///
+/// There are at most 2^20 facts, with at most 2^21 rows together. Each has an id of its own from 1 to 2^63 - 1, values that
+/// the measures allow, and a region of the space with at most 2^20 cells.
 #[derive(Drop)]
 pub struct Cube<P: WeightPolicy + Drop> {
     alloc: Global,
@@ -63,7 +67,7 @@ impl<P: WeightPolicy + Drop> Model for Cube<P> {
 }
 
 impl<P: WeightPolicy + Drop> Cube<P> {
-    /// A cube without facts, which weighs cells by this policy.
+    /// A cube without facts, which weighs cells by this policy. The one error is want of memory.
     pub fn new(alloc: Global, schema: Schema, policy: P) -> Result<Self, Memory>
         ensures schema { IfOk result (λ cube. cube.schema ≡ schema) }
         ensures policy { IfOk result (λ cube. cube.policy ≡ policy) }
@@ -78,17 +82,18 @@ impl<P: WeightPolicy + Drop> Cube<P> {
         })
     }
 
-    /// The schema.
+    /// The schema. It takes no memory.
     pub fn schema(&self) -> &Schema
         ensures { result.now ≡ self.now.schema }
     {
         &self.schema
     }
 
-    /// The facts.
+    /// The facts in order of their ids. It takes no memory.
     pub fn facts(&self) -> &FactList
         ensures facts { result.now.facts ≡ self.now.facts }
-        ensures lawful { AreLawful self.now.schema.measures self.now.schema.dims self.now.facts }
+        ensures valid { AreValid self.now.schema.measures self.now.schema.dims self.now.facts }
+        ensures few_rows { row_count (extended (P.weigh self.now.policy) self.now.schema.dims self.now.facts) ≤ MAX_ROWS }
     {
         &self.facts
     }
@@ -101,10 +106,11 @@ impl<P: WeightPolicy + Drop> Cube<P> {
         self.allocations.get(&id)
     }
 
-    /// Does an edit. The first of these that holds refuses it, and the cube is as it was: `Code` with `Value` or `Parts`,
-    /// the values of the fact are none of the measures; `Exists`, a put's id is there; `Missing`, the id of a change or a
-    /// withdrawal is not; `Region`, the region has more than 2^20 cells; `Facts`, a put finds 2^20 facts; and `Rows`, the
-    /// facts after the edit have more than 2^21 rows, with their number. `Memory` is want of memory.
+    /// Does an edit, of which the id must be from 1 to 2^63 - 1 and the region of the fact, if it has one, a region of the
+    /// space. The first of these that holds refuses it, and the cube is as it was: `Code` with `Value` or `Parts`, the values
+    /// of the fact are none of the measures; `Exists`, a put's id is there; `Missing`, the id of a change or a withdrawal is
+    /// not; `Region`, the region has more than 2^20 cells; `Facts`, a put finds 2^20 facts; and `Rows`, the facts after the
+    /// edit have more than 2^21 rows, with their number. `Memory` is want of memory, and the cube is as it was then too.
     pub fn edit(&mut self, edit: &Edit) -> Result<Receipt, EditFault>
         requires { IsEditOver self.old.schema.dims edit.now }
         ensures facts { OnOk result (self.new ≡ record self.old { facts = after edit.now self.old.facts }) }
@@ -128,9 +134,9 @@ impl<P: WeightPolicy + Drop> Cube<P> {
         })
     }
 
-    /// What the facts add up to inside a region: for each denominator among the allocations, ascending, the sums over the
-    /// facts of each column times the weight inside, the count first; where the count is 0 there is no term. It walks over
-    /// all facts.
+    /// What the facts add up to inside `r`, which must be a region of the space: for each denominator among the
+    /// allocations, ascending, the sums over the facts of each column times the weight inside, the count first; where the
+    /// count is 0 there is no term. It walks over all facts. The one error is want of memory.
     pub fn answer(&self, r: Region) -> Result<Terms, Memory>
         requires { is_region self.now.schema.dims r ≡ true }
         ensures columns { IfOk result (λ terms. terms.columns ≡ width_of_all self.now.schema.measures + 1) }

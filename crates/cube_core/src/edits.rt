@@ -1,7 +1,8 @@
 //! The facts after an edit.
 ghost use Rattle.std.specs.Prelude.{◌≡◌, ◌≤◌, IfOk, length};
-ghost use Rattle.cube_model.specs.Accepted.{MAX_FACTS};
 ghost use Rattle.cube_model.specs.Facts.{after};
+ghost use Rattle.cube_model.specs.Limits.{MAX_FACTS};
+ghost use Rattle.fact_records.specs.FactList.{IsAscending};
 
 use cube_base::Memory;
 use fact_records::{Edit, FactList};
@@ -10,7 +11,8 @@ use std::alloc::Global;
 /// The facts after an edit, as a list of their own.
 pub fn after(alloc: Global, facts: &FactList, edit: &Edit) -> Result<FactList, Memory>
     requires few { length facts.now.facts ≤ MAX_FACTS }
-    ensures { IfOk result (λ later. later.facts ≡ after edit.now facts.now.facts) }
+    ensures facts { IfOk result (λ later. later.facts ≡ after edit.now facts.now.facts) }
+    ensures ascending { IfOk result (λ later. IsAscending later.facts) }
 {
     let mut later = copy_of(alloc, facts)?;
     match edit {
@@ -21,6 +23,8 @@ pub fn after(alloc: Global, facts: &FactList, edit: &Edit) -> Result<FactList, M
             let _ = later.take(*id);
         }
     }
+    // The clause on the order is what the list says of itself where it is read.
+    let _ = later.len();
     Ok(later)
 }
 

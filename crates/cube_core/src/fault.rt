@@ -3,7 +3,7 @@ use cube_base::{Code, Memory};
 use thiserror::Error;
 
 /// Why an edit is not done. The cube is as it was.
-#[derive(Clone, Copy, Debug, Drop, Error, PartialEq, Eq)]
+#[derive(Clone, Copy, Debug, Error, PartialEq, Eq)]
 pub enum EditFault {
     /// It is refused. The code is not `Rows`.
     #[error("refused: {word}", word = .0.word())]

@@ -2,17 +2,15 @@
 ghost use Rattle.std.specs.Prelude.{◌≡◌, [], ◌∷◌};
 ghost use Rattle.cube_base.specs.declared.code.Code.TheVariants as code;
 ghost use Rattle.std.specs.Result.{result_err};
-ghost use Rattle.cube_model.specs.Accepted.{is_missing, is_over, is_repeat};
+ghost use Rattle.cube_model.specs.Accepted.{first_that_holds, is_missing, is_over, is_repeat};
 ghost use Rattle.cube_model.specs.Facts.{has_id};
 ghost use Rattle.cube_core.specs.Cube.{IsEditOver};
-ghost use Rattle.cube_core.specs.Judge.{edit_cols_refusal, edit_region_refusal, fact_refusal, first_refusal, refused_where};
+ghost use Rattle.cube_core.specs.Judge.{edit_cols_refusal, edit_region_refusal, fact_refusal};
 
 use cube_base::Code;
+use cube_model::MAX_FACTS;
 use fact_records::{Edit, FactList, Shape, check_cols, check_region};
 use region_algebra::Space;
-
-/// The most facts.
-const MAX_FACTS: u64 = 1 << 20;
 
 /// Judges an edit by its fact and by the facts that there are: the first of these that holds is answered. `Value` or
 /// `Parts`, the values are refused; `Exists`, a put's id is there; `Missing`, the id of a change or a withdrawal is not;
@@ -42,8 +40,8 @@ fn judge_cols(shape: &Shape, edit: &Edit) -> Result<(), Code>
 
 /// Judges whether the id of an edit is there where it should be, and only there.
 fn judge_id(edit: &Edit, facts: &FactList) -> Result<(), Code>
-    ensures { result_err result ≡ first_refusal (refused_where (is_repeat edit.now facts.now.facts) code.Exists
-        ∷ refused_where (is_missing edit.now facts.now.facts) code.Missing ∷ []) }
+    ensures { result_err result ≡ first_that_holds ((is_repeat edit.now facts.now.facts, code.Exists)
+        ∷ (is_missing edit.now facts.now.facts, code.Missing) ∷ []) }
 {
     match edit {
         Edit::Put(fact) if has(facts, fact.id) => Err(Code::Exists),

@@ -12,13 +12,11 @@ use crate::statistics::count_facts;
 use alloc_rows::{Alloc, allocate};
 use cell_weight::WeightPolicy;
 use cube_base::Memory;
+use cube_model::MAX_ROWS;
 use fact_records::FactList;
 use region_algebra::Space;
 use std::alloc::Global;
 use std::collections::BTreeMap;
-
-/// The most rows of all facts.
-const MAX_ROWS: u64 = 1 << 21;
 
 /// The allocations of all facts by their ids, made anew: or `Rows` where these have more than 2^21 rows, with their
 /// number. No more than so many rows, and those of one fact, are held at a time.

@@ -1,6 +1,7 @@
 //! The statistics of the cells, counted from the facts.
 ghost use Rattle.std.specs.Prelude.{◌≡◌, ◌≤◌, ◌<◌, All, IfOk, OnOk, length, true};
-ghost use Rattle.cell_weight.specs.Stats.{MOST_FACTS, stat_at};
+ghost use Rattle.cube_model.specs.Limits.{MAX_FACTS};
+ghost use Rattle.cell_weight.specs.Stats.{stat_at};
 ghost use Rattle.region_algebra.specs.Space.{is_region};
 ghost use Rattle.cube_core.specs.Counting.{AddsFact, CountFacts};
 
@@ -14,7 +15,7 @@ use std::alloc::Global;
 /// The statistics of each cell, counted anew from the facts: how many precise facts lie there. It looks at each fact once.
 pub fn count_facts(alloc: Global, space: &Space, facts: &FactList) -> Result<StatIndex, Memory>
     requires regions { All (λ f. is_region space.now f.region ≡ true) facts.now.facts }
-    requires few { length facts.now.facts ≤ MOST_FACTS }
+    requires few { length facts.now.facts ≤ MAX_FACTS }
     ensures { IfOk result (CountFacts space.now facts.now.facts) }
 {
     let mut stats = StatIndex::new(alloc);
@@ -28,7 +29,7 @@ pub fn count_facts(alloc: Global, space: &Space, facts: &FactList) -> Result<Sta
 
 /// Counts one more fact at a cell.
 fn count_fact(stats: &mut StatIndex, cell: u64) -> Result<(), Memory>
-    requires few { (stat_at stats.old cell).count < MOST_FACTS }
+    requires few { (stat_at stats.old cell).count < MAX_FACTS }
     ensures { OnOk result (AddsFact stats.old stats.new cell) }
 {
     let stat = stats.stat(cell);

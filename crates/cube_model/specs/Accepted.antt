@@ -1,19 +1,12 @@
--- What limits the edits of a cube, and what an edit asks of the facts.
-use Rattle.std.specs.Prelude.{ℕ, Bool, false, List, [], ◌∷◌, length, nat_le, nat_lt, not, if◌then◌else◌, Option, Some, None}
+-- What an edit asks of the facts, and of the rows after it.
+use Rattle.std.specs.Prelude.{Bool, false, List, [], ◌∷◌, length, nat_le, nat_lt, not, if◌then◌else◌, Option, Some, None}
 use Rattle.cube_base.specs.declared.code.Code.{Code}
 use Rattle.cube_model.specs.declared.edit.Fact.{Fact}
 use Rattle.cube_model.specs.declared.edit.Edit.{Edit}
 use Rattle.cube_model.specs.declared.edit.Edit.TheVariants.{Put, Change, Withdraw}
 use Rattle.cube_model.specs.Allocation.{ExtendedFact, row_count}
 use Rattle.cube_model.specs.Facts.{has_id}
-
--- the most facts
-abbrev pub MAX_FACTS : ℕ
-MAX_FACTS = 1048576
-
--- the most rows of the extended database
-abbrev pub MAX_ROWS : ℕ
-MAX_ROWS = 2097152
+use Rattle.cube_model.specs.Limits.{MAX_FACTS, MAX_ROWS}
 
 -- the code of the first condition that holds
 abbrev pub first_that_holds : List (Bool × Code) → Option Code

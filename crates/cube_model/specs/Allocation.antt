@@ -1,9 +1,11 @@
--- How a fact is spread over the cells of its region, and the table of all rows.
-use Rattle.std.specs.Prelude.{ℕ, Bool, false, List, [], ◌∷◌, length, map, filter, sum_by, count_by, nat_lt, ◌==◌, if◌then◌else◌, ℤ}
+-- How a fact is spread over the cells of its region, and the table of all rows. That the weights of a fact add up to the whole
+-- of it follows Burdick and others, "OLAP Over Uncertain and Imprecise Data", VLDB 2005; the policies and the even spread do not.
+use Rattle.std.specs.Prelude.{ℕ, List, length, map, filter, sum_by, count_by, nat_lt, ◌==◌, if◌then◌else◌, ℤ}
 use Rattle.cube_model.specs.declared.statistic.CellStat.{CellStat}
 use Rattle.cube_model.specs.declared.edit.Fact.{Fact}
 use Rattle.cube_model.specs.Tree.{Dimension}
-use Rattle.cube_model.specs.Cells.{cells_of}
+use Rattle.cube_model.specs.Cells.{cells_of, is_single}
+use Rattle.cube_model.specs.Facts.{lies_at}
 
 -- a policy: what a cell weighs, by what is known of its precise facts
 abbrev pub Policy : Type 0
@@ -17,15 +19,9 @@ uniform stat = 1
 abbrev pub by_count : Policy
 by_count stat = stat.count
 
--- these are the one cell
-abbrev pub is_just : ℕ → List ℕ → Bool
-is_just cell [] = false
-is_just cell (c ∷ []) = c == cell
-is_just cell (c ∷ d ∷ cells) = false
-
--- the number of precise facts whose one cell this is, and the sum, which is 0
+-- the number of precise facts at a cell, and the sum, which is 0
 abbrev pub stat_of : List Dimension → List Fact → ℕ → CellStat
-stat_of dims facts cell = record { count = count_by (λ f. is_just cell (cells_of dims f.region)) facts; sum = 0 }
+stat_of dims facts cell = record { count = count_by (lies_at dims cell) facts; sum = 0 }
 
 -- an allocation: a denominator, and rows of a cell and its weight, ascending by cell
 pub record Allocation : Type 0 where
@@ -43,7 +39,7 @@ spread_by weight cells = record { den = sum_by weight cells; rows = filter (λ r
 -- A fact on one cell is there. Else it is spread over the cells by their weights, or evenly where these are 0.
 abbrev pub spread : (ℕ → ℕ) → List ℕ → Allocation
 spread weight cells =
-    if length cells == 1 then spread_evenly cells
+    if is_single cells then spread_evenly cells
     else (if sum_by weight cells == 0 then spread_evenly cells else spread_by weight cells)
 
 -- a fact's allocation among the facts

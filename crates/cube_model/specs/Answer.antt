@@ -1,15 +1,15 @@
 -- What the facts inside a region add up to, denominator by denominator.
 use Rattle.std.specs.Prelude.{ℕ, List, [], ◌∷◌, ◌++◌, zero, suc, map, filter, sum_by, max, ◌==◌, if◌then◌else◌, ℤ, pos, ◌+ℤ◌, ◌*ℤ◌, slice_index_or, Option}
 use Rattle.std.specs.Option.{option_map_or}
-use Rattle.std.specs.List.{list_any, find, range_with_len}
+use Rattle.std.specs.List.{find, range_with_len}
 use Rattle.cube_model.specs.declared.term.Term.{Term}
 use Rattle.cube_model.specs.Tree.{Dimension}
-use Rattle.cube_model.specs.Cells.{cells_of}
+use Rattle.cube_model.specs.Cells.{cells_of, is_among}
 use Rattle.cube_model.specs.Allocation.{Allocation, ExtendedFact}
 
 -- the weight of an allocation inside these cells
 abbrev pub weight_inside : List ℕ → Allocation → ℕ
-weight_inside cells allocation = sum_by (λ row. row.1) (filter (λ row. list_any (λ cell. cell == row.0) cells) allocation.rows)
+weight_inside cells allocation = sum_by (λ row. row.1) (filter (λ row. is_among cells row.0) allocation.rows)
 
 -- the sum of a whole number of each item
 abbrev pub total_by : {X : Type 0} → (X → ℤ) → List X → ℤ

@@ -1,6 +1,6 @@
 -- The space over several dimensions: its cells, their codes, and the cells of a region.
-use Rattle.std.specs.Prelude.{ℕ, ◌+◌, ◌<◌, Bool, true, false, List, [], ◌∷◌, All, length, map, ◌&&◌, if◌then◌else◌}
-use Rattle.std.specs.List.{flat_map}
+use Rattle.std.specs.Prelude.{ℕ, ◌+◌, ◌<◌, Bool, true, false, List, [], ◌∷◌, All, length, map, ◌&&◌, ◌==◌, if◌then◌else◌}
+use Rattle.std.specs.List.{flat_map, list_any}
 use Rattle.cube_model.specs.Tree.{Dimension, leaves, is_under}
 
 -- all tuples of one leaf per dimension, the first dimension slowest
@@ -23,7 +23,15 @@ places_from p k (x ∷ xs) = if p x then k ∷ places_from p (k + 1) xs else pla
 unfoldable pub cells_of : List Dimension → List ℕ → List ℕ
 cells_of dims region = places_from (is_inside dims region) 0 (all_cells dims)
 
--- these are rows of cells that there are
+-- it is one cell alone
+abbrev pub is_single : List ℕ → Bool
+is_single cells = length cells == 1
+
+-- a cell is one of these
+abbrev pub is_among : List ℕ → ℕ → Bool
+is_among cells cell = list_any (λ c. c == cell) cells
+
+-- rows whose cells are codes of the space
 abbrev pub AreRows : List Dimension → List (ℕ × ℕ) → Type 0
 AreRows dims rows = All (λ row. row.0 < length (all_cells dims)) rows
 

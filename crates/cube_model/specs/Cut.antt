@@ -1,5 +1,5 @@
 -- A node's children, and the cut of a dimension at a depth.
-use Rattle.std.specs.Prelude.{◌≡◌, ℕ, Bool, false, List, [], ◌∷◌, map, filter, nat_lt, ◌||◌, ◌&&◌, ◌==◌, if◌then◌else◌, Option, slice_get}
+use Rattle.std.specs.Prelude.{ℕ, Bool, false, List, [], ◌∷◌, map, filter, nat_lt, ◌||◌, ◌&&◌, ◌==◌, if◌then◌else◌, Option, slice_get}
 use Rattle.std.specs.Option.{option_and_then, option_map_or}
 use Rattle.cube_model.specs.Tree.{Dimension, Entry, is_leaf, parent}
 

@@ -1,18 +1,12 @@
 -- Facts, and the list of them as it stands after edits.
-use Rattle.std.specs.Prelude.{ℕ, ◌≤◌, Bool, List, ◌∷◌, ◌++◌, length, filter, not, nat_lt, ◌==◌}
+use Rattle.std.specs.Prelude.{ℕ, ◌≤◌, Bool, List, ◌∷◌, ◌++◌, filter, not, nat_lt, ◌&&◌, ◌==◌}
 use Rattle.std.specs.List.{list_any}
 use Rattle.cube_model.specs.declared.edit.Fact.{Fact}
 use Rattle.cube_model.specs.declared.edit.Edit.{Edit}
 use Rattle.cube_model.specs.declared.edit.Edit.TheVariants.{Put, Change, Withdraw}
+use Rattle.cube_model.specs.Limits.{MAX_ID, MIN_ID}
 use Rattle.cube_model.specs.Tree.{Dimension}
-use Rattle.cube_model.specs.Cells.{cells_of}
-
--- the least and the greatest id of a fact
-abbrev pub MIN_ID : ℕ
-MIN_ID = 1
-
-abbrev pub MAX_ID : ℕ
-MAX_ID = 9223372036854775807
+use Rattle.cube_model.specs.Cells.{cells_of, is_among, is_single}
 
 -- a number that a fact may have
 pub record IsId (id : ℕ) : Type 0 where
@@ -21,7 +15,11 @@ pub record IsId (id : ℕ) : Type 0 where
 
 -- a fact is precise exactly where its region is one cell
 abbrev pub is_precise : List Dimension → Fact → Bool
-is_precise dims fact = length (cells_of dims fact.region) == 1
+is_precise dims fact = is_single (cells_of dims fact.region)
+
+-- a precise fact whose cell this is
+abbrev pub lies_at : List Dimension → ℕ → Fact → Bool
+lies_at dims cell fact = is_precise dims fact && is_among (cells_of dims fact.region) cell
 
 -- a fact of the list has the id
 abbrev pub has_id : ℕ → List Fact → Bool

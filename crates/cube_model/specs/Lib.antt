@@ -5,6 +5,6 @@ pub mod Cells
 pub mod Cut
 pub mod Difference
 pub mod Facts
-pub mod Replies
+pub mod Limits
 pub mod Text
 pub mod Tree

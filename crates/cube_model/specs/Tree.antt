@@ -1,12 +1,14 @@
--- A dimension is a tree, given as the list of its nodes in preorder.
+-- A dimension is a tree, given as the list of its nodes in preorder. Domains as trees follow Burdick, Deshpande, Jayram,
+-- Ramakrishnan and Vaithyanathan, "OLAP Over Uncertain and Imprecise Data", VLDB 2005.
 use Rattle.std.specs.Prelude.{◌≡◌, ℕ, ◌+◌, Bool, true, false, List, [], ◌∷◌, length, map, filter, not, nat_lt, ◌||◌, ◌==◌, if◌then◌else◌, Option, Some, None, slice_get}
-use Rattle.std.specs.Option.{option_map, option_map_or}
+use Rattle.std.specs.Option.{option_map, option_map_or, option_or}
 use Rattle.std.specs.List.{list_all, list_any, find}
 use Rattle.std.specs.Str.{bytes_eq}
 use Rattle.cube_base.specs.Name.{is_name}
 use Rattle.cube_model.specs.declared.tree.NodeLine.{NodeLine}
 use Rattle.cube_model.specs.declared.tree.DimFault.{DimFault}
 use Rattle.cube_model.specs.declared.tree.DimFault.TheVariants.{Empty, Many, Root, Depth, Name}
+use Rattle.cube_model.specs.Limits.{MAX_DEPTH, MAX_NODES}
 
 -- a node: its depth, its name, and the number by which regions name it
 pub record Entry : Type 0 where
@@ -16,6 +18,10 @@ pub record Entry : Type 0 where
 
 abbrev pub Dimension : Type 0
 Dimension = List Entry
+
+-- the node of a number
+abbrev pub entry_of : Dimension → ℕ → Option Entry
+entry_of dim number = find (λ e. e.number == number) dim
 
 -- What climbing meets from a node of this depth, the nodes before it given from the nearest on: its
 -- parent, which is the nearest whose depth is one less, then the parent's parent, and so on.
@@ -60,13 +66,6 @@ numbered_from k (line ∷ lines) = record { depth = line.depth; name = line.name
 abbrev pub numbered : List NodeLine → Dimension
 numbered lines = numbered_from 0 lines
 
--- the most nodes of a dimension, and how deep they may lie
-abbrev pub MAX_NODES : ℕ
-MAX_NODES = 65536
-
-abbrev pub MAX_DEPTH : ℕ
-MAX_DEPTH = 8
-
 -- Why a line may not stand at place k behind these, the nearest of them first. The depth is judged before the name.
 abbrev pub line_fault : List NodeLine → ℕ → NodeLine → Option DimFault
 line_fault [] k line = if line.depth == 0 then None else Some Root
@@ -77,7 +76,7 @@ line_fault (before ∷ earlier) k line =
 -- the first fault of the lines, where `earlier` stand before them
 abbrev pub first_fault : List NodeLine → ℕ → List NodeLine → Option DimFault
 first_fault earlier k [] = None
-first_fault earlier k (line ∷ lines) = option_map_or (λ fault. Some fault) (line_fault earlier k line) (first_fault (line ∷ earlier) (k + 1) lines)
+first_fault earlier k (line ∷ lines) = option_or (line_fault earlier k line) (first_fault (line ∷ earlier) (k + 1) lines)
 
 -- why lines are no tree
 unfoldable pub tree_fault : List NodeLine → Option DimFault

@@ -1,9 +1,10 @@
-//! The plain data of the cube and, in `specs/`, its definitions: what trees, cells, facts, allocations
-//! and answers are, and which texts replies have. The crates above compute by other means what stands here.
+//! The plain data of the cube, its limits and, in `specs/`, its definitions: what trees, cells, facts, allocations and
+//! answers are. The crates above compute by other means what stands here.
 #![tactic(auto)]
 
 mod edit;
 mod laws;
+mod limits;
 mod region;
 mod statistic;
 mod term;
@@ -11,7 +12,11 @@ mod tree;
 
 pub use edit::{Edit, Fact};
 pub use laws::one_spelling;
-pub use region::{MAX_DIMS, Region};
+pub use limits::{
+    MAX_CELLS, MAX_DEPTH, MAX_DIMS, MAX_FACTS, MAX_ID, MAX_NODES, MAX_ROWS, MAX_VALUE, MIN_ID,
+    SPACE_LIMIT, WIDE,
+};
+pub use region::Region;
 pub use statistic::CellStat;
 pub use term::Term;
 pub use tree::{DimFault, NodeLine};

@@ -1,10 +1,8 @@
 //! Regions of the space.
 ghost use Rattle.std.specs.Prelude.{◌≡◌, ◌↔◌, ◌<◌, [], ◌∷◌, length, slice_get, Some, IsNone, IfSome};
 
+use crate::MAX_DIMS;
 use std::marker::Model;
-
-/// The most dimensions of a space.
-pub const MAX_DIMS: usize = 6;
 
 /// A region: the number of one node per dimension, which contracts see as their list.
 #[derive(Clone, Copy, Debug)]

@@ -1,14 +1,15 @@
 -- What is kept of a dimension answers for children, siblings and cuts.
-use Rattle.std.proofs.Common.{◌≡◌, ℕ, ◌+◌, ◌<◌, ◌≤◌, Bool, true, false, List, [], ◌∷◌, length, get_or, slice_get, Option, Some, None, option_map, ◌||◌, ◌&&◌, ◌==◌, nat_lt, if◌then◌else◌, zero, suc, refl, sym, ap, ◌∙◌, subst, arith}
+use Rattle.std.proofs.Common.{◌≡◌, ℕ, ◌+◌, ◌<◌, ◌≤◌, Bool, true, List, [], ◌∷◌, length, get_or, slice_get, Option, Some, None, option_map, ◌||◌, ◌&&◌, ◌==◌, nat_lt, if◌then◌else◌, zero, suc, sym, ap, ◌∙◌, subst, arith}
 use Rattle.std.proofs.lemmas.Bool.Decides.{nat_tests}
 use Rattle.std.proofs.lemmas.List.{length-map}
 use Rattle.cube_model.specs.declared.tree.NodeLine.{NodeLine}
-use Rattle.cube_model.specs.Tree.{Dimension, numbered, numbered_from, first_fault, is_leaf}
+use Rattle.cube_model.specs.Tree.{Dimension, entry_of, numbered, numbered_from, first_fault, is_leaf}
 use Rattle.cube_model.specs.Cut.{first_child, in_cut, next_sibling}
 use Rattle.dim_tree.specs.Outline.{IsIndexed, lines_of}
 use Rattle.dim_tree.specs.Places.{parents_from, ends_from}
 use Rattle.dim_tree.proofs.Climbing.{depths_of}
 use Rattle.dim_tree.proofs.Nodes.{is_leaf-end, ends_from-above, ends_from-within}
+use Rattle.dim_tree.proofs.Entries.{entry_of-numbered}
 use Rattle.dim_tree.proofs.Outlines.{tree_fault_none, length-numbered_from}
 use Rattle.dim_tree.proofs.Queries.{depths_of-lines_of}
 use Rattle.dim_tree.proofs.Siblings.{parent_at-within, first_child-place, next_sibling-place}
@@ -21,7 +22,7 @@ pub record FamilyFor (dim : Dimension) (depths parents ends : List ℕ) : Type 0
   pub leaf_ends : (n : ℕ) → n < length dim → is_leaf dim n ≡ (get_or ends n 0 == n + 1)
   pub first_child_is : (n : ℕ) → n < length dim → first_child dim n ≡ (if is_leaf dim n then None else Some (n + 1))
   pub next_sibling_is : (n : ℕ) → n < length dim → next_sibling dim n ≡ (if nat_lt (get_or ends n 0) (get_or ends (get_or parents n 0) 0) then Some (get_or ends n 0) else None)
-  pub in_cut_is : (depth n : ℕ) → n < length dim → option_map (in_cut dim depth) (slice_get dim n) ≡ Some (get_or depths n 0 == depth || (nat_lt (get_or depths n 0) depth && is_leaf dim n))
+  pub in_cut_is : (depth n : ℕ) → n < length dim → option_map (in_cut dim depth) (entry_of dim n) ≡ Some (get_or depths n 0 == depth || (nat_lt (get_or depths n 0) depth && is_leaf dim n))
 
 -- whether the node at a place is in the cut at a depth
 in_cut-numbered : (dim : Dimension) (depth k : ℕ) (lines : List NodeLine) (n x : ℕ) → x ≡ k + n → n < length lines → option_map (in_cut dim depth) (slice_get (numbered_from k lines) n) ≡ Some (get_or (depths_of lines) n 0 == depth || (nat_lt (get_or (depths_of lines) n 0) depth && is_leaf dim x))
@@ -46,7 +47,7 @@ family_of_lines lines accepted long =
       leaf_ends = λ n h. is_leaf-end lines accepted n (in_lines n h);
       first_child_is = λ n h. first_child-place lines accepted n (in_lines n h) ∙ ap (λ leaf. if leaf then None else Some (n + 1)) (sym (is_leaf-end lines accepted n (in_lines n h)));
       next_sibling_is = λ n h. next_sibling-place lines accepted n (in_lines n h);
-      in_cut_is = λ depth n h. in_cut-numbered (numbered lines) depth 0 lines n n (omega arith) (in_lines n h);
+      in_cut_is = λ depth n h. ap (option_map (in_cut (numbered lines) depth)) (entry_of-numbered lines n) ∙ in_cut-numbered (numbered lines) depth 0 lines n n (omega arith) (in_lines n h);
     }
 
 -- so what is kept answers for a dimension that it is kept for

@@ -10,7 +10,7 @@ use Rattle.std.proofs.lemmas.Grind.{common_steps}
 use Rattle.cube_base.specs.Name.{is_name}
 use Rattle.cube_model.specs.declared.tree.NodeLine.{NodeLine}
 use Rattle.cube_model.specs.declared.tree.DimFault.{DimFault}
-use Rattle.cube_model.specs.declared.tree.DimFault.TheVariants.{Empty, Many, Root, Depth, Name, Memory}
+use Rattle.cube_model.specs.declared.tree.DimFault.TheVariants.{Name}
 use Rattle.cube_model.specs.Tree.{line_fault, first_fault}
 use Rattle.dim_tree.specs.Fault.{IsCause}
 use Rattle.dim_tree.specs.Outline.{depth_fault, name_fault}
@@ -111,9 +111,4 @@ module _ (lines : List NodeLine) (k : ℕ) (line : NodeLine) (before : Option �
 
 -- a cause is carried over to what it decides
 pub IsCause_of : (cause whole : Option DimFault) → ((fault : DimFault) → cause ≡ Some fault → whole ≡ Some fault) → (fault : DimFault) → IsCause cause fault → IsCause whole fault
-IsCause_of cause whole over Empty is = over Empty is
-IsCause_of cause whole over Many is = over Many is
-IsCause_of cause whole over Root is = over Root is
-IsCause_of cause whole over (Depth k) is = over (Depth k) is
-IsCause_of cause whole over (Name k) is = over (Name k) is
-IsCause_of cause whole over Memory is = is
+IsCause_of cause whole over fault is known = over fault (is known)

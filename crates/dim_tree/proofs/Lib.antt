@@ -1,4 +1,5 @@
 pub mod Climbing
+pub mod Entries
 pub mod Families
 pub mod Judging
 pub mod Leaves

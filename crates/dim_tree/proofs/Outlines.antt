@@ -1,16 +1,15 @@
 -- A dimension made of a list of depths and a list of names.
 use Rattle.std.proofs.Common.{Bool, false, ◌==◌, ◌≡◌, ℕ, ◌+◌, ◌<◌, ◌≤◌, true, List, [], ◌∷◌, length, map, Some, None, position, string_bytes, String, refl, sym, ap, ◌∙◌, arith}
-use Rattle.std.specs.List.{list_all, position_from}
+use Rattle.std.specs.List.{AllZip, list_all, position_from}
 use Rattle.std.specs.Str.{bytes_eq}
 use Rattle.std.proofs.lemmas.Bool.Decides.{nat_tests}
 use Rattle.std.proofs.lemmas.Iterator.Adapters.{position_from-zero}
 use Rattle.std.proofs.lemmas.List.{length-map}
 use Rattle.cube_base.specs.Name.{is_name}
 use Rattle.cube_model.specs.declared.tree.NodeLine.{NodeLine}
-use Rattle.cube_model.specs.declared.tree.DimFault.{DimFault}
-use Rattle.cube_model.specs.declared.tree.DimFault.TheVariants.{Empty, Many, Root, Depth, Name, Memory}
+use Rattle.cube_model.specs.declared.tree.DimFault.TheVariants.{Empty, Many}
+use Rattle.cube_model.specs.Limits.{MAX_NODES}
 use Rattle.cube_model.specs.Tree.{IsTree, tree_fault, first_fault, numbered, numbered_from, node_lines, node_named}
-use Rattle.dim_tree.specs.Fault.{HasCause, IsCause}
 use Rattle.dim_tree.specs.Outline.{IsOutline, lines_of}
 use Rattle.dim_tree.proofs.Judging.{bytes_eq_comm}
 
@@ -20,7 +19,7 @@ unfolding tree_fault
 tree_fault_empty lines none = grind (arith, nat_tests)
 
 -- too many lines
-pub tree_fault_many : (lines : List NodeLine) → 65536 < length lines → tree_fault lines ≡ Some Many
+pub tree_fault_many : (lines : List NodeLine) → MAX_NODES < length lines → tree_fault lines ≡ Some Many
 unfolding tree_fault
 tree_fault_many lines many = grind (arith, nat_tests)
 
@@ -29,23 +28,14 @@ pub some_line : (lines : List NodeLine) (empty : Bool) → empty ≡ (length lin
 some_line lines empty is some = grind (arith, nat_tests)
 
 -- otherwise the first faulty line
-pub tree_fault_first : (lines : List NodeLine) → 0 < length lines → length lines ≤ 65536 → tree_fault lines ≡ first_fault [] 0 lines
+pub tree_fault_first : (lines : List NodeLine) → 0 < length lines → length lines ≤ MAX_NODES → tree_fault lines ≡ first_fault [] 0 lines
 unfolding tree_fault
 tree_fault_first lines some few = grind (arith, nat_tests)
 
 -- a tree has 1 to 65,536 lines
-pub tree_fault_none : (lines : List NodeLine) → tree_fault lines ≡ None → (0 < length lines) × (length lines ≤ 65536) × (first_fault [] 0 lines ≡ None)
+pub tree_fault_none : (lines : List NodeLine) → tree_fault lines ≡ None → (0 < length lines) × (length lines ≤ MAX_NODES) × (first_fault [] 0 lines ≡ None)
 unfolding tree_fault
 tree_fault_none lines accepted = grind (arith, nat_tests)
-
--- a cause of the lines
-pub HasCause_of : (lines : List NodeLine) (fault : DimFault) → IsCause (tree_fault lines) fault → HasCause lines fault
-HasCause_of lines Empty is = is
-HasCause_of lines Many is = is
-HasCause_of lines Root is = is
-HasCause_of lines (Depth k) is = is
-HasCause_of lines (Name k) is = is
-HasCause_of lines Memory is = is
 
 -- lines are given back by their depths and names
 pub lines_of_map : (lines : List NodeLine) → lines_of (map (λ line. line.depth) lines) (map (λ line. line.name) lines) ≡ lines
@@ -60,6 +50,13 @@ lines_of_same lines depths names depths_are names_are = ap (λ ds. lines_of ds n
 all_names : (lines : List NodeLine) → list_all (λ line. is_name line.name) lines ≡ true → list_all is_name (map (λ line. line.name) lines) ≡ true
 all_names [] all = refl
 all_names (line ∷ lines) all = grind (arith, all_names lines)
+
+-- copied strings are the same names
+pub names-copied : {A : Type 0} (keys copied : List (String A)) → AllZip (λ s t. string_bytes t ≡ string_bytes s) keys copied → map string_bytes copied ≡ map string_bytes keys
+names-copied [] [] same = refl
+names-copied [] (copy ∷ copied) same = absurd same
+names-copied (key ∷ keys) [] same = absurd same
+names-copied (key ∷ keys) (copy ∷ copied) same = rw (same.0, names-copied keys copied same.1) refl
 
 -- they are a dimension where the lines are
 pub IsOutline_of : (lines : List NodeLine) (depths : List ℕ) (names : List (List ℕ)) → depths ≡ map (λ line. line.depth) lines → names ≡ map (λ line. line.name) lines → list_all (λ line. is_name line.name) lines ≡ true → tree_fault lines ≡ None → IsOutline depths names
@@ -102,7 +99,7 @@ pub length-numbered : (depths : List ℕ) (names : List (List ℕ)) → IsOutlin
 length-numbered depths names outline = length-numbered_from 0 (lines_of depths names) ∙ length-lines_of depths names outline.same_length
 
 -- and 1 to 65,536 of them
-pub few_nodes : (depths : List ℕ) (names : List (List ℕ)) → IsOutline depths names → (0 < length depths) × (length depths ≤ 65536)
+pub few_nodes : (depths : List ℕ) (names : List (List ℕ)) → IsOutline depths names → (0 < length depths) × (length depths ≤ MAX_NODES)
 few_nodes depths names outline = grind (arith, tree_fault_none (lines_of depths names) outline.accepted, length-lines_of depths names outline.same_length)
 
 -- a node is found where its name is among the strings
@@ -117,5 +114,5 @@ pub node_named_at : {A : Type 0} (name : List ℕ) (depths : List ℕ) (keys : L
 node_named_at name depths keys outline = node_named_from name 0 depths keys outline.same_length ∙ sym (position_from-zero (λ key. bytes_eq name (string_bytes key)) keys)
 
 -- as many nodes as strings, and few of them
-pub length-keys : {A : Type 0} (depths : List ℕ) (keys : List (String A)) → IsOutline depths (map string_bytes keys) → (length (numbered (lines_of depths (map string_bytes keys))) ≡ length keys) × (length keys ≤ 65536)
+pub length-keys : {A : Type 0} (depths : List ℕ) (keys : List (String A)) → IsOutline depths (map string_bytes keys) → (length (numbered (lines_of depths (map string_bytes keys))) ≡ length keys) × (length keys ≤ MAX_NODES)
 length-keys depths keys outline = grind (arith, length-map keys string_bytes, outline.same_length, length-numbered depths (map string_bytes keys) outline, few_nodes depths (map string_bytes keys) outline)

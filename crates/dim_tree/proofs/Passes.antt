@@ -4,10 +4,11 @@ use Rattle.std.specs.List.{list_all}
 use Rattle.std.proofs.lemmas.Bool.Decides.{nat_tests}
 use Rattle.std.proofs.lemmas.List.{take_more, drop_more, drop_all, reverse-append, length-reverse, length-take, drop-set, length_push}
 use Rattle.std.proofs.lemmas.Grind.{common_steps}
+use Rattle.cube_model.specs.Limits.{MAX_DEPTH}
 use Rattle.dim_tree.specs.Places.{is_childless, count_deeper, ends_from, nearest_parent, parents_from, leaves_from, leaf_counts_from}
 
 -- a depth on the way is one of the depths
-pub shallow_at : (depths : List ℕ) (i : ℕ) → list_all (λ depth. nat_le depth 8) depths ≡ true → i < length depths → get_or depths i 0 ≤ 8
+pub shallow_at : (depths : List ℕ) (i : ℕ) → list_all (λ depth. nat_le depth MAX_DEPTH) depths ≡ true → i < length depths → get_or depths i 0 ≤ MAX_DEPTH
 shallow_at [] i all within = omega arith
 shallow_at (d ∷ depths) zero all within = grind (arith, nat_tests)
 shallow_at (d ∷ depths) (suc i) all within = grind (arith, nat_tests, shallow_at depths i)
@@ -19,17 +20,17 @@ no_parent (d ∷ ds) = grind (arith, nat_tests, no_parent ds)
 
 -- The first k parents, and at each depth d the last of the first k nodes: the nearest parent for a node one deeper.
 pub record HasParents (depths : List ℕ) (k : ℕ) (last parents : List ℕ) : Type 0 where
-  pub room : length last ≡ 9
+  pub room : length last ≡ MAX_DEPTH + 1
   pub left : parents ++ parents_from (reverse (take k depths)) (drop k depths) ≡ parents_from [] depths
-  pub nearest : (d : ℕ) → d < 9 → get_or last d 0 ≡ nearest_parent (d + 1) (reverse (take k depths))
+  pub nearest : (d : ℕ) → d ≤ MAX_DEPTH → get_or last d 0 ≡ nearest_parent (d + 1) (reverse (take k depths))
 
 -- the parent that is looked up
-pub parent_found : (depths : List ℕ) (k : ℕ) (last parents : List ℕ) (depth parent : ℕ) → HasParents depths k last parents → depth ≤ 8 → (depth ≡ 0 → parent ≡ 0) → (1 ≤ depth → parent ≡ get_or last (depth - 1) 0) → parent ≡ nearest_parent depth (reverse (take k depths))
+pub parent_found : (depths : List ℕ) (k : ℕ) (last parents : List ℕ) (depth parent : ℕ) → HasParents depths k last parents → depth ≤ MAX_DEPTH → (depth ≡ 0 → parent ≡ 0) → (1 ≤ depth → parent ≡ get_or last (depth - 1) 0) → parent ≡ nearest_parent depth (reverse (take k depths))
 parent_found depths k last parents zero parent has shallow root other = root refl ∙ sym (no_parent (reverse (take k depths)))
 parent_found depths k last parents (suc d) parent has shallow root other = grind (arith, other (omega arith), has.nearest d (omega arith))
 
 -- with the parent of one more node
-pub HasParents_more : (depths : List ℕ) (k : ℕ) (last parents : List ℕ) (depth parent : ℕ) → HasParents depths k last parents → k < length depths → depth ≡ get_or depths k 0 → depth ≤ 8 → parent ≡ nearest_parent depth (reverse (take k depths))
+pub HasParents_more : (depths : List ℕ) (k : ℕ) (last parents : List ℕ) (depth parent : ℕ) → HasParents depths k last parents → k < length depths → depth ≡ get_or depths k 0 → depth ≤ MAX_DEPTH → parent ≡ nearest_parent depth (reverse (take k depths))
     → HasParents depths (k + 1) (set last depth k) (parents ++ parent ∷ [])
 HasParents_more depths k last parents depth parent has within at shallow found =
     let turned : reverse (take (k + 1) depths) ≡ depth ∷ reverse (take k depths) = ap reverse (take_more depths k 0 within ∙ ap (λ d. take k depths ++ d ∷ []) (sym at)) ∙ reverse-append (take k depths) (depth ∷ []) in
@@ -45,10 +46,10 @@ HasParents_more depths k last parents depth parent has within at shallow found =
 pub record HasEnds (depths : List ℕ) (k : ℕ) (next ends : List ℕ) : Type 0 where
   pub done : drop k ends ≡ ends_from k (drop k depths)
   pub room : length ends ≡ length depths
-  pub shallower : (d : ℕ) → d < 9 → get_or next d 0 ≡ k + count_deeper d (drop k depths)
+  pub shallower : (d : ℕ) → d ≤ MAX_DEPTH → get_or next d 0 ≡ k + count_deeper d (drop k depths)
 
 -- one place earlier, where for each depth from this one on the node itself is the next
-pub HasEnds_more : (depths : List ℕ) (k after : ℕ) (next new ends : List ℕ) (depth : ℕ) → after ≡ k + 1 → HasEnds depths after next ends → k < length depths → depth ≡ get_or depths k 0 → depth ≤ 8 → ((d : ℕ) → d < 9 → get_or new d 0 ≡ (if nat_lt d depth then get_or next d 0 else k))
+pub HasEnds_more : (depths : List ℕ) (k after : ℕ) (next new ends : List ℕ) (depth : ℕ) → after ≡ k + 1 → HasEnds depths after next ends → k < length depths → depth ≡ get_or depths k 0 → depth ≤ MAX_DEPTH → ((d : ℕ) → d ≤ MAX_DEPTH → get_or new d 0 ≡ (if nat_lt d depth then get_or next d 0 else k))
     → HasEnds depths k new (set ends k (get_or next depth 0))
 HasEnds_more depths k after next new ends depth follows has within at shallow written =
     let dropped : drop k depths ≡ depth ∷ drop after depths = drop_more depths k 0 within ∙ ap (λ d. d ∷ drop (k + 1) depths) (sym at) ∙ ap (λ n. depth ∷ drop n depths) (sym follows) in

@@ -4,7 +4,8 @@ use Rattle.std.specs.List.{range_with_len}
 use Rattle.std.proofs.lemmas.Bool.Decides.{nat_tests}
 use Rattle.std.proofs.lemmas.List.{length-map, get_or_read}
 use Rattle.cube_model.specs.declared.tree.NodeLine.{NodeLine}
-use Rattle.cube_model.specs.Tree.{Dimension, IsTree, numbered, numbered_from, first_fault, parent, is_leaf, is_under, leaves}
+use Rattle.cube_model.specs.Limits.{MAX_DEPTH, MAX_NODES}
+use Rattle.cube_model.specs.Tree.{Dimension, IsTree, entry_of, numbered, numbered_from, first_fault, parent, is_leaf, is_under, leaves}
 use Rattle.cube_model.specs.Cells.{leaf_places}
 use Rattle.dim_tree.specs.Outline.{IsIndexed, lines_of}
 use Rattle.dim_tree.specs.Places.{parents_from, ends_from, leaf_counts_from, leaves_from}
@@ -14,13 +15,14 @@ use Rattle.dim_tree.proofs.Parents.{parents_from-below, length-parents_from}
 use Rattle.dim_tree.proofs.Nodes.{parent-place, is_leaf-end, is_under-end, ends_from-within}
 use Rattle.dim_tree.proofs.Leaves.{leaves-places, leaf_places-range, leaf_range-some, leaf_range-within, leaves_from-within, length-leaves_from, length-leaf_counts_from}
 use Rattle.dim_tree.proofs.Passes.{shallow_at, length-ends_from}
+use Rattle.dim_tree.proofs.Entries.{entry_of-numbered}
 use Rattle.dim_tree.proofs.Outlines.{tree_fault_none, IsTree_of, length-numbered}
 
 -- What is kept beside the depths and the names answers for the dimension.
 pub record AnswersFor (dim : Dimension) (depths : List ℕ) (names : List (List ℕ)) (parents ends leaves_before kept_leaves : List ℕ) : Type 0 where
   pub tree : IsTree dim
   pub some : 0 < length dim
-  pub few : length dim ≤ 65536
+  pub few : length dim ≤ MAX_NODES
   pub room_depths : length depths ≡ length dim
   pub room_names : length names ≡ length dim
   pub room_parents : length parents ≡ length dim
@@ -28,9 +30,9 @@ pub record AnswersFor (dim : Dimension) (depths : List ℕ) (names : List (List 
   pub room_leaves_before : length leaves_before ≡ length dim + 1
   pub parent_is : (n : ℕ) → n < length dim → parent dim n ≡ (if n == 0 then None else Some (get_or parents n 0))
   pub parent_below : (n : ℕ) → n < length dim → 0 < n → get_or parents n 0 < n
-  pub depth_is : (n : ℕ) → n < length dim → option_map (λ e. e.depth) (slice_get dim n) ≡ Some (get_or depths n 0)
-  pub depth_most : (n : ℕ) → n < length dim → get_or depths n 0 ≤ 8
-  pub name_is : (n : ℕ) → n < length dim → option_map (λ e. e.name) (slice_get dim n) ≡ slice_get names n
+  pub depth_is : (n : ℕ) → n < length dim → option_map (λ e. e.depth) (entry_of dim n) ≡ Some (get_or depths n 0)
+  pub depth_most : (n : ℕ) → n < length dim → get_or depths n 0 ≤ MAX_DEPTH
+  pub name_is : (n : ℕ) → n < length dim → option_map (λ e. e.name) (entry_of dim n) ≡ slice_get names n
   pub is_leaf_is : (n : ℕ) → n < length dim → is_leaf dim n ≡ (get_or ends n 0 == n + 1)
   pub is_under_is : (x y : ℕ) → y < length dim → is_under dim x y ≡ (nat_le y x && nat_lt x (get_or ends y 0))
   pub end_within : (n : ℕ) → n < length dim → get_or ends n 0 ≤ length dim
@@ -62,7 +64,7 @@ name-numbered k (depth ∷ depths) (name ∷ names) zero same = refl
 name-numbered k (depth ∷ depths) (name ∷ names) (suc n) same = name-numbered (k + 1) depths names n (omega arith)
 
 -- as the definitions give it, in terms of the lines
-answers_of_lines : (lines : List NodeLine) (names : List (List ℕ)) → first_fault [] 0 lines ≡ None → 0 < length lines → length lines ≤ 65536 → IsTree (numbered lines) → length (numbered lines) ≡ length lines → length names ≡ length lines
+answers_of_lines : (lines : List NodeLine) (names : List (List ℕ)) → first_fault [] 0 lines ≡ None → 0 < length lines → length lines ≤ MAX_NODES → IsTree (numbered lines) → length (numbered lines) ≡ length lines → length names ≡ length lines
     → ((n : ℕ) → option_map (λ e. e.name) (slice_get (numbered lines) n) ≡ slice_get names n)
     → AnswersFor (numbered lines) (depths_of lines) names (parents_from [] (depths_of lines)) (ends_from 0 (depths_of lines)) (leaf_counts_from 0 (depths_of lines)) (leaves_from 0 (depths_of lines))
 answers_of_lines lines names accepted some few tree long named names_are =
@@ -81,9 +83,9 @@ answers_of_lines lines names accepted some few tree long named names_are =
       room_leaves_before = omega (arith, few_depths, length-leaf_counts_from 0 depths);
       parent_is = λ n h. parent-place lines accepted n (in_lines n h);
       parent_below = λ n h above. omega (arith, parents_from-below [] depths n (in_depths n h) (omega arith));
-      depth_is = λ n h. depth-numbered 0 lines n (in_lines n h);
+      depth_is = λ n h. ap (option_map (λ e. e.depth)) (entry_of-numbered lines n) ∙ depth-numbered 0 lines n (in_lines n h);
       depth_most = λ n h. shallow_at depths n (first_fault-shallow [] 0 lines accepted) (in_depths n h);
-      name_is = λ n h. names_are n;
+      name_is = λ n h. ap (option_map (λ e. e.name)) (entry_of-numbered lines n) ∙ names_are n;
       is_leaf_is = λ n h. is_leaf-end lines accepted n (in_lines n h);
       is_under_is = λ x y h. is_under-end lines accepted x y (in_lines y h);
       end_within = λ n h. omega (arith, few_depths, ends_from-within 0 depths n (in_depths n h));

@@ -6,6 +6,7 @@ use Rattle.cube_base.specs.Name.{is_name}
 use Rattle.cube_model.specs.declared.tree.NodeLine.{NodeLine}
 use Rattle.cube_model.specs.declared.tree.DimFault.{DimFault}
 use Rattle.cube_model.specs.declared.tree.DimFault.TheVariants.{Root, Depth, Name}
+use Rattle.cube_model.specs.Limits.{MAX_DEPTH}
 use Rattle.cube_model.specs.Tree.{tree_fault}
 use Rattle.dim_tree.specs.Places.{parents_from, ends_from, leaf_counts_from, leaves_from}
 
@@ -32,7 +33,7 @@ pub record IsIndexed (depths : List ℕ) (names : List (List ℕ)) (parents ends
 -- why a line of this depth may not stand at place k, behind a line of the depth `before`
 abbrev pub depth_fault : Option ℕ → ℕ → ℕ → Option DimFault
 depth_fault None k depth = if depth == 0 then None else Some Root
-depth_fault (Some before) k depth = if depth == 0 || nat_lt 8 depth || nat_lt (before + 1) depth then Some (Depth k) else None
+depth_fault (Some before) k depth = if depth == 0 || nat_lt MAX_DEPTH depth || nat_lt (before + 1) depth then Some (Depth k) else None
 
 -- why a line of this name may not stand at place k, where lines before it have these names
 abbrev pub name_fault : List (List ℕ) → ℕ → List ℕ → Option DimFault

@@ -2,23 +2,22 @@
 ghost use Rattle.std.specs.Prelude.{◌≡◌, ◌↔◌, ◌+◌, ◌-◌, ◌<◌, ◌≤◌, length, slice_get, true, Some, None, IsNone, IfOk, OnOk, IfErr, IfSome};
 ghost use Rattle.std.specs.Option.{option_map};
 ghost use Rattle.std.specs.List.{range_with_len};
-ghost use Rattle.cube_model.specs.Tree.{IsTree, is_leaf, is_under, leaves, node_named, numbered, parent, tree_fault};
+ghost use Rattle.cube_model.specs.Tree.{IsTree, entry_of, is_leaf, is_under, leaves, node_named, numbered, parent, tree_fault};
 ghost use Rattle.cube_model.specs.Cells.{leaf_places};
 ghost use Rattle.cube_model.specs.Cut.{first_child, in_cut, next_sibling};
-ghost use Rattle.dim_tree.specs.Fault.{HasCause};
+ghost use Rattle.cube_model.specs.Limits.{MAX_DEPTH, MAX_NODES};
+ghost use Rattle.dim_tree.specs.Fault.{IsCause};
 
 #[cfg(test)]
 mod tests;
 
-use crate::outline::{depths_of, names_of};
+use crate::outline::{depths_of, judged_names};
 use crate::places::{ends_of, leaves_of, parents_of};
-use cube_model::{DimFault, NodeLine};
+use cube_base::Memory;
+use cube_model::{DimFault, MAX_NODES, NodeLine};
 use indexmap::IndexSet;
 use std::alloc::Global;
 use std::marker::Model;
-
-/// The most nodes of a dimension.
-const MAX_NODES: usize = 65_536;
 
 /// A dimension. A node's number is its place in preorder, from 0; a leaf's index is its place among the leaves.
 /// Contracts see the list of the nodes' depths, names and numbers.
@@ -58,7 +57,7 @@ impl Dim {
     pub fn build(alloc: Global, lines: &[NodeLine]) -> Result<Self, DimFault>
         ensures built { IfOk result (λ dim. dim ≡ numbered lines.now) }
         ensures accepted { OnOk result (tree_fault lines.now ≡ None) }
-        ensures refused { IfErr result (HasCause lines.now) }
+        ensures refused { IfErr result (IsCause (tree_fault lines.now)) }
     {
         if lines.is_empty() {
             return Err(DimFault::Empty);
@@ -66,7 +65,7 @@ impl Dim {
         if lines.len() > MAX_NODES {
             return Err(DimFault::Many);
         }
-        let names = names_of(alloc, lines)?;
+        let names = judged_names(alloc, lines)?;
         let depths = depths_of(alloc, lines)?;
         let parents = parents_of(alloc, &depths)?;
         let ends = ends_of(alloc, &depths)?;
@@ -81,11 +80,25 @@ impl Dim {
         })
     }
 
+    /// An equal dimension, with nodes and names of its own.
+    pub fn copy(&self) -> Result<Self, Memory>
+        ensures { IfOk result (λ dim. dim ≡ self.now) }
+    {
+        Ok(Dim {
+            names: self.names.clone()?,
+            depths: self.depths.clone()?,
+            parents: self.parents.clone()?,
+            ends: self.ends.clone()?,
+            leaves_before: self.leaves_before.clone()?,
+            leaves: self.leaves.clone()?,
+        })
+    }
+
     /// The number of nodes, from 1 to 65,536.
     pub fn len(&self) -> u32
         ensures count { result ≡ length self.now }
         ensures some { 1 ≤ result }
-        ensures most { result ≤ 65536 }
+        ensures most { result ≤ MAX_NODES }
         ensures tree { IsTree self.now }
     {
         self.depths.len() as u32
@@ -117,8 +130,8 @@ impl Dim {
     /// The depth of a node, from 0 to 8.
     pub fn depth(&self, n: u32) -> u8
         requires { n < length self.now }
-        ensures depth { option_map (λ e. e.depth) (slice_get self.now n) ≡ Some result }
-        ensures most { result ≤ 8 }
+        ensures depth { option_map (λ e. e.depth) (entry_of self.now n) ≡ Some result }
+        ensures most { result ≤ MAX_DEPTH }
     {
         self.depths[n as usize]
     }
@@ -146,7 +159,6 @@ impl Dim {
         ensures child { result ≡ first_child self.now n }
         ensures leaf { IsNone result ↔ (is_leaf self.now n ≡ true) }
         ensures within { IfSome result (λ c. c < length self.now) }
-        ensures behind { IfSome result (λ c. n < c) }
     {
         let end = self.ends[n as usize];
         let next = n + 1;
@@ -158,7 +170,6 @@ impl Dim {
         requires { n < length self.now }
         ensures sibling { result ≡ next_sibling self.now n }
         ensures within { IfSome result (λ s. s < length self.now) }
-        ensures behind { IfSome result (λ s. n < s) }
     {
         let parent = self.parents[n as usize];
         let end = self.ends[n as usize];
@@ -172,7 +183,7 @@ impl Dim {
     /// Whether a node is in the cut at a depth: it has that depth, or is a leaf of smaller depth.
     pub fn in_cut(&self, n: u32, depth: u8) -> bool
         requires { n < length self.now }
-        ensures { option_map (in_cut self.now depth) (slice_get self.now n) ≡ Some result }
+        ensures { option_map (in_cut self.now depth) (entry_of self.now n) ≡ Some result }
     {
         let own = self.depths[n as usize];
         own == depth || (own < depth && self.is_leaf(n))
@@ -204,7 +215,7 @@ impl Dim {
     /// The name of a node.
     pub fn name_of(&self, n: u32) -> &str
         requires { n < length self.now }
-        ensures { option_map (λ e. e.name) (slice_get self.now n) ≡ Some result.now }
+        ensures { option_map (λ e. e.name) (entry_of self.now n) ≡ Some result.now }
     {
         self.names[n as usize].as_str()
     }

@@ -2,8 +2,10 @@
 #![tactic(auto)]
 
 mod dim;
+mod laws;
 mod outline;
 mod places;
 
 pub use cube_model::{DimFault, NodeLine};
 pub use dim::Dim;
+pub use laws::worked_trees;

@@ -2,20 +2,18 @@
 ghost use Rattle.std.specs.Prelude.{◌≡◌, ◌≤◌, ◌++◌, ◌∷◌, [], length, map, true, None, IfOk, OnOk, IfErr, string_bytes};
 ghost use Rattle.std.specs.List.{list_all};
 ghost use Rattle.cube_base.specs.Name.{is_name};
+ghost use Rattle.cube_model.specs.Limits.{MAX_NODES};
 ghost use Rattle.cube_model.specs.Tree.{first_fault};
 ghost use Rattle.dim_tree.specs.Fault.{IsCause};
 ghost use Rattle.dim_tree.specs.Outline.{depth_fault, name_fault};
 
-use cube_model::{DimFault, NodeLine};
+use cube_model::{DimFault, MAX_DEPTH, NodeLine};
 use indexmap::IndexSet;
 use std::alloc::{AllocError, Global};
 
-/// The deepest that a node may lie.
-const MAX_DEPTH: u8 = 8;
-
-/// The names of the lines, in order, where the lines are a tree.
-pub fn names_of(alloc: Global, lines: &[NodeLine]) -> Result<IndexSet<String>, DimFault>
-    requires { length lines.now ≤ 65536 }
+/// Judges the lines one after another. Where they are a tree, their names, in order.
+pub fn judged_names(alloc: Global, lines: &[NodeLine]) -> Result<IndexSet<String>, DimFault>
+    requires { length lines.now ≤ MAX_NODES }
     ensures names { IfOk result (λ names. map string_bytes names.keys ≡ map (λ line. line.name) lines.now) }
     ensures are_names { OnOk result (list_all (λ line. is_name line.name) lines.now ≡ true) }
     ensures accepted { OnOk result (first_fault [] 0 lines.now ≡ None) }

@@ -2,17 +2,19 @@
 //! and the leaves before it.
 ghost use Rattle.std.specs.Prelude.{◌≡◌, ◌+◌, ◌<◌, ◌≤◌, [], drop, length, nat_le, slice_index, true, IfOk};
 ghost use Rattle.std.specs.List.{list_all};
+ghost use Rattle.cube_model.specs.Limits.{MAX_DEPTH, MAX_NODES};
 ghost use Rattle.dim_tree.specs.Places.{ends_from, is_childless, leaf_counts_from, leaves_from, parents_from};
 
+use cube_model::MAX_DEPTH;
 use std::alloc::{AllocError, Global};
 
-/// How many depths there are: 0 to 8.
-const DEPTHS: usize = 9;
+/// How many depths there are: 0 to the greatest.
+const DEPTHS: usize = MAX_DEPTH as usize + 1;
 
 /// For each node the place of its parent, and 0 for the root.
 pub fn parents_of(alloc: Global, depths: &[u8]) -> Result<Vec<u32>, AllocError>
-    requires few { length depths.now ≤ 65536 }
-    requires shallow { list_all (λ depth. nat_le depth 8) depths.now ≡ true }
+    requires few { length depths.now ≤ MAX_NODES }
+    requires shallow { list_all (λ depth. nat_le depth MAX_DEPTH) depths.now ≡ true }
     ensures { IfOk result (λ parents. parents.items ≡ parents_from [] depths.now) }
 {
     let mut parents = Vec::with_capacity(alloc, depths.len())?;
@@ -29,8 +31,8 @@ pub fn parents_of(alloc: Global, depths: &[u8]) -> Result<Vec<u32>, AllocError>
 
 /// For each node the place behind the last node under it.
 pub fn ends_of(alloc: Global, depths: &[u8]) -> Result<Vec<u32>, AllocError>
-    requires few { length depths.now ≤ 65536 }
-    requires shallow { list_all (λ depth. nat_le depth 8) depths.now ≡ true }
+    requires few { length depths.now ≤ MAX_NODES }
+    requires shallow { list_all (λ depth. nat_le depth MAX_DEPTH) depths.now ≡ true }
     ensures { IfOk result (λ ends. ends.items ≡ ends_from 0 depths.now) }
 {
     let mut ends = vec![in alloc; 0u32; depths.len()]?;
@@ -54,7 +56,7 @@ fn is_childless(depths: &[u8], place: usize) -> bool
 
 /// For each node, and behind the last, the number of leaves before it; and the leaves.
 pub fn leaves_of(alloc: Global, depths: &[u8]) -> Result<(Vec<u32>, Vec<u32>), AllocError>
-    requires { length depths.now ≤ 65536 }
+    requires { length depths.now ≤ MAX_NODES }
     ensures before { IfOk result (λ r. r.0.items ≡ leaf_counts_from 0 depths.now) }
     ensures leaves { IfOk result (λ r. r.1.items ≡ leaves_from 0 depths.now) }
 {

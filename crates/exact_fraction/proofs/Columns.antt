@@ -10,13 +10,14 @@ use Rattle.std.proofs.lemmas.List.Elements.{All-nil, All-cons, All-get_or, All-f
 use Rattle.std.proofs.Math.Seq.{drop-cons}
 use Rattle.std.proofs.Math.Nat.{div-le_self}
 use Rattle.cube_model.specs.declared.term.Term.{Term}
+use Rattle.cube_model.specs.Limits.{MAX_VALUE}
 use Rattle.group_sum.specs.Terms.{are_terms_from, is_term}
 use Rattle.group_sum.specs.Place.{term_at, no_term}
 use Rattle.group_sum.proofs.Ascending.{at_least, first_is, is_term_at}
 use Rattle.exact_fraction.specs.Number.{gcd}
 use Rattle.exact_fraction.specs.Fraction.{Fraction, reduced, term_fraction, column_fractions}
-use Rattle.exact_fraction.specs.Moderate.{IsModerate, IsModerateTerm, MOST_VALUE}
-use Rattle.exact_fraction.specs.Parts.{signed, fraction_of, lowest_parts, parts_over, IsPart, MOST_PART}
+use Rattle.exact_fraction.specs.Moderate.{IsModerate, IsModerateTerm}
+use Rattle.exact_fraction.specs.Signed.{signed, fraction_of, signed_lowest, signed_over, IsFractionAt, MOST_PART}
 use Rattle.exact_fraction.proofs.Divisors.{cofactor_some, cofactor_le}
 use Rattle.exact_fraction.proofs.Signs.{nat_abs-signed, reduced-signed}
 
@@ -24,17 +25,17 @@ use Rattle.exact_fraction.proofs.Signs.{nat_abs-signed, reduced-signed}
 abbrev pub column_of : ℕ → Term → ℤ
 column_of column t = slice_index_or (pos t.count ∷ t.sums) column (pos 0)
 
--- no column passes MOST_VALUE times the count
-pub column_bound : (t : Term) → IsModerateTerm t → (column : ℕ) → column ≤ length t.sums → nat_abs (column_of column t) ≤ MOST_VALUE * t.count
+-- no column passes MAX_VALUE times the count
+pub column_bound : (t : Term) → IsModerateTerm t → (column : ℕ) → column ≤ length t.sums → nat_abs (column_of column t) ≤ MAX_VALUE * t.count
 column_bound t moderate zero within = omega arith
-column_bound t moderate (suc k) within = All-get_or (λ sum. nat_abs sum ≤ MOST_VALUE * t.count) t.sums k (pos 0) (omega arith) moderate.sums
+column_bound t moderate (suc k) within = All-get_or (λ sum. nat_abs sum ≤ MAX_VALUE * t.count) t.sums k (pos 0) (omega arith) moderate.sums
 
 signed_parts : (z : ℤ) → signed (is_negative z) (nat_abs z) ≡ z
 signed_parts (pos n) = let positive : nat_lt n 0 ≡ false = grind (arith, nat_tests) in rw positive
 signed_parts (negsuc n) = refl
 
 -- a fraction of the sign and size of its numerator
-fraction_of-lowest : (num : ℤ) (den : ℕ) → fraction_of (lowest_parts (parts_over num den)) ≡ reduced num den
+fraction_of-lowest : (num : ℤ) (den : ℕ) → fraction_of (signed_lowest (signed_over num den)) ≡ reduced num den
 fraction_of-lowest num den =
     sym (reduced-signed (is_negative num) (nat_abs num) den) ∙ ap (λ z. reduced z den) (signed_parts num)
 
@@ -56,7 +57,7 @@ module _ (columns column i : ℕ) (terms : List Term) (ok : are_terms_from colum
       ∙ rw (add-one, drop-map (term_fraction column) (suc i) terms) refl
 
   pub part_is : (num : ℤ) (den : ℕ) → option_map (column_of column) (slice_get terms i) ≡ Some num → option_map (λ (t : Term). t.den) (slice_get terms i) ≡ Some den → den < 2 ^ 64
-      → (1 ≤ den) × IsPart column terms i (lowest_parts (parts_over num den))
+      → (1 ≤ den) × IsFractionAt column terms i (signed_lowest (signed_over num den))
   part_is num den num_read den_read fits =
       let read : slice_get terms i ≡ Some (term_at terms i) = slice_get-get_or terms i no_term within in
       let num_is : column_of column (term_at terms i) ≡ num = cc (read, num_read) in

@@ -5,11 +5,11 @@ use Rattle.std.specs.Int.{is_negative}
 use Rattle.std.proofs.lemmas.Int.{ints}
 use Rattle.std.proofs.lemmas.Bool.Decides.{nat_tests}
 use Rattle.std.proofs.Math.Nat.{mul-le-mul_right}
-use Rattle.group_sum.specs.Terms.{WIDE}
+use Rattle.cube_model.specs.Limits.{WIDE}
 use Rattle.exact_fraction.specs.declared.sums.Value.{Value}
 use Rattle.exact_fraction.specs.declared.quotients.Quotient.TheVariants.{Is}
 use Rattle.exact_fraction.specs.Fraction.{floor_of, ceiling_of}
-use Rattle.exact_fraction.specs.Parts.{MOST_WHOLE}
+use Rattle.exact_fraction.specs.Signed.{MOST_WHOLE}
 use Rattle.exact_fraction.specs.Ratio.{CanDivide, wide_quotient}
 
 module _ (scale : ℕ) (sum count : Value) (least most : ℕ) (least_is : least ≡ nat_abs count.lo) (most_is : most ≡ nat_abs count.hi) (some : 1 ≤ least) where

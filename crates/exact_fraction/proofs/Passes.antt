@@ -9,13 +9,14 @@ use Rattle.std.proofs.lemmas.Bool.Decides.{nat_tests}
 use Rattle.std.proofs.lemmas.Int.{ints}
 use Rattle.cube_model.specs.declared.term.Term.{Term}
 use Rattle.cube_model.specs.Answer.{total_by}
-use Rattle.group_sum.specs.Terms.{TermList, AreTerms, are_terms_from, WIDE}
+use Rattle.cube_model.specs.Limits.{WIDE}
+use Rattle.group_sum.specs.Terms.{TermList, AreTerms, are_terms_from}
 use Rattle.group_sum.proofs.Ascending.{first_is}
 use Rattle.exact_fraction.specs.Number.{lcm, within}
 use Rattle.exact_fraction.specs.Fraction.{UNIT, Fraction, term_fraction, column_fractions, common_den, sum_over, abs_over, floor_of, ceiling_of}
-use Rattle.exact_fraction.specs.Parts.{fraction_of, MOST_PART}
-use Rattle.exact_fraction.specs.declared.fraction.Parts.{Parts}
-use Rattle.exact_fraction.specs.declared.column.Sides.{Sides}
+use Rattle.exact_fraction.specs.Signed.{fraction_of, MOST_PART}
+use Rattle.exact_fraction.specs.declared.fraction.SignedFraction.{SignedFraction}
+use Rattle.exact_fraction.specs.declared.column.SignedSums.{SignedSums}
 use Rattle.exact_fraction.specs.declared.fraction.Bounds.{Bounds}
 use Rattle.exact_fraction.proofs.Columns.{column_of}
 use Rattle.exact_fraction.proofs.Signs.{floor_small, ceiling_small}
@@ -94,10 +95,10 @@ has_all common whole rest has empty =
     grind (arith, nat_tests)
 
 -- the sum so far, with the fractions from here on, is the sum of all
-pub record HasSides (multiple : ℕ) (fs : List Fraction) (sides : Sides) (rest : List Fraction) : Type 0 where
-  pub sum : pos sides.above -ℤ pos sides.below +ℤ sum_over multiple rest ≡ sum_over multiple fs
-  pub size : sides.above + sides.below + abs_over multiple rest ≡ abs_over multiple fs
-  pub narrow : sides.above + sides.below ≤ WIDE
+pub record HasSums (multiple : ℕ) (fs : List Fraction) (sums : SignedSums) (rest : List Fraction) : Type 0 where
+  pub sum : pos sums.above -ℤ pos sums.below +ℤ sum_over multiple rest ≡ sum_over multiple fs
+  pub size : sums.above + sums.below + abs_over multiple rest ≡ abs_over multiple fs
+  pub narrow : sums.above + sums.below ≤ WIDE
 
 -- the bounds so far, with those of the fractions from here on, are the bounds of all; and they are small
 pub record HasBounds (fs : List Fraction) (i : ℕ) (bounds : Bounds) (rest : List Fraction) : Type 0 where
@@ -110,7 +111,7 @@ pub record HasBounds (fs : List Fraction) (i : ℕ) (bounds : Bounds) (rest : Li
 pub sum_small : (x y : ℤ) (m n : ℕ) → nat_abs x ≤ m → nat_abs y ≤ n → nat_abs (x +ℤ y) ≤ m + n
 sum_small x y m n le_x le_y = omega (arith, ints)
 
-module _ (fs : List Fraction) (i : ℕ) (bounds : Bounds) (p : Parts) (rest : List Fraction) (has : HasBounds fs i bounds (fraction_of p ∷ rest)) (some : 1 ≤ p.den) (size : p.size ≤ MOST_PART * p.den)
+module _ (fs : List Fraction) (i : ℕ) (bounds : Bounds) (p : SignedFraction) (rest : List Fraction) (has : HasBounds fs i bounds (fraction_of p ∷ rest)) (some : 1 ≤ p.den) (size : p.size ≤ MOST_PART * p.den)
     (each : Bounds) (lo_is : each.lo ≡ floor_of (fraction_of p)) (hi_is : each.hi ≡ ceiling_of (fraction_of p)) where
   pub bounds_next : HasBounds fs (i + 1) (record { lo = bounds.lo +ℤ each.lo; hi = bounds.hi +ℤ each.hi }) rest
   bounds_next = record {

@@ -2,7 +2,7 @@
 use Rattle.std.proofs.Common.{◌≡◌, ℕ, ◌+◌, ◌*◌, ◌/◌, ◌%◌, ◌^◌, ◌<◌, ◌≤◌, arith, add-one}
 use Rattle.std.proofs.Math.Nat.{pow-suc, pow-le-pow_right, mul-le-mul, le_of_mul-le-mul_right}
 use Rattle.exact_fraction.specs.Fraction.{UNIT}
-use Rattle.exact_fraction.specs.Parts.{MOST_WHOLE}
+use Rattle.exact_fraction.specs.Signed.{MOST_WHOLE}
 
 module _ (size den whole rest place : ℕ) (parts : whole * den + rest ≡ size * 10 ^ place) where
   -- one digit more

@@ -9,8 +9,8 @@ use Rattle.exact_fraction.proofs.Shares.{count_over, count_some}
 use Rattle.exact_fraction.proofs.Told.{sum_tells}
 use Rattle.exact_fraction.specs.Moderate.{IsModerate}
 use Rattle.exact_fraction.specs.One.{sum_of, one_of}
-use Rattle.exact_fraction.specs.Parts.{fraction_of}
-use Rattle.exact_fraction.specs.declared.fraction.Parts.{Parts}
+use Rattle.exact_fraction.specs.Signed.{fraction_of}
+use Rattle.exact_fraction.specs.declared.fraction.SignedFraction.{SignedFraction}
 use Rattle.exact_fraction.specs.declared.quotients.Quotient.TheVariants.{Undefined}
 use Rattle.cube_model.specs.declared.term.Term.{Term}
 use Rattle.std.specs.Int.{is_negative}
@@ -193,7 +193,7 @@ unfolding ratio_of
 ratio_none column scale [] none = refl
 ratio_none column scale (t ∷ terms) none = absurd (omega arith)
 
-pub ratio_exact : (column scale : ℕ) (terms : List Term) (p : Parts) → 1 ≤ length terms → IsExactQuotient scale (column_fractions column terms) (column_fractions 0 terms) p → exact_quotient (fraction_of p) ≡ ratio_of column scale terms
+pub ratio_exact : (column scale : ℕ) (terms : List Term) (p : SignedFraction) → 1 ≤ length terms → IsExactQuotient scale (column_fractions column terms) (column_fractions 0 terms) p → exact_quotient (fraction_of p) ≡ ratio_of column scale terms
 ratio_exact column scale terms p some is = rw (ratio_some column scale terms some, is.narrow) (ap exact_quotient is.parts.fraction)
 
 pub ratio_wide : (column scale : ℕ) (terms : List Term) → 1 ≤ length terms → is_wide_quotient scale (column_fractions column terms) (column_fractions 0 terms) ≡ true → wide_quotient scale (one_of column terms) (one_of 0 terms) ≡ ratio_of column scale terms

@@ -2,15 +2,16 @@
 use Rattle.std.proofs.Common.{◌≡◌, ℕ, ◌+◌, ◌*◌, ◌<◌, ◌≤◌, ◌||◌, Bool, true, false, List, [], ◌∷◌, length, Option, Some, None, MatchOption, subst, refl, sym, ap, ◌∙◌, arith}
 use Rattle.std.specs.Prelude.{nat_lt}
 use Rattle.std.proofs.lemmas.Bool.Decides.{nat_tests}
-use Rattle.group_sum.specs.Terms.{TermList, AreTerms, WIDE}
+use Rattle.cube_model.specs.Limits.{MAX_VALUE, WIDE}
+use Rattle.group_sum.specs.Terms.{TermList, AreTerms}
 use Rattle.exact_fraction.specs.Number.{lcm, within}
 use Rattle.exact_fraction.specs.Fraction.{Fraction, reduced, column_fractions, common_den, abs_over}
-use Rattle.exact_fraction.specs.Moderate.{IsModerate, MOST_VALUE}
-use Rattle.exact_fraction.specs.Parts.{signed, AreSides, AreSum, AreParts}
+use Rattle.exact_fraction.specs.Moderate.{IsModerate}
+use Rattle.exact_fraction.specs.Signed.{signed, AreSignedSums, IsSumOver, StandsFor}
 use Rattle.exact_fraction.specs.Ratio.{joint_den, quotient_of, is_wide_quotient, IsExactQuotient}
 use Rattle.exact_fraction.specs.Laws.{IsCommonMultiple}
-use Rattle.exact_fraction.specs.declared.fraction.Parts.{Parts}
-use Rattle.exact_fraction.specs.declared.column.Sides.{Sides}
+use Rattle.exact_fraction.specs.declared.fraction.SignedFraction.{SignedFraction}
+use Rattle.exact_fraction.specs.declared.column.SignedSums.{SignedSums}
 use Rattle.exact_fraction.proofs.Divisors.{one-lcm, lcm_assoc, lcm-is, le-lcm, lcm_some}
 use Rattle.exact_fraction.proofs.Passes.{AreFractions, common_den_some, column_some, rest_of, within_some, within_none}
 use Rattle.exact_fraction.proofs.Totals.{common_told}
@@ -120,7 +121,7 @@ module _ (list : TermList) (column scale : ℕ) (are : AreTerms list) (moderate 
       pub count_told : WIDE < abs_over common cs → is_wide_quotient scale fs cs ≡ true
       count_told wide = wide_count scale fs cs (rw joint_told.0 wide)
 
-      module _ (some : 1 ≤ length list.terms) (sum count : Sides) (are_sum : AreSides common fs sum) (are_count : AreSides common cs count) (p : Parts) (is : AreSum sum (count.above + count.below) p) where
+      module _ (some : 1 ≤ length list.terms) (sum count : SignedSums) (are_sum : AreSignedSums common fs sum) (are_count : AreSignedSums common cs count) (p : SignedFraction) (is : IsSumOver sum (count.above + count.below) p) where
         den_is : p.den ≡ abs_over common cs
         den_is = is.den ∙ are_count.size
 
@@ -130,7 +131,7 @@ module _ (list : TermList) (column scale : ℕ) (are : AreTerms list) (moderate 
             let multiple = rw joint_told.0 at (joint_right fs cs fs_some cs_some) in
             rw den_is (count_some list.columns common list.terms some are.terms multiple)
 
-        pub size_le : p.size ≤ MOST_VALUE * p.den
+        pub size_le : p.size ≤ MAX_VALUE * p.den
         size_le =
             let multiple = rw joint_told.0 at (joint_left fs cs fs_some cs_some) in
             let multiple_count = rw joint_told.0 at (joint_right fs cs fs_some cs_some) in
@@ -144,7 +145,7 @@ module _ (list : TermList) (column scale : ℕ) (are : AreTerms list) (moderate 
         same_den = ap (λ (f : Fraction). f.den) quotient_is
 
         -- the denominator of the quotient passes WIDE, or the quotient is told
-        pub quotient_told : (told_quotient : Option Parts) → MatchOption told_quotient (WIDE < (reduced (signed p.negative p.size) (p.den * scale)).den) (λ q. AreParts (reduced (signed p.negative p.size) (p.den * scale)) q)
+        pub quotient_told : (told_quotient : Option SignedFraction) → MatchOption told_quotient (WIDE < (reduced (signed p.negative p.size) (p.den * scale)).den) (λ q. StandsFor (reduced (signed p.negative p.size) (p.den * scale)) q)
             → MatchOption told_quotient (is_wide_quotient scale fs cs ≡ true) (λ q. IsExactQuotient scale fs cs q)
         quotient_told None wide = let P : ℕ → Type 0 = λ n. WIDE < n in wide_ratio scale fs cs (subst P (sym same_den) wide)
         quotient_told (Some q) parts =

@@ -3,11 +3,11 @@ use Rattle.std.proofs.Common.{◌≡◌, ℕ, ◌*◌, ◌/◌, ◌<◌, ◌≤�
 use Rattle.std.specs.Int.{IsGcd, ◌∣◌}
 use Rattle.std.proofs.lemmas.Nat.Gcd.{dvd_trans}
 use Rattle.std.proofs.Math.Nat.{mul-div_cancel', div-div-eq-div-mul, dvd-mul_left, one-dvd, mul-pos, mul-one, mul-div_cancel_left, div-le_self, le_trans}
-use Rattle.group_sum.specs.Terms.{WIDE}
+use Rattle.cube_model.specs.Limits.{WIDE}
 use Rattle.exact_fraction.specs.Number.{gcd, within}
 use Rattle.exact_fraction.specs.Fraction.{Fraction, reduced}
-use Rattle.exact_fraction.specs.Parts.{signed, fraction_of, lowest_parts, AreParts, MOST_WHOLE}
-use Rattle.exact_fraction.specs.declared.fraction.Parts.{Parts}
+use Rattle.exact_fraction.specs.Signed.{signed, fraction_of, signed_lowest, StandsFor, MOST_WHOLE}
+use Rattle.exact_fraction.specs.declared.fraction.SignedFraction.{SignedFraction}
 use Rattle.exact_fraction.proofs.Divisors.{gcd-is, gcd_some, gcd_unique, gcd-scaled, apart-cofactors, apart-product, cofactor_some, cofactor_le}
 use Rattle.exact_fraction.proofs.Signs.{nat_abs-signed, reduced-signed}
 use Rattle.exact_fraction.proofs.Passes.{within_some, within_none}
@@ -72,22 +72,22 @@ module _ (size den scale : ℕ) (some : 1 ≤ den) (some_scale : 1 ≤ scale) wh
   den-twice = ap (λ g. den * scale / g) gcd-twice ∙ ap (λ n. n / (first * second)) (sym den_is) ∙ mul-div_cancel_left (den / first * (scale / second)) (mul-pos first_some second_some)
 
 -- parts in lowest terms, and what is left of their size and the scale
-module _ (p first second : Parts) (scale : ℕ) (some : 1 ≤ p.den) (some_scale : 1 ≤ scale) (is_first : first ≡ lowest_parts p) (is_second : second ≡ lowest_parts (record { negative = first.negative; size = first.size; den = scale })) where
+module _ (p first second : SignedFraction) (scale : ℕ) (some : 1 ≤ p.den) (some_scale : 1 ≤ scale) (is_first : first ≡ signed_lowest p) (is_second : second ≡ signed_lowest (record { negative = first.negative; size = first.size; den = scale })) where
   -- the quotient by the scale
   abbrev value : Fraction
   value = reduced (signed p.negative p.size) (p.den * scale)
 
   first_size : first.size ≡ p.size / gcd p.size p.den
-  first_size = ap (λ (q : Parts). q.size) is_first
+  first_size = ap (λ (q : SignedFraction). q.size) is_first
 
   second_size : second.size ≡ p.size / gcd p.size p.den / gcd (p.size / gcd p.size p.den) scale
-  second_size = ap (λ (q : Parts). q.size) is_second ∙ ap (λ n. n / gcd n scale) first_size
+  second_size = ap (λ (q : SignedFraction). q.size) is_second ∙ ap (λ n. n / gcd n scale) first_size
 
   both_den : first.den * second.den ≡ p.den / gcd p.size p.den * (scale / gcd (p.size / gcd p.size p.den) scale)
-  both_den = ap (λ n. n * second.den) (ap (λ (q : Parts). q.den) is_first) ∙ ap (λ n. p.den / gcd p.size p.den * n) (ap (λ (q : Parts). q.den) is_second ∙ ap (λ n. scale / gcd n scale) first_size)
+  both_den = ap (λ n. n * second.den) (ap (λ (q : SignedFraction). q.den) is_first) ∙ ap (λ n. p.den / gcd p.size p.den * n) (ap (λ (q : SignedFraction). q.den) is_second ∙ ap (λ n. scale / gcd n scale) first_size)
 
   same_sign : second.negative ≡ p.negative
-  same_sign = ap (λ (q : Parts). q.negative) is_second ∙ ap (λ (q : Parts). q.negative) is_first
+  same_sign = ap (λ (q : SignedFraction). q.negative) is_second ∙ ap (λ (q : SignedFraction). q.negative) is_first
 
   value_den : value.den ≡ first.den * second.den
   value_den = ap (λ n. p.den * scale / gcd n (p.den * scale)) (nat_abs-signed p.negative p.size) ∙ den-twice p.size p.den scale some some_scale ∙ sym both_den
@@ -101,7 +101,7 @@ module _ (p first second : Parts) (scale : ℕ) (some : 1 ≤ p.den) (some_scale
   pub scaled_wide : None ≡ within (first.den * second.den) → WIDE < value.den
   scaled_wide told = rw value_den (within_none (first.den * second.den) told)
 
-  pub scaled_told : (den : ℕ) → Some den ≡ within (first.den * second.den) → p.size ≤ WIDE → p.size ≤ MOST_WHOLE * (p.den * scale) → AreParts value (record { negative = second.negative; size = second.size; den = den })
+  pub scaled_told : (den : ℕ) → Some den ≡ within (first.den * second.den) → p.size ≤ WIDE → p.size ≤ MOST_WHOLE * (p.den * scale) → StandsFor value (record { negative = second.negative; size = second.size; den = den })
   scaled_told den told within_wide size =
       let parts = within_some (first.den * second.den) den told in
       let size_is = second_size ∙ sym (size-twice p.size p.den scale some some_scale) in

@@ -7,11 +7,12 @@ use Rattle.std.proofs.lemmas.List.Sums.{sum_by-cons}
 use Rattle.std.proofs.lemmas.Bool.Decides.{nat_tests}
 use Rattle.std.proofs.Math.Nat.{mul-div_cancel', div-mul_cancel, mul-le-mul_right, le_of_mul-le-mul_right, one-le-mul}
 use Rattle.cube_model.specs.declared.term.Term.{Term}
+use Rattle.cube_model.specs.Limits.{MAX_VALUE}
 use Rattle.group_sum.specs.Terms.{are_terms_from}
 use Rattle.group_sum.proofs.Ascending.{first_is}
 use Rattle.exact_fraction.specs.Number.{gcd}
 use Rattle.exact_fraction.specs.Fraction.{Fraction, reduced, term_fraction, column_fractions, sum_over, abs_over}
-use Rattle.exact_fraction.specs.Moderate.{IsModerateTerm, MOST_VALUE}
+use Rattle.exact_fraction.specs.Moderate.{IsModerateTerm}
 use Rattle.exact_fraction.specs.Laws.{IsCommonMultiple}
 use Rattle.exact_fraction.proofs.Divisors.{gcd-is}
 use Rattle.exact_fraction.proofs.Columns.{column_of, column_bound, reduced_size}
@@ -52,9 +53,9 @@ share_le_share most num count den multiple some divides divides_count le =
     scaled x y n k first second le = omega (arith, first, ap (λ z. most * z) second, mul-le-mul_right multiple le)
 
 module _ (columns column : ℕ) (in_columns : column < columns) (multiple : ℕ) where
-  -- a column is at most MOST_VALUE times the count
+  -- a column is at most MAX_VALUE times the count
   pub abs_over_count : (least : ℕ) (terms : List Term) → 1 ≤ least → are_terms_from columns least terms ≡ true → All IsModerateTerm terms → IsCommonMultiple multiple (column_fractions column terms) → IsCommonMultiple multiple (column_fractions 0 terms)
-      → abs_over multiple (column_fractions column terms) ≤ MOST_VALUE * abs_over multiple (column_fractions 0 terms)
+      → abs_over multiple (column_fractions column terms) ≤ MAX_VALUE * abs_over multiple (column_fractions 0 terms)
   abs_over_count least [] from ok moderate is is_count = omega arith
   abs_over_count least (t ∷ terms) from ok moderate is is_count =
       let first = first_is columns least t terms ok in
@@ -64,7 +65,7 @@ module _ (columns column : ℕ) (in_columns : column < columns) (multiple : ℕ)
       let divides_count = first_of (λ (f : Fraction). f.den ∣ multiple) (term_fraction 0 t) (column_fractions 0 terms) is_count.each in
       let others : IsCommonMultiple multiple (column_fractions column terms) = record { some = is.some; each = rest_of (λ (f : Fraction). f.den ∣ multiple) (term_fraction column t) (column_fractions column terms) is.each } in
       let others_count : IsCommonMultiple multiple (column_fractions 0 terms) = record { some = is_count.some; each = rest_of (λ (f : Fraction). f.den ∣ multiple) (term_fraction 0 t) (column_fractions 0 terms) is_count.each } in
-      let here = share_le_share MOST_VALUE (column_of column t) (pos t.count) t.den multiple (omega (arith, first.from)) divides divides_count (column_bound t (moderate 0 t (omega arith)) column within) in
+      let here = share_le_share MAX_VALUE (column_of column t) (pos t.count) t.den multiple (omega (arith, first.from)) divides divides_count (column_bound t (moderate 0 t (omega arith)) column within) in
       let rest = abs_over_count (t.den + 1) terms (omega arith) first.others (λ k d lt. moderate (suc k) d (omega arith)) others others_count in
       rw (abs_over-cons multiple (term_fraction column t) (column_fractions column terms), abs_over-cons multiple (term_fraction 0 t) (column_fractions 0 terms)) (omega arith)
 

@@ -9,7 +9,7 @@ use Rattle.std.proofs.Math.Nat.{zero-div, mul_comm, zero-mul, mul-zero, mul-le-m
 use lib.IntN.{neg_ℤ-neg_ℤ}
 use Rattle.exact_fraction.specs.Fraction.{UNIT, reduced, floor_of, ceiling_of}
 use Rattle.exact_fraction.specs.Number.{gcd}
-use Rattle.exact_fraction.specs.Parts.{next_above, signed}
+use Rattle.exact_fraction.specs.Signed.{next_above, signed}
 
 pub nat_abs-signed : (negative : Bool) (n : ℕ) → nat_abs (signed negative n) ≡ n
 nat_abs-signed false n = refl

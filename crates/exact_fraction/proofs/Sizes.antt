@@ -7,10 +7,11 @@ use Rattle.std.proofs.lemmas.List.{length-map}
 use Rattle.std.proofs.Math.Nat.{mul-le-mul_left, mul-le-mul_right, mul-le-mul, le_of_mul-le-mul_right}
 use Rattle.cube_model.specs.declared.term.Term.{Term}
 use Rattle.cube_model.specs.Answer.{total_by}
-use Rattle.group_sum.specs.Terms.{TermList, AreTerms, WIDE}
+use Rattle.cube_model.specs.Limits.{MAX_FACTS, MAX_VALUE, WIDE}
+use Rattle.group_sum.specs.Terms.{TermList, AreTerms}
 use Rattle.exact_fraction.specs.Fraction.{UNIT, Fraction, reduced, term_fraction, column_fractions, common_den, sum_over, abs_over, floor_of, ceiling_of}
-use Rattle.exact_fraction.specs.Moderate.{IsModerate, MOST_COUNT, MOST_VALUE, MOST_TERMS}
-use Rattle.exact_fraction.specs.Parts.{MOST_WHOLE}
+use Rattle.exact_fraction.specs.Moderate.{IsModerate}
+use Rattle.exact_fraction.specs.Signed.{MOST_WHOLE}
 use Rattle.exact_fraction.specs.declared.sums.Value.{Value}
 use Rattle.exact_fraction.specs.One.{is_wide, sum_of}
 use Rattle.exact_fraction.specs.Ratio.{joint_den, CanDivide}
@@ -97,54 +98,54 @@ module _ (m B : ℕ) (clo chi : ℤ) (some : 1 ≤ m) (count_bounds : AreBounds 
   count_above = let le = rw clo_is at count_bounds.above_lo in omega (arith, ints)
 
   -- and of a sum that is at most so many times the count
-  module _ (n : ℕ) (slo shi A : ℤ) (sum_bounds : AreBounds slo shi A m) (A_le : nat_abs A ≤ MOST_VALUE * B) (sums : shi ≤ℤ (slo +ℤ pos n)) (counts : chi ≤ℤ (clo +ℤ pos n)) where
-    -- the sum is at most MOST_VALUE times the greater count
-    times_count : MOST_VALUE * B * UNIT ≤ MOST_VALUE * nat_abs chi * m
-    times_count = scaled B (nat_abs chi) (mul-le-mul_left MOST_VALUE count_below)
+  module _ (n : ℕ) (slo shi A : ℤ) (sum_bounds : AreBounds slo shi A m) (A_le : nat_abs A ≤ MAX_VALUE * B) (sums : shi ≤ℤ (slo +ℤ pos n)) (counts : chi ≤ℤ (clo +ℤ pos n)) where
+    -- the sum is at most MAX_VALUE times the greater count
+    times_count : MAX_VALUE * B * UNIT ≤ MAX_VALUE * nat_abs chi * m
+    times_count = scaled B (nat_abs chi) (mul-le-mul_left MAX_VALUE count_below)
       where
-        scaled : (b c : ℕ) → MOST_VALUE * (b * UNIT) ≤ MOST_VALUE * (c * m) → MOST_VALUE * b * UNIT ≤ MOST_VALUE * c * m
+        scaled : (b c : ℕ) → MAX_VALUE * (b * UNIT) ≤ MAX_VALUE * (c * m) → MAX_VALUE * b * UNIT ≤ MAX_VALUE * c * m
         scaled b c le = omega arith
 
-    slo_below : slo ≤ℤ pos (MOST_VALUE * nat_abs chi)
+    slo_below : slo ≤ℤ pos (MAX_VALUE * nat_abs chi)
     slo_below =
-        let least : A ≤ℤ pos (MOST_VALUE * B) = omega (arith, ints) in
-        let units = times-le-times A (pos (MOST_VALUE * B)) UNIT least in
+        let least : A ≤ℤ pos (MAX_VALUE * B) = omega (arith, ints) in
+        let units = times-le-times A (pos (MAX_VALUE * B)) UNIT least in
         let low = sum_bounds.above_lo in
         let count = times_count in
-        le_of_times-le-times slo (pos (MOST_VALUE * nat_abs chi)) m some (omega (arith, ints))
+        le_of_times-le-times slo (pos (MAX_VALUE * nat_abs chi)) m some (omega (arith, ints))
 
-    shi_above : neg_ℤ (pos (MOST_VALUE * nat_abs chi)) ≤ℤ shi
+    shi_above : neg_ℤ (pos (MAX_VALUE * nat_abs chi)) ≤ℤ shi
     shi_above =
-        let most : neg_ℤ (pos (MOST_VALUE * B)) ≤ℤ A = omega (arith, ints) in
-        let units = rw (neg-times (pos (MOST_VALUE * B)) UNIT) at (times-le-times (neg_ℤ (pos (MOST_VALUE * B))) A UNIT most) in
+        let most : neg_ℤ (pos (MAX_VALUE * B)) ≤ℤ A = omega (arith, ints) in
+        let units = rw (neg-times (pos (MAX_VALUE * B)) UNIT) at (times-le-times (neg_ℤ (pos (MAX_VALUE * B))) A UNIT most) in
         let high = sum_bounds.below_hi in
         let count = times_count in
-        le_of_times-le-times (neg_ℤ (pos (MOST_VALUE * nat_abs chi))) shi m some (rw (neg-times (pos (MOST_VALUE * nat_abs chi)) m) (omega (arith, ints)))
+        le_of_times-le-times (neg_ℤ (pos (MAX_VALUE * nat_abs chi))) shi m some (rw (neg-times (pos (MAX_VALUE * nat_abs chi)) m) (omega (arith, ints)))
 
     apart : nat_abs chi ≤ nat_abs clo + n
     apart = let close = rw (chi_is, clo_is) at counts in omega (arith, ints)
 
     -- so where the count is known to be above 0, it is at most MOST_WHOLE times the smaller one
-    slo_small : n ≤ MOST_TERMS → 1 ≤ nat_abs clo → nat_abs slo ≤ MOST_WHOLE * nat_abs clo
+    slo_small : n ≤ MAX_FACTS → 1 ≤ nat_abs clo → nat_abs slo ≤ MOST_WHOLE * nat_abs clo
     slo_small few above = let low = slo_below in let high = shi_above in let close = apart in omega (arith, ints)
 
-    shi_small : n ≤ MOST_TERMS → 1 ≤ nat_abs clo → nat_abs shi ≤ MOST_WHOLE * nat_abs clo
+    shi_small : n ≤ MAX_FACTS → 1 ≤ nat_abs clo → nat_abs shi ≤ MOST_WHOLE * nat_abs clo
     shi_small few above = let low = slo_below in let high = shi_above in let close = apart in omega (arith, ints)
 
     -- and the count is moderate itself
-    count_small : B ≤ n * (MOST_COUNT * m) → nat_abs chi ≤ n * (MOST_COUNT * UNIT + 1)
+    count_small : B ≤ n * (MAX_FACTS * m) → nat_abs chi ≤ n * (MAX_FACTS * UNIT + 1)
     count_small le =
         le_of_mul-le-mul_right (scaled (nat_abs chi) (nat_abs clo) (mul-le-mul_right m apart) count_above (mul-le-mul_right UNIT le)) some
       where
-        scaled : (c l : ℕ) → c * m ≤ (l + n) * m → l * m ≤ B * UNIT → B * UNIT ≤ n * (MOST_COUNT * m) * UNIT → c * m ≤ n * (MOST_COUNT * UNIT + 1) * m
+        scaled : (c l : ℕ) → c * m ≤ (l + n) * m → l * m ≤ B * UNIT → B * UNIT ≤ n * (MAX_FACTS * m) * UNIT → c * m ≤ n * (MAX_FACTS * UNIT + 1) * m
         scaled c l first second third = omega (arith, first, second, third)
 
-    scaled_count : (scale : ℕ) → n ≤ MOST_TERMS → scale ≤ 1_000_000 → B ≤ n * (MOST_COUNT * m) → nat_abs chi * scale ≤ WIDE
+    scaled_count : (scale : ℕ) → n ≤ MAX_FACTS → scale ≤ 1_000_000 → B ≤ n * (MAX_FACTS * m) → nat_abs chi * scale ≤ WIDE
     scaled_count scale few small le =
-        let bound : nat_abs chi ≤ MOST_TERMS * (MOST_COUNT * UNIT + 1) = omega (arith, count_small le, mul-le-mul_right (MOST_COUNT * UNIT + 1) few) in
+        let bound : nat_abs chi ≤ MAX_FACTS * (MAX_FACTS * UNIT + 1) = omega (arith, count_small le, mul-le-mul_right (MAX_FACTS * UNIT + 1) few) in
         omega (arith, mul-le-mul bound small)
 
-    pub can_divide : (scale : ℕ) → n ≤ MOST_TERMS → scale ≤ 1_000_000 → B ≤ n * (MOST_COUNT * m) → (sum count : Value) → sum.lo ≡ slo → sum.hi ≡ shi → count.lo ≡ clo → count.hi ≡ chi → CanDivide scale sum count
+    pub can_divide : (scale : ℕ) → n ≤ MAX_FACTS → scale ≤ 1_000_000 → B ≤ n * (MAX_FACTS * m) → (sum count : Value) → sum.lo ≡ slo → sum.hi ≡ shi → count.lo ≡ clo → count.hi ≡ chi → CanDivide scale sum count
     can_divide scale few small le sum count is_slo is_shi is_clo is_chi = record {
       from = rw is_clo from;
       order = rw (is_clo, is_chi) order;
@@ -166,9 +167,9 @@ column_can_divide list column scale are moderate in_columns some small =
     let right = joint_right fs cs some_fs some_cs in
     let sum_bounds = (sum_tells fs some_fs).bounds m left in
     let count_bounds = rw (count_over m list.terms) at ((sum_tells cs some_cs).bounds m right) in
-    let A_le : nat_abs (sum_over m fs) ≤ MOST_VALUE * abs_over m cs = omega (arith, sum_within_abs m fs, abs_over_count list.columns column in_columns m 1 list.terms (omega arith) are.terms moderate.each left right) in
-    let counted : All (λ t. nat_abs (column_of 0 t) ≤ MOST_COUNT * t.den) list.terms = λ k d lt. (moderate.each k d lt).count in
-    let B_le = rw (length-map list.terms (term_fraction 0)) at (abs_over_bound MOST_COUNT m cs (column_small MOST_COUNT list.columns 0 1 list.terms (omega arith) are.terms counted)) in
+    let A_le : nat_abs (sum_over m fs) ≤ MAX_VALUE * abs_over m cs = omega (arith, sum_within_abs m fs, abs_over_count list.columns column in_columns m 1 list.terms (omega arith) are.terms moderate.each left right) in
+    let counted : All (λ t. nat_abs (column_of 0 t) ≤ MAX_FACTS * t.den) list.terms = λ k d lt. (moderate.each k d lt).count in
+    let B_le = rw (length-map list.terms (term_fraction 0)) at (abs_over_bound MAX_FACTS m cs (column_small MAX_FACTS list.columns 0 1 list.terms (omega arith) are.terms counted)) in
     let sums = rw (length-map list.terms (term_fraction column)) at (sum_close fs some_fs (rw (length-map list.terms (term_fraction column)) some)) in
     let counts = rw (length-map list.terms (term_fraction 0)) at (sum_close cs some_cs (rw (length-map list.terms (term_fraction 0)) some)) in
     can_divide m (abs_over m cs) (sum_of cs).lo (sum_of cs).hi left.some count_bounds (count_from list.terms) (length list.terms) (sum_of fs).lo (sum_of fs).hi (sum_over m fs) sum_bounds A_le sums counts scale moderate.few small B_le (sum_of fs) (sum_of cs) refl refl refl refl

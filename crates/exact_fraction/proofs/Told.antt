@@ -8,8 +8,8 @@ use Rattle.std.proofs.lemmas.Nat.Gcd.{dvd_trans}
 use Rattle.group_sum.specs.Terms.{TermList, AreTerms}
 use Rattle.exact_fraction.specs.Fraction.{Fraction, column_fractions, reduced, common_den, sum_over}
 use Rattle.exact_fraction.specs.One.{is_wide, exact_value, wide_value, sum_of, IsExactSum}
-use Rattle.exact_fraction.specs.Parts.{fraction_of}
-use Rattle.exact_fraction.specs.declared.fraction.Parts.{Parts}
+use Rattle.exact_fraction.specs.Signed.{fraction_of}
+use Rattle.exact_fraction.specs.declared.fraction.SignedFraction.{SignedFraction}
 use Rattle.exact_fraction.specs.Laws.{IsCommonMultiple, TellsSum}
 use Rattle.exact_fraction.proofs.Divisors.{lcm-is}
 use Rattle.exact_fraction.proofs.Passes.{AreFractions, common_den_some, column_some, rest_of}
@@ -34,7 +34,7 @@ common_multiple (f ∷ fs) some =
 pub sum_narrow : (fs : List Fraction) → is_wide fs ≡ false → sum_of fs ≡ exact_value (reduced (sum_over (common_den fs) fs) (common_den fs))
 sum_narrow fs narrow = rw narrow
 
-pub exact_told : (fs : List Fraction) (p : Parts) → IsExactSum fs p → exact_value (fraction_of p) ≡ sum_of fs
+pub exact_told : (fs : List Fraction) (p : SignedFraction) → IsExactSum fs p → exact_value (fraction_of p) ≡ sum_of fs
 exact_told fs p is = ap exact_value is.parts.fraction ∙ sym (sum_narrow fs is.narrow)
 
 pub sum_wide : (fs : List Fraction) → is_wide fs ≡ true → sum_of fs ≡ wide_value fs

@@ -5,14 +5,15 @@ use Rattle.std.proofs.lemmas.Bool.Decides.{nat_tests}
 use Rattle.std.proofs.lemmas.List.{length-map}
 use Rattle.std.proofs.lemmas.List.Sums.{sum_by-le}
 use Rattle.std.proofs.Math.Nat.{mul-le-mul_right, mul-le-mul_left, mul-div-le, div-le_self}
-use Rattle.group_sum.specs.Terms.{TermList, AreTerms, WIDE}
+use Rattle.cube_model.specs.Limits.{WIDE}
+use Rattle.group_sum.specs.Terms.{TermList, AreTerms}
 use Rattle.exact_fraction.specs.Number.{gcd, lcm, within}
 use Rattle.exact_fraction.specs.Fraction.{Fraction, reduced, term_fraction, column_fractions, common_den, sum_over, abs_over}
 use Rattle.exact_fraction.specs.Moderate.{IsModerate}
-use Rattle.exact_fraction.specs.Parts.{signed, lowest_parts, AreSides, AreSum, AreParts, MOST_PART, MOST_WHOLE}
+use Rattle.exact_fraction.specs.Signed.{signed, signed_lowest, AreSignedSums, IsSumOver, StandsFor, MOST_PART, MOST_WHOLE}
 use Rattle.exact_fraction.specs.One.{is_wide, IsExactSum}
-use Rattle.exact_fraction.specs.declared.fraction.Parts.{Parts}
-use Rattle.exact_fraction.specs.declared.column.Sides.{Sides}
+use Rattle.exact_fraction.specs.declared.fraction.SignedFraction.{SignedFraction}
+use Rattle.exact_fraction.specs.declared.column.SignedSums.{SignedSums}
 use Rattle.exact_fraction.proofs.Divisors.{one-lcm, cofactor_some, cofactor_le}
 use Rattle.exact_fraction.proofs.Signs.{reduced-signed}
 use Rattle.exact_fraction.proofs.Columns.{column_small, terms_small}
@@ -27,7 +28,7 @@ abs_over_bound most multiple fs small =
     share_bound num den le = omega (arith, mul-le-mul_right (multiple / den) le, mul-le-mul_left most (mul-div-le multiple den))
 
 -- parts in lowest terms
-pub lowest_told : (num : ℤ) (den : ℕ) (p : Parts) → signed p.negative p.size ≡ num → p.den ≡ den → 1 ≤ den → den ≤ WIDE → p.size ≤ WIDE → p.size ≤ MOST_WHOLE * den → AreParts (reduced num den) (lowest_parts p)
+pub lowest_told : (num : ℤ) (den : ℕ) (p : SignedFraction) → signed p.negative p.size ≡ num → p.den ≡ den → 1 ≤ den → den ≤ WIDE → p.size ≤ WIDE → p.size ≤ MOST_WHOLE * den → StandsFor (reduced num den) (signed_lowest p)
 lowest_told num den p num_is den_is some narrow within size =
     let some_den : 1 ≤ p.den = rw den_is some in
     record {
@@ -65,12 +66,12 @@ module _ (list : TermList) (column : ℕ) (are : AreTerms list) (moderate : IsMo
     common_some = rw (← (common_told common told).0) (common_den_some _ (column_some list.columns column 1 list.terms (omega arith) are.terms))
 
     -- the sum in lowest terms
-    pub sum_exact : (sides : Sides) (p : Parts) → AreSides common (column_fractions column list.terms) sides → AreSum sides common p → IsExactSum (column_fractions column list.terms) (lowest_parts p)
-    sum_exact sides p are_sides is =
+    pub sum_exact : (sums : SignedSums) (p : SignedFraction) → AreSignedSums common (column_fractions column list.terms) sums → IsSumOver sums common p → IsExactSum (column_fractions column list.terms) (signed_lowest p)
+    sum_exact sums p are_sums is =
         let same = (common_told common told).0 in
         let narrow = (common_told common told).1 in
-        let within_sum : abs_over (common_den (column_fractions column list.terms)) (column_fractions column list.terms) ≤ WIDE = rw (same, ← are_sides.size) are_sides.within in
+        let within_sum : abs_over (common_den (column_fractions column list.terms)) (column_fractions column list.terms) ≤ WIDE = rw (same, ← are_sums.size) are_sums.within in
         record {
           narrow = grind (arith, nat_tests);
-          parts = rw same (lowest_told (sum_over common (column_fractions column list.terms)) common p (is.num ∙ sym are_sides.sum) is.den common_some narrow (omega (arith, is.size, are_sides.within)) (omega (arith, is.size, are_sides.size, abs_over_small common)));
+          parts = rw same (lowest_told (sum_over common (column_fractions column list.terms)) common p (is.num ∙ sym are_sums.sum) is.den common_some narrow (omega (arith, is.size, are_sums.within)) (omega (arith, is.size, are_sums.size, abs_over_small common)));
         }

@@ -1,7 +1,7 @@
 pub mod Number
 pub mod Fraction
 pub mod Moderate
-pub mod Parts
+pub mod Signed
 pub mod One
 pub mod Ratio
 pub mod Laws

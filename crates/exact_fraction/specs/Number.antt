@@ -1,6 +1,6 @@
 -- Greatest common divisors, least common multiples and the width of 120 bits.
 use Rattle.std.specs.Prelude.{ℕ, zero, suc, ◌*◌, ◌/◌, ◌%◌, Bool, ◌==◌, ◌&&◌, if◌then◌else◌, nat_lt, Option, Some, None}
-use Rattle.group_sum.specs.Terms.{WIDE}
+use Rattle.cube_model.specs.Limits.{WIDE}
 
 -- the greatest number from 1 to n that passes, 0 where none does
 unfoldable pub greatest_to : (ℕ → Bool) → ℕ → ℕ

@@ -2,10 +2,10 @@
 use Rattle.std.specs.Prelude.{◌≡◌, ℕ, false, ◌||◌, List, Bool, if◌then◌else◌, nat_lt, Some, None}
 use Rattle.cube_model.specs.declared.term.Term.{Term}
 use Rattle.cube_model.specs.Answer.{total_by}
-use Rattle.group_sum.specs.Terms.{WIDE}
+use Rattle.cube_model.specs.Limits.{WIDE}
 use Rattle.exact_fraction.specs.declared.sums.Value.{Value}
-use Rattle.exact_fraction.specs.declared.fraction.Parts.{Parts}
-use Rattle.exact_fraction.specs.Parts.{AreParts}
+use Rattle.exact_fraction.specs.declared.fraction.SignedFraction.{SignedFraction}
+use Rattle.exact_fraction.specs.Signed.{StandsFor}
 use Rattle.exact_fraction.specs.Fraction.{Fraction, reduced, column_fractions, common_den, sum_over, abs_over, floor_of, ceiling_of}
 
 -- the sum cannot be told as one fraction
@@ -28,7 +28,7 @@ sum_of fs = if is_wide fs then wide_value fs else exact_value (reduced (sum_over
 unfoldable pub one_of : ℕ → List Term → Value
 one_of column terms = sum_of (column_fractions column terms)
 
--- the parts are the sum of fractions, which can be told as one
-pub record IsExactSum (fs : List Fraction) (p : Parts) : Type 0 where
+-- p is the sum of fractions, which can be told as one
+pub record IsExactSum (fs : List Fraction) (p : SignedFraction) : Type 0 where
   pub narrow : is_wide fs ≡ false
-  pub parts : AreParts (reduced (sum_over (common_den fs) fs) (common_den fs)) p
+  pub parts : StandsFor (reduced (sum_over (common_den fs) fs) (common_den fs)) p

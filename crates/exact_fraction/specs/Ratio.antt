@@ -2,13 +2,13 @@
 use Rattle.std.specs.Prelude.{◌≡◌, ℕ, ◌*◌, ◌≤◌, false, ◌||◌, ◌==◌, List, [], ◌∷◌, ◌++◌, Bool, if◌then◌else◌, nat_lt, ℤ, pos, ◌≤ℤ◌, nat_abs, Some, None}
 use Rattle.std.specs.Int.{is_negative}
 use Rattle.cube_model.specs.declared.term.Term.{Term}
-use Rattle.group_sum.specs.Terms.{WIDE}
+use Rattle.cube_model.specs.Limits.{WIDE}
 use Rattle.exact_fraction.specs.declared.sums.Value.{Value}
 use Rattle.exact_fraction.specs.declared.quotients.Quotient.{Quotient}
 use Rattle.exact_fraction.specs.declared.quotients.Quotient.TheVariants.{Undefined, Is}
 use Rattle.exact_fraction.specs.Fraction.{Fraction, reduced, column_fractions, common_den, sum_over, abs_over, floor_of, ceiling_of}
-use Rattle.exact_fraction.specs.declared.fraction.Parts.{Parts}
-use Rattle.exact_fraction.specs.Parts.{AreParts, MOST_WHOLE}
+use Rattle.exact_fraction.specs.declared.fraction.SignedFraction.{SignedFraction}
+use Rattle.exact_fraction.specs.Signed.{StandsFor, MOST_WHOLE}
 use Rattle.exact_fraction.specs.One.{one_of}
 
 -- the least common multiple of the denominators of both
@@ -53,10 +53,10 @@ unfoldable pub ratio_of : ℕ → ℕ → List Term → Quotient
 ratio_of column scale [] = Undefined
 ratio_of column scale (t ∷ terms) = quotient_or_bounds column scale (t ∷ terms)
 
--- the parts are the quotient, which can be told as one fraction
-pub record IsExactQuotient (scale : ℕ) (fs cs : List Fraction) (p : Parts) : Type 0 where
+-- p is the quotient, which can be told as one fraction
+pub record IsExactQuotient (scale : ℕ) (fs cs : List Fraction) (p : SignedFraction) : Type 0 where
   pub narrow : is_wide_quotient scale fs cs ≡ false
-  pub parts : AreParts (quotient_of scale fs cs) p
+  pub parts : StandsFor (quotient_of scale fs cs) p
 
 -- the bounds of a sum can be divided by those of a count and a scale
 pub record CanDivide (scale : ℕ) (sum count : Value) : Type 0 where

@@ -1,19 +1,21 @@
 //! Passes over a column of terms.
 ghost use Rattle.std.specs.Prelude.{◌≡◌, ◌+◌, ◌*◌, ◌<◌, ◌≤◌, length, nat_abs, MatchOption, ◌+ℤ◌};
 ghost use Rattle.cube_model.specs.Answer.{total_by};
-ghost use Rattle.group_sum.specs.Terms.{AreTerms, WIDE};
+ghost use Rattle.cube_model.specs.Limits.{WIDE};
+ghost use Rattle.group_sum.specs.Terms.{AreTerms};
 ghost use Rattle.exact_fraction.specs.Number.{lcm, within};
 ghost use Rattle.exact_fraction.specs.Fraction.{abs_over, ceiling_of, column_fractions, common_den, floor_of};
 ghost use Rattle.exact_fraction.specs.Moderate.{IsModerate};
-ghost use Rattle.exact_fraction.specs.Parts.{AddsShare, AreSides, IsPart};
+ghost use Rattle.exact_fraction.specs.Signed.{AddsToSums, AreSignedSums, IsFractionAt};
 
-use crate::fraction::{Bounds, Parts, bounds_of, over, reduce};
-use crate::gcd::{LIMIT, lcm_within, product_within};
+use crate::fraction::{Bounds, SignedFraction, bounds_of, over, reduce};
+use crate::gcd::{lcm_within, product_within};
+use cube_model::WIDE;
 use group_sum::Terms;
 
-/// A sum in two parts, by what is above 0 and what is below.
+/// A sum by its numbers above 0 and those below.
 #[derive(Clone, Copy, Drop)]
-pub struct Sides {
+pub struct SignedSums {
     /// The sum of the numbers above 0.
     pub above: u128,
     /// The sum of the absolute values of those below 0.
@@ -37,39 +39,39 @@ pub fn common_den(t: &Terms, col: u32, start: u128) -> Option<u128>
 }
 
 /// The sum of a column over a multiple of its denominators, if the absolute values together do not pass the limit.
-pub fn sides_over(t: &Terms, col: u32, multiple: u128) -> Option<Sides>
+pub fn signed_sums(t: &Terms, col: u32, multiple: u128) -> Option<SignedSums>
     requires column { col < t.now.columns }
     requires moderate { IsModerate t.now.terms }
     ensures { MatchOption result (WIDE < abs_over multiple (column_fractions col t.now.terms))
-        (λ sides. AreSides multiple (column_fractions col t.now.terms) sides) }
+        (λ sums. AreSignedSums multiple (column_fractions col t.now.terms) sums) }
 {
-    let mut sides = Sides { above: 0, below: 0 };
+    let mut sums = SignedSums { above: 0, below: 0 };
     for i in 0..t.len() {
         let part = part(t, col, i);
         let share = product_within(multiple / part.den, part.size)?;
-        sides = plus(sides, part.negative, share)?;
+        sums = plus(sums, part.negative, share)?;
     }
-    Some(sides)
+    Some(sums)
 }
 
-// The sum with a share added, if both sides together do not pass the limit.
-fn plus(sides: Sides, negative: bool, share: u128) -> Option<Sides>
-    requires sides { sides.above + sides.below ≤ WIDE }
+// The sums with a number added, if together they do not pass the limit.
+fn plus(sums: SignedSums, negative: bool, share: u128) -> Option<SignedSums>
+    requires sums { sums.above + sums.below ≤ WIDE }
     requires share { share ≤ WIDE }
-    ensures { MatchOption result (WIDE < sides.above + sides.below + share) (λ new. AddsShare sides negative share new) }
+    ensures { MatchOption result (WIDE < sums.above + sums.below + share) (λ new. AddsToSums sums negative share new) }
 {
-    if share > LIMIT - sides.above - sides.below {
+    if share > WIDE - sums.above - sums.below {
         return None;
     }
     Some(if negative {
-        Sides {
-            above: sides.above,
-            below: sides.below + share,
+        SignedSums {
+            above: sums.above,
+            below: sums.below + share,
         }
     } else {
-        Sides {
-            above: sides.above + share,
-            below: sides.below,
+        SignedSums {
+            above: sums.above + share,
+            below: sums.below,
         }
     })
 }
@@ -109,12 +111,12 @@ fn sum(x: i128, y: i128) -> i128
 }
 
 // The fraction of a column of one term.
-fn part(t: &Terms, col: u32, i: u64) -> Parts
+fn part(t: &Terms, col: u32, i: u64) -> SignedFraction
     requires terms { AreTerms t.now }
     requires place { i < length t.now.terms }
     requires column { col < t.now.columns }
     requires moderate { IsModerate t.now.terms }
-    ensures { IsPart col t.now.terms i result }
+    ensures { IsFractionAt col t.now.terms i result }
 {
     reduce(over(t.num_at(i, col), u128::from(t.den_at(i))))
 }

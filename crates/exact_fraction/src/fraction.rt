@@ -1,8 +1,8 @@
 //! Fractions by their sign and size: lowest terms, and the whole numbers next to them.
 ghost use Rattle.std.specs.Prelude.{◌≡◌, ◌+◌, ◌*◌, ◌<◌, ◌≤◌};
-ghost use Rattle.group_sum.specs.Terms.{WIDE};
+ghost use Rattle.cube_model.specs.Limits.{WIDE};
 ghost use Rattle.exact_fraction.specs.Fraction.{UNIT, reduced, floor_of, ceiling_of};
-ghost use Rattle.exact_fraction.specs.Parts.{MOST_WHOLE, fraction_of, lowest_parts, next_above, parts_over, signed};
+ghost use Rattle.exact_fraction.specs.Signed.{MOST_WHOLE, fraction_of, signed_lowest, next_above, signed_over, signed};
 
 use crate::gcd::gcd;
 
@@ -11,7 +11,7 @@ const PLACES: u32 = 9;
 
 /// A fraction: its size over a denominator, negative or not.
 #[derive(Clone, Copy, Drop)]
-pub struct Parts {
+pub struct SignedFraction {
     /// Whether the fraction is below 0.
     pub negative: bool,
     /// The absolute value of the numerator.
@@ -30,10 +30,10 @@ pub struct Bounds {
 }
 
 /// A number over a denominator.
-pub fn over(num: i128, den: u128) -> Parts
-    ensures { result ≡ parts_over num den }
+pub fn over(num: i128, den: u128) -> SignedFraction
+    ensures { result ≡ signed_over num den }
 {
-    Parts {
+    SignedFraction {
         negative: num < 0,
         size: num.unsigned_abs(),
         den,
@@ -41,14 +41,14 @@ pub fn over(num: i128, den: u128) -> Parts
 }
 
 /// A fraction in lowest terms.
-pub fn reduce(p: Parts) -> Parts
+pub fn reduce(p: SignedFraction) -> SignedFraction
     requires { 1 ≤ p.den }
-    ensures parts { result ≡ lowest_parts p }
+    ensures parts { result ≡ signed_lowest p }
     ensures fraction { fraction_of result ≡ reduced (signed p.negative p.size) p.den }
     ensures some { 1 ≤ result.den }
 {
     let common = gcd(p.size, p.den);
-    Parts {
+    SignedFraction {
         negative: p.negative,
         size: p.size / common,
         den: p.den / common,
@@ -56,7 +56,7 @@ pub fn reduce(p: Parts) -> Parts
 }
 
 /// The whole numbers next to a fraction.
-pub fn bounds_of(p: Parts) -> Bounds
+pub fn bounds_of(p: SignedFraction) -> Bounds
     requires some { 1 ≤ p.den }
     requires den { p.den ≤ WIDE }
     requires size { p.size ≤ MOST_WHOLE * p.den }

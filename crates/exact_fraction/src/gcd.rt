@@ -3,8 +3,7 @@ ghost use Rattle.std.specs.Prelude.{◌≡◌, ◌*◌, ◌≤◌};
 ghost use Rattle.std.specs.Int.{IsGcd};
 ghost use Rattle.exact_fraction.specs.Number.{gcd, lcm, within};
 
-/// What no numerator and no denominator passes.
-pub const LIMIT: u128 = 1 << 120;
+use cube_model::WIDE;
 
 // The largest number of 64 bits.
 const NARROW: u128 = 0xffff_ffff_ffff_ffff;
@@ -48,7 +47,7 @@ pub fn product_within(x: u128, y: u128) -> Option<u128>
     if y == 0 {
         return Some(0);
     }
-    if x > LIMIT / y {
+    if x > WIDE / y {
         return None;
     }
     Some(x * y)

@@ -1,15 +1,16 @@
 //! A sum divided by the count and a scale.
 ghost use Rattle.std.specs.Prelude.{◌≡◌, ◌*◌, ◌<◌, ◌≤◌, true, if◌then◌else◌, length, nat_abs, MatchOption};
 ghost use Rattle.std.specs.Int.{is_negative};
-ghost use Rattle.group_sum.specs.Terms.{AreTerms, WIDE};
+ghost use Rattle.cube_model.specs.Limits.{MAX_VALUE, WIDE};
+ghost use Rattle.group_sum.specs.Terms.{AreTerms};
 ghost use Rattle.exact_fraction.specs.Fraction.{ceiling_of, column_fractions, floor_of, reduced};
 ghost use Rattle.exact_fraction.specs.Laws.{TellsQuotient};
-ghost use Rattle.exact_fraction.specs.Moderate.{IsModerate, MOST_VALUE};
-ghost use Rattle.exact_fraction.specs.Parts.{AreParts, MOST_WHOLE, fraction_of, signed};
+ghost use Rattle.exact_fraction.specs.Moderate.{IsModerate};
+ghost use Rattle.exact_fraction.specs.Signed.{StandsFor, MOST_WHOLE, fraction_of, signed};
 ghost use Rattle.exact_fraction.specs.Ratio.{CanDivide, IsExactQuotient, exact_quotient, is_wide_quotient, ratio_of, wide_quotient};
 
-use crate::column::{Sides, common_den, sides_over};
-use crate::fraction::{Bounds, Parts, bounds_of, over, reduce};
+use crate::column::{SignedSums, common_den, signed_sums};
+use crate::fraction::{Bounds, SignedFraction, bounds_of, over, reduce};
 use crate::gcd::product_within;
 use crate::sums::{Value, exact_value, fraction_from, one};
 use group_sum::Terms;
@@ -22,19 +23,26 @@ pub const MAX_SCALE: u32 = 1_000_000;
 pub enum Quotient {
     /// There is no count to divide by.
     Undefined,
-    /// A fraction in lowest terms, if its numerator and denominator do not pass 2^120, and bounds in units of 10^-9, if
-    /// they can be told.
+    /// One fraction where the quotient was told as such, and bounds in units of 10^-9: none where it was not and the
+    /// count's lower bound is 0.
     Is {
         /// A number of units that is not above the quotient.
         lo: Option<i128>,
         /// A number of units that is not below it.
         hi: Option<i128>,
-        /// The numerator and the denominator.
+        /// The numerator and the denominator, in lowest terms. The bounds are then the whole numbers of units next to
+        /// it.
         exact: Option<(i128, u128)>,
     },
 }
 
-/// A column divided by the count and a scale, the count being column 0.
+/// The sum of a column divided by that of the count, which is column 0, and a scale; `Undefined` where there is no term.
+/// With each term's fraction in lowest terms, it is told as one fraction where none of these is above 2^120, and nowhere
+/// else: the least common multiple of the denominators of both columns, the sum of each column's absolute values over it,
+/// as a numerator, and the denominator of the quotient in lowest terms. Where it is not, the bounds are those of the two
+/// sums divided, and none where the lower one of the count is 0.
+///
+/// The column is below the number of columns, the scale is from 1 to `MAX_SCALE`, and the terms are moderate as for [`one`].
 pub fn ratio(t: &Terms, col: u32, scale: u32) -> Quotient
     requires column { col < t.now.columns }
     requires moderate { IsModerate t.now.terms }
@@ -52,7 +60,7 @@ pub fn ratio(t: &Terms, col: u32, scale: u32) -> Quotient
 }
 
 // The quotient in lowest terms, if it can be told as one fraction.
-fn exact_ratio(t: &Terms, col: u32, scale: u32) -> Option<Parts>
+fn exact_ratio(t: &Terms, col: u32, scale: u32) -> Option<SignedFraction>
     requires some { 1 ≤ length t.now.terms }
     requires column { col < t.now.columns }
     requires moderate { IsModerate t.now.terms }
@@ -63,8 +71,8 @@ fn exact_ratio(t: &Terms, col: u32, scale: u32) -> Option<Parts>
 {
     let first = common_den(t, col, 1)?;
     let common = common_den(t, 0, first)?;
-    let sum = sides_over(t, col, common)?;
-    let count = sides_over(t, 0, common)?;
+    let sum = signed_sums(t, col, common)?;
+    let count = signed_sums(t, 0, common)?;
     over_scale(
         fraction_from(sum, count.above + count.below),
         u128::from(scale),
@@ -73,23 +81,23 @@ fn exact_ratio(t: &Terms, col: u32, scale: u32) -> Option<Parts>
 
 // A fraction divided by a scale, in lowest terms, if its denominator does not pass the limit. Both steps are in
 // lowest terms, so what is multiplied last is the denominator itself.
-fn over_scale(p: Parts, scale: u128) -> Option<Parts>
+fn over_scale(p: SignedFraction, scale: u128) -> Option<SignedFraction>
     requires some { 1 ≤ p.den }
     requires narrow { p.den ≤ WIDE }
     requires within { p.size ≤ WIDE }
-    requires size { p.size ≤ MOST_VALUE * p.den }
+    requires size { p.size ≤ MAX_VALUE * p.den }
     requires scale { (1 ≤ scale) × (scale ≤ MAX_SCALE) }
     ensures { MatchOption result (WIDE < (reduced (signed p.negative p.size) (p.den * scale)).den)
-        (λ q. AreParts (reduced (signed p.negative p.size) (p.den * scale)) q) }
+        (λ q. StandsFor (reduced (signed p.negative p.size) (p.den * scale)) q) }
 {
     let first = reduce(p);
-    let second = reduce(Parts {
+    let second = reduce(SignedFraction {
         negative: first.negative,
         size: first.size,
         den: scale,
     });
     let den = product_within(first.den, second.den)?;
-    Some(Parts {
+    Some(SignedFraction {
         negative: second.negative,
         size: second.size,
         den,
@@ -97,8 +105,8 @@ fn over_scale(p: Parts, scale: u128) -> Option<Parts>
 }
 
 // A fraction in lowest terms with the bounds next to it.
-fn exact_quotient(p: Parts) -> Quotient
-    requires { AreParts (fraction_of p) p }
+fn exact_quotient(p: SignedFraction) -> Quotient
+    requires { StandsFor (fraction_of p) p }
     ensures { result ≡ exact_quotient (fraction_of p) }
 {
     let value = exact_value(p);

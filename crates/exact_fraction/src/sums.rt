@@ -5,24 +5,29 @@ ghost use Rattle.exact_fraction.specs.Moderate.{IsModerate};
 ghost use Rattle.exact_fraction.specs.One.{IsExactSum, exact_value, is_wide, one_of, wide_value};
 ghost use Rattle.exact_fraction.specs.Fraction.{column_fractions};
 ghost use Rattle.exact_fraction.specs.Laws.{TellsSum};
-ghost use Rattle.exact_fraction.specs.Parts.{AreParts, AreSum, fraction_of};
+ghost use Rattle.exact_fraction.specs.Signed.{StandsFor, IsSumOver, fraction_of};
 
-use crate::column::{Sides, common_den, sides_over, wide_bounds};
-use crate::fraction::{Parts, bounds_of, reduce, with_sign};
+use crate::column::{SignedSums, common_den, signed_sums, wide_bounds};
+use crate::fraction::{SignedFraction, bounds_of, reduce, with_sign};
 use group_sum::Terms;
 
-/// A number: a fraction in lowest terms, if its numerator and denominator do not pass 2^120, and bounds in units of 10^-9.
+/// A number: bounds in units of 10^-9, and one fraction where it was told as such.
 #[derive(Clone, Copy, Debug, PartialEq, Eq)]
 pub struct Value {
     /// A number of units that is not above the value.
     pub lo: i128,
     /// A number of units that is not below the value.
     pub hi: i128,
-    /// The numerator and the denominator.
+    /// The numerator and the denominator, in lowest terms. The bounds are then the whole numbers of units next to it.
     pub exact: Option<(i128, u128)>,
 }
 
-/// The sum of a column, the count being column 0.
+/// The sum of a column, the count being column 0. With each term's fraction in lowest terms, it is told as one fraction
+/// where neither the least common multiple of their denominators nor the sum of their absolute values over it, as a
+/// numerator, is above 2^120, and nowhere else. Where it is not, the bounds are those of the terms added up.
+///
+/// The column is below the number of columns. The terms are moderate: at most 2^20, each of a count of at most 2^20, and no
+/// sum of one is above 10^12 times its count in absolute value.
 pub fn one(t: &Terms, col: u32) -> Value
     requires column { col < t.now.columns }
     requires moderate { IsModerate t.now.terms }
@@ -50,31 +55,31 @@ fn wide_value(t: &Terms, col: u32) -> Value
 }
 
 // The sum in lowest terms, if it can be told as one fraction.
-fn exact_sum(t: &Terms, col: u32) -> Option<Parts>
+fn exact_sum(t: &Terms, col: u32) -> Option<SignedFraction>
     requires column { col < t.now.columns }
     requires moderate { IsModerate t.now.terms }
     ensures sum { MatchOption result (is_wide (column_fractions col t.now.terms) ≡ true) (λ p. IsExactSum (column_fractions col t.now.terms) p) }
     ensures terms { AreTerms t.now }
 {
     let common = common_den(t, col, 1)?;
-    let sides = sides_over(t, col, common)?;
-    Some(reduce(fraction_from(sides, common)))
+    let sums = signed_sums(t, col, common)?;
+    Some(reduce(fraction_from(sums, common)))
 }
 
 /// A sum over a denominator.
-pub fn fraction_from(sides: Sides, den: u128) -> Parts
-    ensures { AreSum sides den result }
+pub fn fraction_from(sums: SignedSums, den: u128) -> SignedFraction
+    ensures { IsSumOver sums den result }
 {
-    Parts {
-        negative: sides.above < sides.below,
-        size: sides.above.abs_diff(sides.below),
+    SignedFraction {
+        negative: sums.above < sums.below,
+        size: sums.above.abs_diff(sums.below),
         den,
     }
 }
 
 /// A fraction in lowest terms with the bounds next to it.
-pub fn exact_value(p: Parts) -> Value
-    requires { AreParts (fraction_of p) p }
+pub fn exact_value(p: SignedFraction) -> Value
+    requires { StandsFor (fraction_of p) p }
     ensures { result ≡ exact_value (fraction_of p) }
 {
     let next = bounds_of(p);

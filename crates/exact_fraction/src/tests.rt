@@ -1,7 +1,8 @@
-//! Tests. The expected values are worked examples, and fractions that were added and divided elsewhere.
+//! Tests. The expected values are worked examples, and fractions at the limit that were added and divided elsewhere.
 ghost use Rattle.std.specs.Prelude.{◌≡◌, ◌<◌, ◌≤◌, [], ◌∷◌, IfOk, length, nat_abs, pos, ◌+ℤ◌, ◌*ℤ◌};
+ghost use Rattle.cube_model.specs.Limits.{WIDE};
 ghost use Rattle.group_sum.specs.Place.{term_at};
-ghost use Rattle.group_sum.specs.Terms.{AreTerms, WIDE};
+ghost use Rattle.group_sum.specs.Terms.{AreTerms};
 ghost use Rattle.exact_fraction.specs.Moderate.{IsModerate, IsModerateTerm};
 
 mod quotients;
@@ -10,6 +11,7 @@ mod wide_quotients;
 
 use super::*;
 use cube_base::Cols;
+use cube_model::{MAX_FACTS, MAX_VALUE};
 use std::alloc::Global;
 use std::process::Abort;
 use std::test::Fail;
@@ -77,12 +79,17 @@ fn expect_at_most(rt: &impl Abort, num: i128, most: u128)
 fn expect_moderate(rt: &impl Abort, t: &Terms)
     ensures { IsModerate t.now.terms }
 {
-    assert!(rt; t.len() <= 1 << 20);
+    assert!(rt; t.len() <= MAX_FACTS);
     assert_eq!(rt; t.columns(), 3);
     for i in 0..t.len() {
         expect_moderate_term(rt, t, i);
     }
 }
+
+/// The most facts, and the most that each of them adds to a sum.
+const MOST_COUNT: u128 = MAX_FACTS as u128;
+
+const MOST_VALUE: u128 = MAX_VALUE as u128;
 
 // Stops where a term is not moderate.
 fn expect_moderate_term(rt: &impl Abort, t: &Terms, i: u64)
@@ -92,8 +99,8 @@ fn expect_moderate_term(rt: &impl Abort, t: &Terms, i: u64)
     ensures { IsModerateTerm (term_at t.now.terms i) }
 {
     let count = t.num_at(i, 0);
-    expect_at_most(rt, count, (1 << 20) * u128::from(t.den_at(i)));
-    let most = 1_000_000_000_000 * count.unsigned_abs();
+    expect_at_most(rt, count, MOST_COUNT * u128::from(t.den_at(i)));
+    let most = MOST_VALUE * count.unsigned_abs();
     expect_at_most(rt, t.num_at(i, 1), most);
     expect_at_most(rt, t.num_at(i, 2), most);
 }

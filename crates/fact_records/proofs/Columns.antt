@@ -3,7 +3,8 @@ use Rattle.std.proofs.Common.{◌≡◌, ℕ, zero, suc, ◌+◌, ◌<◌, ◌�
 use Rattle.std.specs.Prelude.{All}
 use Rattle.std.proofs.lemmas.List.Elements.{All-cons, All-head, All-nil, All-tail}
 use Rattle.fact_records.specs.declared.shape.Measure.{Measure}
-use Rattle.fact_records.specs.Shape.{AreInOrder, IsShape, IsWithin, MAX_WIDTH, width_of, width_of_all}
+use Rattle.cube_model.specs.Limits.{MAX_COLS}
+use Rattle.fact_records.specs.Shape.{AreInOrder, IsShape, IsWithin, width_of, width_of_all}
 
 -- one measure more
 width_of_all-suc : (measures : List Measure) (i : ℕ) (d : Measure) → i < length measures
@@ -41,6 +42,6 @@ pub IsShape-within : (len : ℕ) (measures : List Measure) → IsShape measures 
 IsShape-within len measures shape whole = within_from len 1 measures (lit≤ tt) shape.order (omega arith)
 
 -- the columns of each measure are among the seven
-pub IsShape-measure : (measures : List Measure) (i : ℕ) (m : Measure) → IsShape measures → i < length measures → m ≡ get_or measures i m → IsWithin MAX_WIDTH m
+pub IsShape-measure : (measures : List Measure) (i : ℕ) (m : Measure) → IsShape measures → i < length measures → m ≡ get_or measures i m → IsWithin MAX_COLS m
 IsShape-measure measures i m shape within at =
-    subst (IsWithin MAX_WIDTH) (sym at) (within_from MAX_WIDTH 1 measures (lit≤ tt) shape.order (omega (arith, shape.most)) i m within)
+    subst (IsWithin MAX_COLS) (sym at) (within_from MAX_COLS 1 measures (lit≤ tt) shape.order (omega (arith, shape.most)) i m within)

@@ -5,6 +5,7 @@ use Rattle.std.specs.Option.{option_map, option_and_then}
 use Rattle.std.specs.List.{slice_split}
 use Rattle.std.proofs.lemmas.Bool.Decides.{nat_tests}
 use Rattle.std.proofs.lemmas.List.{map-append, take_all, take_more, take_more_set, length-map, length-set, length-take-le}
+use Rattle.cube_model.specs.Limits.{MAX_COLS}
 use Rattle.cube_model.specs.Text.{number_in}
 use Rattle.fact_records.specs.Values.{all_of, part_in, parts_in, sums_to}
 
@@ -51,11 +52,11 @@ texts_of bytes = slice_split (λ b. b == 58) bytes
 -- the first texts are read into the first places
 pub record AreRead (scale : ℕ) (bytes : List ℕ) (read : ℕ) (places : List ℤ) : Type 0 where
   pub parts : all_of (map (part_in scale) (take read (texts_of bytes))) ≡ Some (take read places)
-  pub room : length places ≡ 7
+  pub room : length places ≡ MAX_COLS
 
 -- one text more is read
 pub AreRead-more : (scale : ℕ) (bytes : List ℕ) (read : ℕ) (places : List ℤ) (text : List ℕ) (part : ℤ) → AreRead scale bytes read places
-    → read < length (texts_of bytes) → text ≡ get_or (texts_of bytes) read text → read < 7 → part_in scale text ≡ Some part → AreRead scale bytes (read + 1) (set places read part)
+    → read < length (texts_of bytes) → text ≡ get_or (texts_of bytes) read text → read < MAX_COLS → part_in scale text ≡ Some part → AreRead scale bytes (read + 1) (set places read part)
 AreRead-more scale bytes read places text part before within at few given =
     let texts = texts_of bytes in
     let next : part_in scale (get_or texts read text) ≡ Some part = ap (part_in scale) (sym at) ∙ given in
@@ -87,26 +88,26 @@ parts_in-other_count count scale bytes other = either (all_of (map (part_in scal
         rw not_as_many refl
 
 -- where all texts are read, the parts are as many and add up to the scale, or the bytes spell none
-parts_in-read : (count scale : ℕ) (bytes : List ℕ) (read : ℕ) (places : List ℤ) → AreRead scale bytes read places → length (texts_of bytes) ≤ read → read ≤ 7
+parts_in-read : (count scale : ℕ) (bytes : List ℕ) (read : ℕ) (places : List ℤ) → AreRead scale bytes read places → length (texts_of bytes) ≤ read → read ≤ MAX_COLS
     → parts_in count scale bytes ≡ (if read == count && sums_to scale (take read places) then Some (take read places) else None)
 parts_in-read count scale bytes read places given all few =
     let parts : all_of (map (part_in scale) (texts_of bytes)) ≡ Some (take read places) = ap (λ l. all_of (map (part_in scale) l)) (sym (take_all read (texts_of bytes) all)) ∙ given.parts in
     let many : length (take read places) ≡ read = length-take-le read places (omega (arith, given.room)) in
     rw (parts, many) refl
 
-pub parts_in-all : (count scale : ℕ) (bytes : List ℕ) (read : ℕ) (places : List ℤ) → AreRead scale bytes read places → length (texts_of bytes) ≤ read → read ≤ 7
+pub parts_in-all : (count scale : ℕ) (bytes : List ℕ) (read : ℕ) (places : List ℤ) → AreRead scale bytes read places → length (texts_of bytes) ≤ read → read ≤ MAX_COLS
     → read ≡ count → sums_to scale (take read places) ≡ true → parts_in count scale bytes ≡ Some (take read places)
 parts_in-all count scale bytes read places given all few many sums =
     let same : (read == count) ≡ true = grind (arith, nat_tests) in
     parts_in-read count scale bytes read places given all few ∙ rw (same, sums) refl
 
-pub parts_in-fewer : (count scale : ℕ) (bytes : List ℕ) (read : ℕ) (places : List ℤ) → AreRead scale bytes read places → length (texts_of bytes) ≤ read → read ≤ 7
+pub parts_in-fewer : (count scale : ℕ) (bytes : List ℕ) (read : ℕ) (places : List ℤ) → AreRead scale bytes read places → length (texts_of bytes) ≤ read → read ≤ MAX_COLS
     → read ≢ count → None ≡ parts_in count scale bytes
 parts_in-fewer count scale bytes read places given all few other =
     let apart : (read == count) ≡ false = grind (arith, nat_tests) in
     sym (parts_in-read count scale bytes read places given all few ∙ rw apart refl)
 
-pub parts_in-other_sum : (count scale : ℕ) (bytes : List ℕ) (read : ℕ) (places : List ℤ) → AreRead scale bytes read places → length (texts_of bytes) ≤ read → read ≤ 7
+pub parts_in-other_sum : (count scale : ℕ) (bytes : List ℕ) (read : ℕ) (places : List ℤ) → AreRead scale bytes read places → length (texts_of bytes) ≤ read → read ≤ MAX_COLS
     → sums_to scale (take read places) ≡ false → None ≡ parts_in count scale bytes
 parts_in-other_sum count scale bytes read places given all few other =
     sym (parts_in-read count scale bytes read places given all few ∙ rw other (either (read == count)))
@@ -116,7 +117,7 @@ parts_in-other_sum count scale bytes read places given all few other =
     either false = refl
 
 -- at most seven values are held
-pub held : (made : Option (List ℤ)) (values : List ℤ) → IsNone made ↔ (7 < length values) → IfSome made (λ cols. cols ≡ values) → length values ≤ 7 → made ≡ Some values
+pub held : (made : Option (List ℤ)) (values : List ℤ) → IsNone made ↔ (MAX_COLS < length values) → IfSome made (λ cols. cols ≡ values) → length values ≤ MAX_COLS → made ≡ Some values
 held None values refused same few = absurd (omega (arith, refused.0 refl))
 held (Some cols) values refused same few = ap (λ l. Some l) same
 

@@ -5,16 +5,13 @@ use Rattle.cube_base.specs.declared.code.Code.{Code}
 use Rattle.cube_base.specs.declared.code.Code.TheVariants as code
 use Rattle.cube_model.specs.Accepted.{first_that_holds}
 use Rattle.cube_model.specs.Cells.{cells_of}
+use Rattle.cube_model.specs.Limits.{MAX_CELLS, MAX_VALUE}
 use Rattle.cube_model.specs.Tree.{Dimension}
 use Rattle.fact_records.specs.declared.shape.Kind.{Kind}
 use Rattle.fact_records.specs.declared.shape.Kind.TheVariants.{Number, Parts}
 use Rattle.fact_records.specs.declared.shape.Measure.{Measure}
 use Rattle.fact_records.specs.Shape.{values_of, width_of_all}
-use Rattle.fact_records.specs.Values.{MAX_VALUE, sums_to}
-
--- the most cells of a fact's region
-abbrev pub MAX_CELLS : ℕ
-MAX_CELLS = 1048576
+use Rattle.fact_records.specs.Values.{sums_to}
 
 -- a value of a number measure is above 10^12 in absolute value
 abbrev pub is_large : Kind → List ℤ → Bool

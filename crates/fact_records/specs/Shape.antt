@@ -1,13 +1,10 @@
 -- The measures of a cube, and which columns hold their values. Column 0 is the count.
 use Rattle.std.specs.Prelude.{◌≡◌, ◌≢◌, ℕ, ◌+◌, ◌-◌, ◌≤◌, List, [], ◌∷◌, length, take, drop, All, AllPairs, position, Option, ℤ}
 use Rattle.std.specs.Str.{bytes_eq}
+use Rattle.cube_model.specs.Limits.{MAX_COLS}
 use Rattle.fact_records.specs.declared.shape.Kind.{Kind}
 use Rattle.fact_records.specs.declared.shape.Kind.TheVariants.{Number, Parts}
 use Rattle.fact_records.specs.declared.shape.Measure.{Measure}
-
--- the most columns beside the count
-abbrev pub MAX_WIDTH : ℕ
-MAX_WIDTH = 7
 
 -- how many columns a measure has
 abbrev pub width_of : Kind → ℕ
@@ -28,7 +25,7 @@ AreInOrder first (measure ∷ measures) = (measure.first_col ≡ first) × AreIn
 pub record IsShape (measures : List Measure) : Type 0 where
   pub distinct : AllPairs (λ a b. a.name ≢ b.name) measures
   pub some : All (λ m. 1 ≤ width_of m.kind) measures
-  pub most : width_of_all measures ≤ MAX_WIDTH
+  pub most : width_of_all measures ≤ MAX_COLS
   pub order : AreInOrder 1 measures
 
 -- the place of the measure of a name

@@ -5,13 +5,10 @@ use Rattle.std.specs.List.{slice_split}
 use Rattle.std.specs.Ordering.{int_eq}
 use Rattle.cube_base.specs.declared.code.Code.{Code}
 use Rattle.cube_base.specs.declared.code.Code.TheVariants as code
+use Rattle.cube_model.specs.Limits.{MAX_VALUE}
 use Rattle.cube_model.specs.Text.{number_in}
 use Rattle.fact_records.specs.declared.shape.Kind.{Kind}
 use Rattle.fact_records.specs.declared.shape.Kind.TheVariants.{Number, Parts}
-
--- the greatest absolute value of a number measure
-abbrev pub MAX_VALUE : ℕ
-MAX_VALUE = 1000000000000
 
 -- a signed number from -most to most: a number, or `-` before a number other than 0
 abbrev pub signed_number_in : ℕ → List ℕ → Option ℤ

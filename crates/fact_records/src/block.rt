@@ -29,7 +29,7 @@ impl Model for Block {
 }
 
 impl Block {
-    // A block without facts.
+    /// A block without facts.
     pub(crate) fn new(alloc: Global) -> Result<Self, AllocError>
         ensures { IfOk result (λ block. block ≡ []) }
     {
@@ -38,14 +38,14 @@ impl Block {
         })
     }
 
-    // The facts in order.
+    /// The facts in order.
     pub(crate) fn as_slice(&self) -> &[Fact]
         ensures { result.now ≡ self.now }
     {
         self.facts.as_slice()
     }
 
-    // Puts a fact in at a place.
+    /// Puts a fact in at a place.
     pub(crate) fn insert(&mut self, at: usize, fact: Fact)
         requires place { at ≤ length self.old }
         requires room { length self.old < BLOCK }
@@ -56,7 +56,7 @@ impl Block {
         }
     }
 
-    // Writes a fact over the one at a place, which it hands back.
+    /// Writes a fact over the one at a place, which it hands back.
     pub(crate) fn replace(&mut self, at: usize, fact: Fact) -> Fact
         requires { at < length self.old }
         ensures had { slice_get self.old at ≡ Some result }
@@ -65,7 +65,7 @@ impl Block {
         mem::replace(&mut self.facts[at], fact)
     }
 
-    // Takes out the fact at a place.
+    /// Takes out the fact at a place.
     pub(crate) fn remove(&mut self, at: usize) -> Fact
         requires { at < length self.old }
         ensures had { slice_get self.old at ≡ Some result }
@@ -74,7 +74,7 @@ impl Block {
         self.facts.remove(at)
     }
 
-    // Moves the facts from a place on to a block that has none.
+    /// Moves the facts from a place on to a block that has none.
     pub(crate) fn move_end(&mut self, from: usize, to: &mut Block)
         requires place { from ≤ length self.old }
         requires most { length self.old ≤ BLOCK }

@@ -34,7 +34,7 @@ impl Model for Blocks {
 }
 
 impl Blocks {
-    // No blocks.
+    /// No blocks.
     pub(crate) fn new(alloc: Global) -> Self
         ensures { result ≡ record { used = []; stock = 0 } }
     {
@@ -45,21 +45,21 @@ impl Blocks {
         }
     }
 
-    // The blocks in use.
+    /// The blocks in use.
     pub(crate) fn used(&self) -> &[Block]
         ensures { result.now ≡ self.now.used }
     {
         self.used.as_slice()
     }
 
-    // The number of blocks in stock.
+    /// The number of blocks in stock.
     pub(crate) fn stock(&self) -> usize
         ensures { result ≡ self.now.stock }
     {
         self.stock.len()
     }
 
-    // The facts of a block.
+    /// The facts of a block.
     fn block(&self, block: usize) -> &[Fact]
         requires { block < length self.now.used }
         ensures { result.now ≡ block_at self.now.used block }
@@ -67,7 +67,7 @@ impl Blocks {
         self.used[block].as_slice()
     }
 
-    // Writes a fact over the one at a place, which it hands back.
+    /// Writes a fact over the one at a place, which it hands back.
     pub(crate) fn replace(&mut self, place: Place, fact: Fact) -> Fact
         requires place { IsAt self.old.used place.block place.at }
         requires filled { AllFilled self.old.used }
@@ -79,7 +79,7 @@ impl Blocks {
         self.replace_within(place, fact)
     }
 
-    // Takes out the fact at a place. A block that is empty then goes to the stock.
+    /// Takes out the fact at a place. A block that is empty then goes to the stock.
     pub(crate) fn remove(&mut self, place: Place) -> Fact
         requires place { IsAt self.old.used place.block place.at }
         requires filled { AllFilled self.old.used }
@@ -95,7 +95,7 @@ impl Blocks {
         fact
     }
 
-    // Puts a fact in at a place. Where its block is full, a block of the stock makes room.
+    /// Puts a fact in at a place. Where its block is full, a block of the stock makes room.
     pub(crate) fn insert(&mut self, place: Place, fact: Fact)
         requires place { IsPlace self.old.used place.block place.at }
         requires filled { AllFilled self.old.used }
@@ -108,7 +108,7 @@ impl Blocks {
         self.insert_within(place, fact);
     }
 
-    // The same place among the facts, in a block that is not full.
+    /// The same place among the facts, in a block that is not full.
     fn make_room(&mut self, place: Place) -> Place
         requires place { IsPlace self.old.used place.block place.at }
         requires filled { AllFilled self.old.used }
@@ -139,7 +139,7 @@ impl Blocks {
         }
     }
 
-    // Puts a fact into a block that is not full.
+    /// Puts a fact into a block that is not full.
     fn insert_within(&mut self, place: Place, fact: Fact)
         requires place { place.block < length self.old.used }
         requires within { place.at ≤ length (block_at self.old.used place.block) }
@@ -150,7 +150,7 @@ impl Blocks {
         self.used[place.block].insert(place.at, fact);
     }
 
-    // Writes a fact over one in its block.
+    /// Writes a fact over one in its block.
     fn replace_within(&mut self, place: Place, fact: Fact) -> Fact
         requires { IsAt self.old.used place.block place.at }
         ensures had { slice_get (block_at self.old.used place.block) place.at ≡ Some result }
@@ -160,7 +160,7 @@ impl Blocks {
         self.used[place.block].replace(place.at, fact)
     }
 
-    // Takes a fact out of its block.
+    /// Takes a fact out of its block.
     fn remove_within(&mut self, place: Place) -> Fact
         requires { IsAt self.old.used place.block place.at }
         ensures had { slice_get (block_at self.old.used place.block) place.at ≡ Some result }
@@ -170,7 +170,7 @@ impl Blocks {
         self.used[place.block].remove(place.at)
     }
 
-    // Puts an empty block of the stock before the one at a place, or behind all.
+    /// Puts an empty block of the stock before the one at a place, or behind all.
     fn add(&mut self, block: usize)
         requires place { block ≤ length self.old.used }
         requires stock { 0 < self.old.stock }
@@ -183,7 +183,7 @@ impl Blocks {
         }
     }
 
-    // Splits a full block in two halves.
+    /// Splits a full block in two halves.
     fn split(&mut self, block: usize)
         requires place { block < length self.old.used }
         requires full { length (block_at self.old.used block) ≡ BLOCK }
@@ -199,7 +199,7 @@ impl Blocks {
         }
     }
 
-    // Gives a block without facts to the stock.
+    /// Gives a block without facts to the stock.
     fn retire(&mut self, block: usize)
         requires place { block < length self.old.used }
         requires empty { block_at self.old.used block ≡ [] }
@@ -212,7 +212,7 @@ impl Blocks {
         }
     }
 
-    // Makes the stock at least so large. On an error it may have grown.
+    /// Makes the stock at least so large. On an error it may have grown.
     pub(crate) fn reserve(&mut self, stock: usize) -> Result<(), AllocError>
         requires { stock < 2 ^ 62 }
         ensures used { self.new.used ≡ self.old.used }
@@ -229,7 +229,7 @@ impl Blocks {
     }
 }
 
-// Adds empty blocks up to a number. On an error there may be some.
+/// Adds empty blocks up to a number. On an error there may be some.
 fn fill(alloc: Global, stock: &mut Vec<Block>, number: usize) -> Result<(), AllocError>
     requires empty { All (λ block. block ≡ []) stock.old.items }
     requires more { vec_len stock.old ≤ number }
@@ -245,7 +245,7 @@ fn fill(alloc: Global, stock: &mut Vec<Block>, number: usize) -> Result<(), Allo
     Ok(())
 }
 
-// The load of blocks: what they have above what a split leaves them.
+/// The load of blocks: what they have above what a split leaves them.
 pub(crate) fn load(used: &[Block]) -> u64
     requires { length (all_facts used.now) < 2 ^ 64 }
     ensures { result ≡ load used.now }

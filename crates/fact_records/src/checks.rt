@@ -5,7 +5,8 @@ ghost use Rattle.std.specs.Result.{result_err};
 ghost use Rattle.region_algebra.specs.Space.{is_region};
 ghost use Rattle.fact_records.specs.Accepted.{cols_refusal, has_large_value, has_wrong_parts, is_large, is_no_distribution, region_refusal};
 ghost use Rattle.fact_records.specs.Shape.{IsWithin, values_of};
-ghost use Rattle.fact_records.specs.Values.{MAX_VALUE, sums_to};
+ghost use Rattle.cube_model.specs.Limits.{MAX_COLS, MAX_VALUE};
+ghost use Rattle.fact_records.specs.Values.{sums_to};
 
 #[cfg(test)]
 mod tests;
@@ -14,14 +15,8 @@ use crate::places::places_of;
 use crate::shape::width;
 use crate::{Kind, Measure, Shape};
 use cube_base::{Code, Cols};
-use cube_model::Region;
+use cube_model::{MAX_CELLS, MAX_VALUE, Region};
 use region_algebra::Space;
-
-/// The greatest absolute value of a number measure.
-pub const MAX_VALUE: u64 = 1_000_000_000_000;
-
-/// The most cells of a fact's region.
-const MAX_CELLS: u64 = 1 << 20;
 
 /// Judges the values of a fact. The first of these that holds is answered: `Value`, their number is not that of the
 /// columns without the count, or the value of a number measure is above 10^12 in absolute value; `Parts`, a parts
@@ -44,7 +39,7 @@ pub fn check_cols(shape: &Shape, cols: Cols) -> Result<(), Code>
     Ok(())
 }
 
-/// Judges the region of a fact: `Region` exactly where it has more than 2^20 cells.
+/// Judges a region of the space as that of a fact: `Region` exactly where it has more than 2^20 cells.
 pub fn check_region(space: &Space, r: Region) -> Result<(), Code>
     requires { is_region space.now r ≡ true }
     ensures { result_err result ≡ region_refusal space.now r }
@@ -72,7 +67,7 @@ fn has_large_value(measures: &[Measure], values: &[i64]) -> bool
 /// Whether a parts measure has values that are no distribution.
 fn has_wrong_parts(measures: &[Measure], values: &[i64]) -> bool
     requires within { All (IsWithin (length values.now)) measures.now }
-    requires few { length values.now ≤ 7 }
+    requires few { length values.now ≤ MAX_COLS }
     ensures { result ≡ has_wrong_parts measures.now values.now }
 {
     for measure in measures {
@@ -119,7 +114,7 @@ fn has_negative(values: &[i64]) -> bool
 
 /// Whether these are values of a parts measure, and one is below 0 or they do not add up to its scale.
 fn is_no_distribution(kind: &Kind, values: &[i64]) -> bool
-    requires { length values.now ≤ 7 }
+    requires { length values.now ≤ MAX_COLS }
     ensures { result ≡ is_no_distribution kind.now values.now }
 {
     match kind {
@@ -130,7 +125,7 @@ fn is_no_distribution(kind: &Kind, values: &[i64]) -> bool
 
 /// Whether the values add up to the scale.
 pub fn sums_to(scale: u32, values: &[i64]) -> bool
-    requires { length values.now ≤ 7 }
+    requires { length values.now ≤ MAX_COLS }
     ensures { result ≡ sums_to scale values.now }
 {
     let mut sum: i128 = 0;

@@ -1,5 +1,5 @@
 //! The facts in order of their ids.
-ghost use Rattle.std.specs.Prelude.{◌≡◌, ◌+◌, ◌≤◌, [], true, length, nat_lt, ◌||◌, slice_get, OnOk, OnErr};
+ghost use Rattle.std.specs.Prelude.{◌≡◌, ◌+◌, ◌≤◌, [], true, length, nat_lt, ◌||◌, slice_get, IfSome, OnOk, OnErr};
 ghost use Rattle.std.specs.Option.{option_copied};
 ghost use Rattle.cube_model.specs.Facts.{has_id, put, withdraw};
 ghost use Rattle.fact_records.specs.FactList.{IsAscending, fact_of, facts_left};
@@ -19,8 +19,8 @@ use std::marker::Model;
 #[derive(Drop)]
 pub struct FactList {
     blocks: Blocks,
-    // How many facts there are, and how many more may be put without memory.
     count: u64,
+    // How many more facts may be put without memory.
     spare: u64,
 }
 
@@ -37,9 +37,10 @@ impl Model for FactList {
 }
 
 impl FactList {
-    /// No facts. It takes no memory.
+    /// No facts, and no room for any. It takes no memory.
     pub fn new(alloc: Global) -> Self
         ensures empty { result.facts ≡ [] }
+        ensures spare { result.spare ≡ 0 }
     {
         FactList {
             blocks: Blocks::new(alloc),
@@ -87,12 +88,14 @@ impl FactList {
         FactWalk::new(self.blocks.used())
     }
 
-    /// Puts a fact in, in the place of the one with its id if there is one, which is handed back. It takes no memory.
+    /// Puts a fact in, in the place of the one with its id if there is one, which is handed back. Where there is none,
+    /// room must have been made first. It takes no memory.
     pub fn put(&mut self, fact: Fact) -> Option<Fact>
         requires { (has_id fact.id self.old.facts || nat_lt 0 self.old.spare) ≡ true }
         ensures facts { self.new.facts ≡ put fact self.old.facts }
         ensures had { result ≡ fact_of fact.id self.old.facts }
         ensures spare { self.old.spare ≤ self.new.spare + 1 }
+        ensures kept { IfSome result (λ _. self.old.spare ≤ self.new.spare) }
     {
         match search(self.blocks.used(), fact.id) {
             Ok(place) => Some(self.blocks.replace(place, fact)),

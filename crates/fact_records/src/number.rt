@@ -1,6 +1,5 @@
 //! Whole numbers in fields.
-ghost use Rattle.std.specs.Prelude.{◌≡◌, ◌+◌, ◌*◌, ◌^◌, ◌&&◌, nat_lt, if◌then◌else◌, Some, None};
-ghost use Rattle.std.specs.Char.{digit_value};
+ghost use Rattle.std.specs.Prelude.{◌≡◌, ◌^◌, ◌≤◌, ◌&&◌, length, nat_lt, if◌then◌else◌, Some, None};
 ghost use Rattle.std.specs.List.{list_all};
 ghost use Rattle.std.specs.Str.Parse.{digits_value};
 ghost use Rattle.cube_model.specs.Text.{is_digit, number_in};
@@ -18,25 +17,24 @@ pub fn number_in(bytes: &[u8], least: u64, most: u64) -> Option<u64>
 
 /// The value of digits: None exactly where there is another byte or the value does not fit.
 fn digits_value(bytes: &[u8]) -> Option<u64>
+    requires { 1 ≤ length bytes.now }
     ensures { result ≡ (if list_all is_digit bytes.now && nat_lt (digits_value 10 bytes.now) (2 ^ 64)
         then Some (digits_value 10 bytes.now) else None) }
 {
-    let mut value = 0;
-    for byte in bytes {
-        value = with_digit(value, *byte)?;
-    }
-    Some(value)
-}
-
-/// The value with a digit behind it: None exactly where the byte is no digit or the value does not fit.
-fn with_digit(value: u64, byte: u8) -> Option<u64>
-    ensures { result ≡ (if is_digit byte && nat_lt (value * 10 + digit_value byte) (2 ^ 64)
-        then Some (value * 10 + digit_value byte) else None) }
-{
-    if !byte.is_ascii_digit() {
+    if !are_digits(bytes) {
         return None;
     }
-    value.checked_mul(10)?.checked_add(u64::from(byte - b'0'))
+    match str::from_utf8(bytes) {
+        Ok(text) => text.parse().ok(),
+        Err(_) => None,
+    }
+}
+
+/// Whether all bytes are digits.
+fn are_digits(bytes: &[u8]) -> bool
+    ensures { result ≡ list_all is_digit bytes.now }
+{
+    bytes.iter().all(|byte| byte.is_ascii_digit())
 }
 
 #[cfg(test)]

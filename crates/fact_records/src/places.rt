@@ -1,10 +1,11 @@
 //! Values of a fact in an array.
 ghost use Rattle.std.specs.Prelude.{◌≡◌, ◌+◌, ◌≤◌, ◌++◌, length, take};
+ghost use Rattle.cube_model.specs.Limits.{MAX_COLS};
 
 use cube_base::{Cols, MAX_COLS};
 
 /// The values in the first places of an array.
-pub fn places_of(cols: Cols) -> [i64; 7]
+pub fn places_of(cols: Cols) -> [i64; MAX_COLS]
     ensures { take (length cols) result ≡ cols }
 {
     let mut places = [0; MAX_COLS];
@@ -16,7 +17,7 @@ pub fn places_of(cols: Cols) -> [i64; 7]
 
 /// The values, and these more behind them.
 pub fn append(cols: Cols, more: Cols) -> Cols
-    requires { length cols + length more ≤ 7 }
+    requires { length cols + length more ≤ MAX_COLS }
     ensures { result ≡ cols ++ more }
 {
     let mut places = places_of(cols);

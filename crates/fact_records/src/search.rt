@@ -15,7 +15,7 @@ pub(crate) struct Place {
     pub(crate) at: usize,
 }
 
-// Where the fact of an id is, or where it would go.
+/// Where the fact of an id is, or where it would go.
 pub(crate) fn search(used: &[Block], id: u64) -> Result<Place, Place>
     requires ascending { IsAscending (all_facts used.now) }
     requires filled { AllFilled used.now }
@@ -34,7 +34,7 @@ pub(crate) fn search(used: &[Block], id: u64) -> Result<Place, Place>
     }
 }
 
-// The same in one block.
+/// The same in one block.
 fn search_block(block: &Block, id: u64) -> Result<usize, usize>
     requires { IsAscending block.now }
     ensures found { IfOk result (IsIdAt block.now id) }
@@ -43,7 +43,7 @@ fn search_block(block: &Block, id: u64) -> Result<usize, usize>
     block.as_slice().binary_search_by_key(&id, |fact| fact.id)
 }
 
-// The last block whose first fact has no greater id, or the first block.
+/// The last block whose first fact has no greater id, or the first block.
 fn block_of(used: &[Block], id: u64) -> usize
     requires ascending { IsAscending (all_facts used.now) }
     requires filled { AllFilled used.now }
@@ -57,7 +57,7 @@ fn block_of(used: &[Block], id: u64) -> usize
     }
 }
 
-// The first id of a block: 0 where it has no fact.
+/// The first id of a block: 0 where it has no fact.
 fn first_id(block: &Block) -> u64
     ensures { result ≡ id_at block.now 0 }
 {
@@ -67,7 +67,7 @@ fn first_id(block: &Block) -> u64
     }
 }
 
-// The fact at a place.
+/// The fact at a place.
 pub(crate) fn fact_at(used: &[Block], place: Place) -> &Fact
     requires { IsAt used.now place.block place.at }
     ensures { slice_get (all_facts used.now) (place_in_all used.now place.block place.at) ≡ Some result.now }
@@ -75,7 +75,7 @@ pub(crate) fn fact_at(used: &[Block], place: Place) -> &Fact
     &used[place.block].as_slice()[place.at]
 }
 
-// The fact at a place among all.
+/// The fact at a place among all.
 pub(crate) fn nth(used: &[Block], i: u64) -> Option<&Fact>
     ensures { option_copied result ≡ slice_get (all_facts used.now) i }
 {

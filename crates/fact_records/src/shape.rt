@@ -1,7 +1,8 @@
 //! The measures of a cube, and which columns hold their values.
 ghost use Rattle.std.specs.Prelude.{◌≡◌, ◌≢◌, ◌+◌, ◌<◌, ◌≤◌, All, AllPairs, Some, IfOk, IfSome, length, slice_get};
 ghost use Rattle.std.specs.Str.{bytes_eq};
-ghost use Rattle.fact_records.specs.Shape.{AreInOrder, IsShape, IsWithin, MAX_WIDTH, measure_named, width_of, width_of_all};
+ghost use Rattle.cube_model.specs.Limits.{MAX_COLS};
+ghost use Rattle.fact_records.specs.Shape.{AreInOrder, IsShape, IsWithin, measure_named, width_of, width_of_all};
 
 #[cfg(test)]
 mod tests;
@@ -16,7 +17,12 @@ pub enum Kind {
     /// One whole number.
     Number,
     /// A distribution: one part per outcome, and the parts add up to the scale.
-    Parts { scale: u32, outcomes: Names },
+    Parts {
+        /// What the parts add up to. A schema gives 1 to 1,000,000; a shape holds any number.
+        scale: u32,
+        /// The names of the outcomes, in the order of their columns.
+        outcomes: Names,
+    },
 }
 
 /// A measure.
@@ -42,7 +48,7 @@ pub fn width(kind: &Kind) -> usize
 
 /// The number of columns of all measures.
 fn width_of_all(measures: &[Measure]) -> usize
-    requires { width_of_all measures.now ≤ MAX_WIDTH }
+    requires { width_of_all measures.now ≤ MAX_COLS }
     ensures { result ≡ width_of_all measures.now }
 {
     let mut columns = 0;
@@ -88,12 +94,12 @@ impl Model for Shape {
 }
 
 impl Shape {
-    /// The shape of these measures: no two have one name, each has a column, and their columns follow one another from
-    /// column 1 on, at most seven of them.
+    /// The shape of these measures, which must be such as a cube can have: no two have one name, each has a column, and
+    /// their columns follow one another from column 1 on, at most seven of them. It takes no memory.
     pub fn new(measures: Vec<Measure>) -> Self
         requires distinct { AllPairs (λ a b. a.name ≢ b.name) measures.items }
         requires some { All (λ m. 1 ≤ width_of m.kind) measures.items }
-        requires most { width_of_all measures.items ≤ MAX_WIDTH }
+        requires most { width_of_all measures.items ≤ MAX_COLS }
         requires order { AreInOrder 1 measures.items }
         ensures { result ≡ measures.items }
     {
@@ -121,16 +127,16 @@ impl Shape {
     pub fn columns(&self) -> u32
         ensures columns { result ≡ 1 + width_of_all self.now }
         ensures some { 1 ≤ result }
-        ensures most { result ≤ 8 }
+        ensures most { result ≤ 1 + MAX_COLS }
     {
         1 + width_of_all(&self.measures) as u32
     }
 
-    /// The measure at a place.
+    /// The measure at a place, which must be below their number.
     pub fn measure(&self, i: u32) -> &Measure
         requires { i < length self.now }
         ensures measure { slice_get self.now i ≡ Some result.now }
-        ensures within { IsWithin MAX_WIDTH result.now }
+        ensures within { IsWithin MAX_COLS result.now }
     {
         &self.measures[i as usize]
     }

@@ -1,21 +1,24 @@
 //! The values of a measure, as a field spells them.
 ghost use Rattle.std.specs.Prelude.{◌≡◌, ◌+◌, ◌^◌, ◌<◌, ◌≤◌, ◌++◌, None, Some, IfErr, IfSome, IsSomeAnd, OnErr, OnOk, length, neg_ℤ, pos, slice_get};
+ghost use Rattle.cube_model.specs.Limits.{MAX_COLS};
 ghost use Rattle.fact_records.specs.Shape.{width_of};
 ghost use Rattle.fact_records.specs.Values.{code_of, parts_in, signed_number_in, values_in};
 
 #[cfg(test)]
 mod tests;
 
-use crate::checks::{MAX_VALUE, sums_to};
+use crate::checks::sums_to;
 use crate::places::append;
 use crate::shape::width;
 use crate::{Kind, Shape, number_in};
 use cube_base::{Code, Cols, MAX_COLS};
+use cube_model::MAX_VALUE;
 
-/// Appends the values that a field gives a measure. A number measure's field is a whole number from -10^12 to 10^12:
-/// `-` stands before a negative one, and no 0 before another digit. A parts measure's field is as many whole numbers
-/// from 0 to the scale as outcomes, joined by `:`, that add up to the scale. Any other field is refused, `Value` for a
-/// number measure and `Parts` for a parts measure, and then the values stay as they were.
+/// Appends the values that a field gives a measure. Those that are there must end right before the measure's first column.
+/// A number measure's field is a whole number from -10^12 to 10^12: `-` stands before a negative one, and no 0 before
+/// another digit. A parts measure's field is as many whole numbers from 0 to the scale as outcomes, joined by `:`, that
+/// add up to the scale. Any other field is refused, `Value` for a number measure and `Parts` for a parts measure, and then
+/// the values stay as they were.
 pub fn read_value(shape: &Shape, measure: u32, field: &str, into: &mut Cols) -> Result<(), Code>
     requires measure { measure < length shape.now }
     requires place { IfSome (slice_get shape.now measure) (λ m. length into.old + 1 ≡ m.first_col) }
@@ -43,7 +46,7 @@ fn code_of(kind: &Kind) -> Code
 
 /// The values that a field gives a measure.
 fn values_in(kind: &Kind, field: &str) -> Option<Cols>
-    requires { width_of kind.now ≤ 7 }
+    requires { width_of kind.now ≤ MAX_COLS }
     ensures values { result ≡ values_in kind.now field.now }
     ensures count { IfSome result (λ values. length values ≡ width_of kind.now) }
 {
@@ -82,7 +85,7 @@ fn negative(n: u64) -> i64
 
 /// The parts that a field spells: so many numbers, joined by `:`, that add up to the scale.
 fn parts_in(count: usize, scale: u32, field: &str) -> Option<Cols>
-    requires { count ≤ 7 }
+    requires { count ≤ MAX_COLS }
     ensures parts { result ≡ parts_in count scale field.now }
     ensures count { IfSome result (λ parts. length parts ≡ count) }
 {

@@ -9,7 +9,8 @@ use Rattle.std.specs.Option.{option_map_or}
 use lib.IntN.{+ℤ_idr}
 use Rattle.cube_model.specs.declared.term.Term.{Term}
 use Rattle.cube_model.specs.Answer.{term_of, count_of, numerator_of}
-use Rattle.group_sum.specs.Terms.{WIDE, TermList, are_terms_from, is_term, AreTerms, Fits, AddsShare}
+use Rattle.cube_model.specs.Limits.{WIDE}
+use Rattle.group_sum.specs.Terms.{TermList, are_terms_from, is_term, AreTerms, Fits, AddsShare}
 use Rattle.group_sum.specs.Share.{TermFits, RaisesTerm, bare_term}
 use Rattle.group_sum.specs.Place.{term_at, no_term, IsAt, IsGapFor}
 use Rattle.group_sum.proofs.Ascending.{FindsAfter, term_of_at, term_of_gap, term_of-set, term_of-insert, are_terms-set, are_terms-insert, is_term_at}

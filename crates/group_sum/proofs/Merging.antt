@@ -7,7 +7,8 @@ use Rattle.std.proofs.lemmas.Bool.Decides.{nat_tests}
 use Rattle.std.proofs.lemmas.Int.{ints}
 use Rattle.cube_model.specs.declared.term.Term.{Term}
 use Rattle.cube_model.specs.Answer.{term_of, count_of, numerator_of}
-use Rattle.group_sum.specs.Terms.{WIDE, are_terms_from}
+use Rattle.cube_model.specs.Limits.{WIDE}
+use Rattle.group_sum.specs.Terms.{are_terms_from}
 use Rattle.group_sum.specs.Heads.{least_head, head_at, rest_at, count_in, sum_in, columns_in, total_in, AreWithin, IsTermOf, IsTotal}
 use Rattle.group_sum.specs.Merge.{FitsMerge, Merges}
 use Rattle.group_sum.proofs.Adding.{list_all_passes}

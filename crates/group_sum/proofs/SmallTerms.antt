@@ -2,7 +2,8 @@
 use Rattle.std.proofs.Common.{ℕ, zero, suc, ◌+◌, ◌*◌, ◌^◌, ◌<◌, ◌≤◌, Bool, true, false, [], ◌∷◌, get_or, ◌==◌, if◌then◌else◌, ℤ, pos, ◌+ℤ◌, ◌*ℤ◌, nat_abs, ◌∙◌, arith}
 use Rattle.std.proofs.lemmas.Int.{ints}
 use Rattle.cube_model.specs.Answer.{numerator_of}
-use Rattle.group_sum.specs.Terms.{WIDE, TermList, Fits, AddsShare}
+use Rattle.cube_model.specs.Limits.{WIDE}
+use Rattle.group_sum.specs.Terms.{TermList, Fits, AddsShare}
 use Rattle.group_sum.specs.Merge.{FitsMerge, Merges, FitsDifference}
 use Rattle.group_sum.specs.Small.{AreSmall}
 

@@ -6,9 +6,10 @@ use Rattle.std.proofs.lemmas.Bool.Decides.{nat_tests}
 use Rattle.std.proofs.lemmas.Int.{ints}
 use Rattle.cube_model.specs.declared.term.Term.{Term}
 use Rattle.cube_model.specs.Answer.{term_of, count_of}
+use Rattle.cube_model.specs.Limits.{WIDE}
 use Rattle.group_sum.specs.declared.difference.SubFault.{SubFault}
 use Rattle.group_sum.specs.declared.difference.SubFault.TheVariants.{Less, Memory}
-use Rattle.group_sum.specs.Terms.{WIDE, are_terms_from}
+use Rattle.group_sum.specs.Terms.{are_terms_from}
 use Rattle.group_sum.specs.Heads.{least_head, head_at, rest_at, count_in, sum_in, remainder_in, AreWithin, IsRemainder, HasNoRemainder, HasOtherSums}
 use Rattle.group_sum.specs.Merge.{FitsDifference, Subtracts, IsBad, IsLawful, Faults}
 use Rattle.group_sum.proofs.Ascending.{first_is}

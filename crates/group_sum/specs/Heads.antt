@@ -2,9 +2,9 @@
 use Rattle.std.specs.Prelude.{◌≡◌, ◌≢◌, ℕ, ◌+◌, ◌-◌, ◌<◌, ◌≤◌, ◌⊎◌, List, [], ◌∷◌, length, Option, Some, None, min, ◌==◌, if◌then◌else◌, ℤ, pos, ◌+ℤ◌, ◌-ℤ◌, nat_abs, slice_get, slice_index_or, ⊤}
 use Rattle.std.specs.Option.{option_map_or}
 use Rattle.cube_model.specs.declared.term.Term.{Term}
+use Rattle.cube_model.specs.Limits.{WIDE}
 use Rattle.group_sum.specs.declared.difference.SubFault.{SubFault}
 use Rattle.group_sum.specs.declared.difference.SubFault.TheVariants.{Less, Memory}
-use Rattle.group_sum.specs.Terms.{WIDE}
 
 -- the smaller of two denominators, if there is a term
 abbrev pub least_of : Option Term → Option Term → Option ℕ

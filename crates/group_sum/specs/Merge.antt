@@ -1,9 +1,10 @@
 -- The terms of two answers merged, and what is left of one without those of the other.
 use Rattle.std.specs.Prelude.{◌≡◌, ◌≢◌, ℕ, ◌+◌, ◌<◌, ◌≤◌, ◌⊎◌, ◌+ℤ◌, ◌-ℤ◌, nat_abs, ⊤}
 use Rattle.cube_model.specs.Answer.{count_of, numerator_of}
+use Rattle.cube_model.specs.Limits.{WIDE}
 use Rattle.group_sum.specs.declared.difference.SubFault.{SubFault}
 use Rattle.group_sum.specs.declared.difference.SubFault.TheVariants.{Less, Memory}
-use Rattle.group_sum.specs.Terms.{WIDE, TermList}
+use Rattle.group_sum.specs.Terms.{TermList}
 
 -- with the numerators of both added up, none passes WIDE
 pub record FitsMerge (old other : TermList) : Type 0 where

@@ -1,7 +1,7 @@
 -- What adding a share does to one term.
 use Rattle.std.specs.Prelude.{◌≡◌, ℕ, ◌+◌, ◌<◌, ◌≤◌, List, length, slice_index_or, ℤ, pos, ◌+ℤ◌, ◌*ℤ◌, nat_abs, replicate}
 use Rattle.cube_model.specs.declared.term.Term.{Term}
-use Rattle.group_sum.specs.Terms.{WIDE}
+use Rattle.cube_model.specs.Limits.{WIDE}
 
 -- the sum at a place, with the weight times the value there
 abbrev pub scaled_sum : List ℤ → ℕ → List ℤ → ℕ → ℤ

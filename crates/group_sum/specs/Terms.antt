@@ -1,16 +1,9 @@
 -- Lists of terms, and what adding a share to them does.
-use Rattle.std.specs.Prelude.{◌≡◌, ℕ, ◌+◌, ◌^◌, ◌<◌, ◌≤◌, Bool, true, List, [], ◌∷◌, length, nat_le, ◌==◌, ◌&&◌, if◌then◌else◌, slice_index_or, ℤ, pos, ◌+ℤ◌, ◌*ℤ◌, nat_abs}
+use Rattle.std.specs.Prelude.{◌≡◌, ℕ, ◌+◌, ◌<◌, ◌≤◌, Bool, true, List, [], ◌∷◌, length, nat_le, ◌==◌, ◌&&◌, if◌then◌else◌, slice_index_or, ℤ, pos, ◌+ℤ◌, ◌*ℤ◌, nat_abs}
 use Rattle.std.specs.List.{list_all}
 use Rattle.cube_model.specs.declared.term.Term.{Term}
 use Rattle.cube_model.specs.Answer.{count_of, numerator_of}
-
--- the largest absolute value of a numerator
-abbrev pub WIDE : ℕ
-WIDE = 2 ^ 120
-
--- the most columns, the count included
-abbrev pub MAX_COLUMNS : ℕ
-MAX_COLUMNS = 8
+use Rattle.cube_model.specs.Limits.{MAX_COLS, WIDE}
 
 -- terms over a number of columns, the count included
 pub record TermList : Type 0 where
@@ -30,7 +23,7 @@ are_terms_from columns least (term ∷ terms) = nat_le least term.den && is_term
 -- denominators are at least 1 and ascend strictly, and each term has the columns
 pub record AreTerms (list : TermList) : Type 0 where
   pub some : 1 ≤ list.columns
-  pub most : list.columns ≤ MAX_COLUMNS
+  pub most : list.columns ≤ MAX_COLS + 1
   pub terms : are_terms_from list.columns 1 list.terms ≡ true
 
 -- with a share added at a denominator, no numerator passes WIDE

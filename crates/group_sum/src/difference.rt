@@ -1,7 +1,8 @@
 //! What is left of terms without others.
 ghost use Rattle.std.specs.Prelude.{◌≡◌, ◌≤◌, ◌++◌, length, IfOk, IfErr, OnOk, ◌-ℤ◌, nat_abs, MatchBool};
 ghost use Rattle.std.specs.Option.{option_copied, option_to_list};
-ghost use Rattle.group_sum.specs.Terms.{AreTerms, WIDE};
+ghost use Rattle.cube_model.specs.Limits.{WIDE};
+ghost use Rattle.group_sum.specs.Terms.{AreTerms};
 ghost use Rattle.group_sum.specs.Heads.{AreWithin, HasNoRemainder, HasOtherSums, HasSameSums, IsRemainder, Lists, remainder_in};
 ghost use Rattle.group_sum.specs.Merge.{Faults, FitsDifference, IsLawful, Subtracts};
 ghost use Rattle.group_sum.specs.declared.difference.SubFault.TheVariants as sub_fault;

@@ -2,7 +2,8 @@
 ghost use Rattle.std.specs.Prelude.{◌≡◌, ◌+◌, ◌<◌, ◌≤◌, Some, [], ◌∷◌, ◌++◌, length, IfOk, ◌+ℤ◌, nat_abs, vec_len, vec_capacity};
 ghost use Rattle.std.specs.Option.{option_to_list};
 ghost use Rattle.std.specs.VecDeque.{deque_len};
-ghost use Rattle.group_sum.specs.Terms.{AreTerms, WIDE};
+ghost use Rattle.cube_model.specs.Limits.{WIDE};
+ghost use Rattle.group_sum.specs.Terms.{AreTerms};
 ghost use Rattle.group_sum.specs.Heads.{AreWithin, IsTotal, Lists, added_in, columns_in, count_in, head_at, rest_at, total_in};
 ghost use Rattle.group_sum.specs.Merge.{FitsMerge, Merges};
 

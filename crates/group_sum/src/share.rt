@@ -1,6 +1,6 @@
 //! A share: a weight at a denominator, with the values that it weighs.
 ghost use Rattle.std.specs.Prelude.{◌≡◌, ◌≤◌, length, IfOk, pos, ◌+ℤ◌, ◌*ℤ◌, nat_abs};
-ghost use Rattle.group_sum.specs.Terms.{WIDE};
+ghost use Rattle.cube_model.specs.Limits.{WIDE};
 ghost use Rattle.group_sum.specs.Share.{AddsScaled, RaisesTerm, SumsFit, TermFits, bare_term};
 
 use cube_base::{Cols, Memory, Nums};

@@ -2,21 +2,22 @@
 ghost use Rattle.std.specs.Prelude.{◌≡◌, ◌+◌, ◌<◌, ◌≤◌, [], length, slice_get, Some, OnOk, OnErr, IfOk, IfErr, IfSome, ◌∷◌, true, slice_index_or, pos};
 ghost use Rattle.std.specs.Option.{option_copied, option_map};
 ghost use Rattle.cube_model.specs.Answer.{count_of, numerator_of, term_of};
-ghost use Rattle.group_sum.specs.Terms.{AddsShare, AreTerms, Fits, WIDE, is_term};
+ghost use Rattle.cube_model.specs.Limits.{WIDE};
+ghost use Rattle.group_sum.specs.Terms.{AddsShare, AreTerms, Fits, is_term};
 ghost use Rattle.group_sum.specs.Place.{IsAt, IsGapFor};
 ghost use Rattle.group_sum.specs.Merge.{Faults, FitsDifference, FitsMerge, IsLawful, Merges, Subtracts};
 
 use crate::difference::{SubFault, difference};
 use crate::merge::{copied, merged};
 use crate::share::{raise, share};
-use cube_base::{Cols, Memory};
+use cube_base::{Cols, MAX_COLS, Memory};
 use cube_model::Term;
 use std::alloc::Global;
 use std::marker::Model;
 use std::mem;
 
 /// The most columns of an answer, the count included.
-pub const MAX_COLUMNS: u32 = 8;
+pub const MAX_COLUMNS: u32 = MAX_COLS as u32 + 1;
 
 /// The terms of an answer, ascending by denominator. A term has a numerator for the count, which is column 0 and
 /// at least 1, and one for each further column; none passes 2^120 in absolute value. Contracts see the number of
@@ -108,6 +109,9 @@ impl Terms {
 
     /// Adds a share at a denominator: `weight` to the count, and `weight` times each value to the other columns.
     /// Weight 0 changes nothing. An error leaves the terms as they were.
+    ///
+    /// The denominator is at least 1, there is a value for each of the other columns, and with the share added no numerator
+    /// at the denominator passes 2^120 in absolute value.
     pub fn add_term(&mut self, den: u64, weight: u64, cols: Cols) -> Result<(), Memory>
         requires den { 1 ≤ den }
         requires columns { length cols + 1 ≡ self.old.columns }
@@ -133,6 +137,8 @@ impl Terms {
     }
 
     /// The terms of both, numerators of equal denominators added up. An error leaves the terms as they were.
+    ///
+    /// Both have the same number of columns, and added up no numerators pass 2^120 in absolute value.
     pub fn add(&mut self, other: &Terms) -> Result<(), Memory>
         requires columns { self.old.columns ≡ other.now.columns }
         requires within { FitsMerge self.old other.now }
@@ -149,6 +155,8 @@ impl Terms {
 
     /// The terms that merged with `other` give these. `Less` names the smallest denominator at which the difference
     /// has a count below 0, or a count of 0 beside another numerator.
+    ///
+    /// Both have the same number of columns, and no numerator of the difference passes 2^120 in absolute value.
     pub fn sub(&self, other: &Terms) -> Result<Terms, SubFault>
         requires columns { self.now.columns ≡ other.now.columns }
         requires within { FitsDifference self.now other.now }

@@ -8,14 +8,15 @@ use Rattle.cube_model.specs.declared.term.Term.{Term}
 use Rattle.group_sum.specs.Place.{no_term, term_at}
 use Rattle.group_sum.specs.Terms.{are_terms_from, is_term}
 use Rattle.group_sum.proofs.Ascending.{is_term_at}
-use Rattle.exact_fraction.specs.Moderate.{IsModerateTerm, MOST_COUNT}
+use Rattle.cube_model.specs.Limits.{MAX_FACTS}
+use Rattle.exact_fraction.specs.Moderate.{IsModerateTerm}
 
 no_sums : (columns : ℕ) (t : Term) → columns ≡ 1 → is_term columns t ≡ true → length t.sums ≡ 0
 no_sums columns t one whole = grind (arith, nat_tests)
 
 pub moderate_at : (columns : ℕ) (terms : List Term) (i den : ℕ) (num : ℤ) → columns ≡ 1 → are_terms_from columns 1 terms ≡ true → i < length terms
     → option_map (λ t. slice_index_or (pos t.count ∷ t.sums) 0 (pos 0)) (slice_get terms i) ≡ Some num → option_map (λ t. t.den) (slice_get terms i) ≡ Some den
-    → nat_abs num ≤ MOST_COUNT * den → IsModerateTerm (term_at terms i)
+    → nat_abs num ≤ MAX_FACTS * den → IsModerateTerm (term_at terms i)
 moderate_at columns terms i den num one ok within num_is den_is le =
     let t = term_at terms i in
     let at : slice_get terms i ≡ Some t = slice_get-get_or terms i no_term within in

@@ -1,2 +1,2 @@
-pub mod Zeros
+pub mod Light
 pub mod Counts

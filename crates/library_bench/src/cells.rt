@@ -1,18 +1,16 @@
 //! Walks through cells, and allocations over them.
 ghost use Rattle.std.specs.Prelude.{IfOk};
 ghost use Rattle.cube_model.specs.Cells.{AreRows};
+ghost use Rattle.library_bench.specs.Light.{AreLight};
 
 use crate::spaces::{everything, space_of};
 use alloc_rows::{Alloc, allocate};
 use anyhow::{Context, Result, bail};
 use cell_weight::{StatIndex, WeightPolicy};
 use cube_base::Cols;
-use cube_model::Fact;
+use cube_model::{Fact, MAX_CELLS};
 use region_algebra::Space;
 use std::alloc::Global;
-
-/// The most cells of a region over which a fact is allocated.
-const MAX_CELLS: u64 = 1 << 20;
 
 /// Walks all cells of a space so many times: the number of the cells, and the sum of their codes.
 pub fn walk(alloc: Global, rounds: u32, sizes: &[String]) -> Result<(u64, u64)> {
@@ -51,8 +49,21 @@ pub fn spread<P: WeightPolicy>(
     Ok(spread)
 }
 
-/// Allocates a fact over all cells of a space.
+/// Allocates a fact over all cells of a space, no cell having facts.
 pub fn spread_once<P: WeightPolicy>(alloc: Global, policy: &P, space: &Space) -> Result<Alloc>
+    ensures { IfOk result (λ a. AreRows space.now a.rows) }
+{
+    spread_over(alloc, policy, space, &StatIndex::new(alloc))
+}
+
+/// Allocates a fact over all cells of a space by these statistics.
+fn spread_over<P: WeightPolicy>(
+    alloc: Global,
+    policy: &P,
+    space: &Space,
+    stats: &StatIndex,
+) -> Result<Alloc>
+    requires { AreLight stats.now }
     ensures { IfOk result (λ a. AreRows space.now a.rows) }
 {
     let region = everything(space)?;
@@ -64,8 +75,7 @@ pub fn spread_once<P: WeightPolicy>(alloc: Global, policy: &P, space: &Space) ->
         region,
         cols: Cols::new(&[]).context("no columns")?,
     };
-    let stats = StatIndex::new(alloc);
-    allocate(alloc, space, policy, &stats, &fact)
+    allocate(alloc, space, policy, stats, &fact)
         .ok()
         .context("out of memory")
 }

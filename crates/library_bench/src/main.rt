@@ -1,7 +1,8 @@
 //! Gives the libraries large tasks, for the scripts of `bench/`, which time them. The first word names the task, and its
-//! numbers follow: `cells ROUNDS LEAVES..`, `evenly ROUNDS LEAVES..`, `weighed ROUNDS LEAVES..`, `ascending PUTS TAKES`,
-//! `shuffled PUTS TAKES`, and, over a text from standard input, `fractions ROUNDS`, `schemas ROUNDS`, `lines ROUNDS` and
-//! `replies ROUNDS`. Prints two numbers by which the script sees that the task was done.
+//! numbers follow: `cells ROUNDS LEAVES..`, `evenly ROUNDS LEAVES..`, `weighed ROUNDS LEAVES..`,
+//! `ascending PUTS TAKES`, `shuffled PUTS TAKES`, and, over a text from standard input, `terms ROUNDS`, `fractions ROUNDS`,
+//! `quotients ROUNDS`, `schemas ROUNDS`, `lines ROUNDS` and `replies ROUNDS`. Prints two numbers by which the script sees
+//! that the task was done.
 #![tactic(auto)]
 
 mod cells;
@@ -43,7 +44,9 @@ fn done(
         "weighed" => cells::spread(alloc, &Uniform, first, numbers),
         "ascending" => facts::put_and_take(alloc, facts::ASCENDING, first, numbers),
         "shuffled" => facts::put_and_take(alloc, facts::SHUFFLED, first, numbers),
+        "terms" => fractions::group(alloc, first, text),
         "fractions" => fractions::sum(alloc, first, text),
+        "quotients" => fractions::divide(alloc, first, text),
         "schemas" => texts::schemas(alloc, first, text),
         "lines" => texts::lines(alloc, first, text),
         "replies" => texts::replies(alloc, first, text),

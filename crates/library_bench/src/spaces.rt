@@ -4,7 +4,7 @@ ghost use Rattle.region_algebra.specs.Space.{is_region};
 
 use anyhow::{Context, Result};
 use cube_base::Name;
-use cube_model::{NodeLine, Region};
+use cube_model::{MAX_DIMS, NodeLine, Region};
 use dim_tree::Dim;
 use region_algebra::Space;
 use std::alloc::Global;
@@ -22,7 +22,7 @@ pub fn space_of(alloc: Global, sizes: &[String]) -> Result<Space> {
 pub fn everything(space: &Space) -> Result<Region>
     ensures { IfOk result (λ region. is_region space.now region ≡ true) }
 {
-    let roots = [0; 6];
+    let roots = [0; MAX_DIMS];
     let dims = space.dims() as usize;
     space.region(&roots[..dims]).context("no region")
 }

@@ -3,7 +3,7 @@ use Rattle.std.proofs.Common.{◌≡◌, ℕ, zero, suc, ◌+◌, ◌<◌, ◌�
 use Rattle.std.specs.Prelude.{if◌then◌else◌, cond, filter, Some, None, ◌&&◌, ◌||◌, ◌==◌, nat_lt, nat_le, slice_get}
 use Rattle.std.specs.List.{count_by}
 use Rattle.std.specs.Option.{option_map, option_map_or}
-use Rattle.std.proofs.lemmas.Bool.{cases_eq}
+use Rattle.std.proofs.lemmas.Bool.{cases_eq, and_right}
 use Rattle.std.proofs.lemmas.Bool.Decides.{nat_tests}
 use Rattle.std.proofs.lemmas.List.{length-map}
 use Rattle.std.proofs.lemmas.List.Sums.{sum_by-cons}
@@ -15,7 +15,6 @@ use Rattle.dim_tree.proofs.Climbing.{both, depths_of, meets, node_at, together}
 use Rattle.dim_tree.proofs.Nodes.{is_under-end, parent-place, ends_from-above}
 use Rattle.dim_tree.proofs.Outlines.{tree_fault_none}
 use Rattle.dim_tree.proofs.Parents.{parents_from-below, placed}
-use Rattle.region_algebra.proofs.Meets.{and-none_second}
 
 -- the path from a node among these, the nearest first
 abbrev back : List Entry → ℕ → List Entry
@@ -171,7 +170,7 @@ module _ (lines : List NodeLine) (accepted : first_fault [] 0 lines ≡ None) wh
     | inl first ↦
         let none : parent dim c ≡ None = parent-place lines accepted c within ∙ grind (arith, nat_tests, first) in
         ap (λ o. option_map_or (λ p. p == n) o false && is_under dim 0 c) none
-    | inr other ↦ and-none_second (is_child n c) (is_under dim 0 c) (under-before 0 c (omega (arith, other)) within)
+    | inr other ↦ and_right (is_child n c) (is_under dim 0 c) (under-before 0 c (omega (arith, other)) within)
   ]
 
   -- a node is under the same children as its parent, and under itself where it is one
@@ -195,7 +194,7 @@ module _ (lines : List NodeLine) (accepted : first_fault [] 0 lines ≡ None) wh
         let above : q < z = omega (arith, parents_from-below [] (depths_of lines) z (omega (arith, length-map lines (λ (line : NodeLine). line.depth))) (omega (arith, other))) in
         count-once (q == n) (hits n z) (hits n q) z 0 (length lines) lines (omega arith) (omega arith) within
         (λ c from before differs. hits-other n z q c within is differs)
-        (and-none_second (is_child n z) (is_under dim q z) (under-before q z above within))
+        (and_right (is_child n z) (is_under dim q z) (under-before q z above within))
         (hits-self n z q within is)
         ∙ rw (count-hits fuel n q (omega arith) (omega arith) node, under-step z q n within is, is_under-end lines accepted q n node) (count_up n q z (end_at n) above (end-above n node))
   ]

@@ -3,12 +3,16 @@ use Rattle.std.proofs.Common.{◌≡◌, ℕ, zero, suc, ◌+◌, ◌<◌, ◌�
 use Rattle.std.specs.Prelude.{if◌then◌else◌, ◌&&◌, Some, None, nat_lt, nat_le}
 use Rattle.std.proofs.lemmas.Bool.Decides.{nat_tests}
 use Rattle.std.proofs.lemmas.List.{length-map}
+use Rattle.std.proofs.lemmas.List.FromFn.{length-range_with_len}
+use Rattle.std.proofs.Math.Bool.{and_comm}
 use Rattle.cube_model.specs.declared.tree.NodeLine.{NodeLine}
-use Rattle.cube_model.specs.Tree.{Dimension, Entry, IsTree, is_under, leaves, node_lines, numbered}
+use Rattle.cube_model.specs.Tree.{Dimension, IsTree, is_under, leaves, node_lines, numbered}
+use Rattle.cube_model.specs.Cells.{leaf_places}
 use Rattle.dim_tree.specs.Places.{count_deeper, ends_from}
 use Rattle.dim_tree.proofs.Climbing.{depths_of}
+use Rattle.dim_tree.proofs.Entries.{length-node_lines}
 use Rattle.dim_tree.proofs.Nodes.{is_under-end, ends_from-above}
-use Rattle.dim_tree.proofs.Leaves.{leaf_range-some, leaf_range-within}
+use Rattle.dim_tree.proofs.Leaves.{leaf_places-range, leaf_range-some, leaf_range-within}
 use Rattle.dim_tree.proofs.Outlines.{tree_fault_none}
 use Rattle.region_algebra.specs.Space.{lower}
 
@@ -47,9 +51,6 @@ ends_from-nested k (d ∷ ds) (suc x) (suc y) within behind under = ends_from-ne
 abbrev pub end_of : Dimension → ℕ → ℕ
 end_of dim y = get_or (ends_from 0 (depths_of (node_lines dim))) y 0
 
-length-node_lines : (dim : Dimension) → length (node_lines dim) ≡ length dim
-length-node_lines dim = length-map dim (λ (e : Entry). record { depth = e.depth; name = e.name })
-
 length-depths : (dim : Dimension) → length (depths_of (node_lines dim)) ≡ length dim
 length-depths dim = length-map (node_lines dim) (λ (line : NodeLine). line.depth) ∙ length-node_lines dim
 
@@ -74,18 +75,21 @@ some_leaf dim tree =
     let some : 1 ≤ length (leaves (numbered (node_lines dim))) = omega (arith, leaf_range-some (node_lines dim) sound.2 0 sound.0, leaf_range-within (node_lines dim) sound.2 0 sound.0) in
     subst (λ d. 1 ≤ length (leaves d)) tree.places some
 
+-- and a leaf is under each node
+pub some_leaf_under : (dim : Dimension) (node : ℕ) → IsTree dim → node < length dim → 1 ≤ length (leaf_places dim node)
+some_leaf_under dim node tree within =
+    let lines = node_lines dim in
+    let sound = tree_fault_none lines tree.accepted in
+    let inside : node < length lines = omega (arith, length-node_lines dim) in
+    let some : 1 ≤ length (leaf_places (numbered lines) node) = rw (leaf_places-range lines sound.2 node inside) (omega (arith, length-range_with_len, leaf_range-some lines sound.2 node inside)) in
+    subst (λ d. 1 ≤ length (leaf_places d node)) tree.places some
+
 -- of two intervals one holds the other, or they are apart
 nested_intervals : (x y ex ey z : ℕ) → x < ex → y ≤ x → x < ey → ex ≤ ey → (nat_le x z && nat_lt z ex) ≡ ((nat_le x z && nat_lt z ex) && (nat_le y z && nat_lt z ey))
 nested_intervals x y ex ey z some behind under nested = grind (arith, nat_tests)
 
 abbrev under_both : Dimension → ℕ → ℕ → ℕ → Bool
 under_both dim x y z = is_under dim z x && is_under dim z y
-
-pub flip-and : (a b : Bool) → (a && b) ≡ (b && a)
-flip-and true true = refl
-flip-and true false = refl
-flip-and false true = refl
-flip-and false false = refl
 
 module _ (dim : Dimension) (tree : IsTree dim) (x y : ℕ) (first : x < length dim) (second : y < length dim) where
   -- what is under the lower of two nodes is under both
@@ -119,7 +123,7 @@ lower_not x y false false is = (refl, refl)
 pub under-lower : (dim : Dimension) → IsTree dim → (x y : ℕ) → x < length dim → y < length dim → (m : ℕ) → lower dim x y ≡ Some m → (z : ℕ) → is_under dim z m ≡ (is_under dim z x && is_under dim z y)
 under-lower dim tree x y first second m is z = elim (lower_of dim x y m (is_under dim x y) (is_under dim y x) is) [
   | inl h ↦ ap (is_under dim z) h.1 ∙ under-nested dim tree x y first second h.0 z
-  | inr h ↦ ap (is_under dim z) h.1 ∙ under-nested dim tree y x second first h.0 z ∙ flip-and (is_under dim z y) (is_under dim z x)
+  | inr h ↦ ap (is_under dim z) h.1 ∙ under-nested dim tree y x second first h.0 z ∙ and_comm (is_under dim z y) (is_under dim z x)
 ]
 
 pub under-none : (dim : Dimension) → IsTree dim → (x y : ℕ) → x < length dim → y < length dim → lower dim x y ≡ None → (z : ℕ) → (is_under dim z x && is_under dim z y) ≡ false

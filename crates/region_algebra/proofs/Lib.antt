@@ -7,5 +7,4 @@ pub mod Tuples
 pub mod Spaces
 pub mod Children
 pub mod Partition
-pub mod Lines
 pub mod Runs

@@ -1,11 +1,13 @@
 -- The cells that two regions share are those of the region that has the lower nodes.
-use Rattle.std.proofs.Common.{◌≡◌, ℕ, suc, ◌+◌, ◌<◌, Bool, true, false, List, [], ◌∷◌, length, ◌⊎◌, inl, inr, refl, sym, ap, ◌∙◌, true≢false, arith}
+use Rattle.std.proofs.Common.{◌≡◌, ℕ, ◌+◌, ◌<◌, Bool, true, false, List, [], ◌∷◌, length, ◌⊎◌, inl, inr, refl, sym, ◌∙◌, true≢false, arith}
 use Rattle.std.specs.Prelude.{if◌then◌else◌, ◌&&◌, filter, All, Option, Some, None, nat_lt}
 use Rattle.std.specs.Option.{option_map, option_and_then}
 use Rattle.std.proofs.lemmas.Bool.Decides.{nat_tests}
+use Rattle.std.proofs.lemmas.Bool.{and_left, and_right}
+use Rattle.std.proofs.lemmas.List.Elements.{All-head, All-tail}
 use Rattle.cube_model.specs.Tree.{Dimension, IsTree, is_under}
-use Rattle.cube_model.specs.Cells.{all_cells, is_inside, places_from, cells_of}
-use Rattle.region_algebra.specs.Space.{common_cells, is_among, is_region, lower, meet_of}
+use Rattle.cube_model.specs.Cells.{all_cells, cells_of, is_among, is_inside, places_from}
+use Rattle.region_algebra.specs.Space.{common_cells, is_region, lower, meet_of}
 use Rattle.region_algebra.proofs.Intervals.{under-lower, under-none, lower-within}
 
 pub split_and : (a b : Bool) → (a && b) ≡ true → (a ≡ true) × (b ≡ true)
@@ -17,12 +19,6 @@ pub is_region-cons : (dim : Dimension) (dims : List Dimension) (node : ℕ) (nod
 is_region-cons dim dims node nodes names =
     let parts = split_and (nat_lt node (length dim)) (is_region dims nodes) names in
     (grind (arith, nat_tests, parts.0), parts.1)
-
-pub All-tail : {X : Type 0} (P : X → Type 0) (x : X) (xs : List X) → All P (x ∷ xs) → All P xs
-All-tail P x xs each = λ k d within. each (suc k) d (omega arith)
-
-pub All-head : {X : Type 0} (P : X → Type 0) (x : X) (xs : List X) → All P (x ∷ xs) → P x
-All-head P x xs each = each 0 x (omega arith)
 
 if-same : (b c : Bool) (k : ℕ) (xs ys : List ℕ) → b ≡ c → xs ≡ ys → (if b then k ∷ xs else xs) ≡ (if c then k ∷ ys else ys)
 if-same b c k xs ys same rest = rw (same, rest) refl
@@ -84,13 +80,6 @@ and_four true false true d = refl
 and_four true false false d = refl
 and_four false b c d = refl
 
-and-none : (a b : Bool) → a ≡ false → (a && b) ≡ false
-and-none a b none = ap (λ c. c && b) none
-
-pub and-none_second : (a b : Bool) → b ≡ false → (a && b) ≡ false
-and-none_second true b none = none
-and-none_second false b none = refl
-
 -- the meet of the first nodes and that of the others
 meet_parts : (dim : Dimension) (x y : ℕ) (first : Option ℕ) (others : Option (List ℕ)) (m : List ℕ) → option_and_then (λ node. option_map (λ nodes. node ∷ nodes) others) first ≡ Some m → (node : ℕ) × (nodes : List ℕ) × (first ≡ Some node) × (others ≡ Some nodes) × (m ≡ node ∷ nodes)
 meet_parts dim x y None others m is = absurd (grind arith)
@@ -135,8 +124,8 @@ is_inside-apart (dim ∷ dims) (x ∷ xs) (y ∷ ys) trees first second is (z �
     let b_is = is_region-cons dim dims y ys second in
     and_four (is_under dim z x) (is_inside dims xs cell) (is_under dim z y) (is_inside dims ys cell)
     ∙ elim (meet_missing (lower dim x y) (meet_of dims xs ys) is) [
-      | inl none ↦ and-none (is_under dim z x && is_under dim z y) _ (under-none dim (All-head IsTree dim dims trees) x y a_is.0 b_is.0 none z)
-      | inr none ↦ and-none_second (is_under dim z x && is_under dim z y) _ (is_inside-apart dims xs ys (All-tail IsTree dim dims trees) a_is.1 b_is.1 none cell)
+      | inl none ↦ and_left (is_under dim z x && is_under dim z y) _ (under-none dim (All-head IsTree dim dims trees) x y a_is.0 b_is.0 none z)
+      | inr none ↦ and_right (is_under dim z x && is_under dim z y) _ (is_inside-apart dims xs ys (All-tail IsTree dim dims trees) a_is.1 b_is.1 none cell)
     ]
 
 pub cells_of-meet : (dims : List Dimension) (a b m : List ℕ) → All IsTree dims → is_region dims a ≡ true → is_region dims b ≡ true → meet_of dims a b ≡ Some m → cells_of dims m ≡ common_cells dims a b

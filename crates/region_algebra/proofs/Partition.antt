@@ -6,15 +6,16 @@ use Rattle.std.specs.Option.{option_map_or}
 use Rattle.std.proofs.lemmas.Bool.Decides.{nat_tests}
 use Rattle.std.proofs.lemmas.List.Folds.{list_all-append}
 use Rattle.std.proofs.lemmas.List.{length-map}
+use Rattle.std.proofs.lemmas.List.Elements.{All-head, All-tail}
+use Rattle.std.proofs.Math.Bool.{and_comm}
 use Rattle.cube_model.specs.declared.tree.NodeLine.{NodeLine}
 use Rattle.cube_model.specs.Tree.{Dimension, Entry, IsTree, is_leaf, is_under, leaves, node_lines, numbered_from}
-use Rattle.cube_model.specs.Cells.{all_cells, cells_of, is_inside, places_from}
+use Rattle.cube_model.specs.Cells.{all_cells, cells_of, is_among, is_inside, places_from}
 use Rattle.cube_model.specs.Cut.{children}
-use Rattle.region_algebra.specs.Space.{is_among, is_region}
+use Rattle.region_algebra.specs.Space.{is_region}
 use Rattle.region_algebra.proofs.Children.{count_by-cons, one_child}
 use Rattle.region_algebra.proofs.Codes.{blocks}
-use Rattle.region_algebra.proofs.Intervals.{flip-and}
-use Rattle.region_algebra.proofs.Meets.{All-head, All-tail, among-here, is_region-cons, not_among, split_and}
+use Rattle.region_algebra.proofs.Meets.{among-here, is_region-cons, not_among, split_and}
 
 -- every cell is a tuple of leaves
 
@@ -101,7 +102,7 @@ count-front true inside p xs is = is
 count-front false inside p xs is = count-never xs
 
 count-back : (b inside : Bool) (p : ℕ → Bool) (xs : List ℕ) → count_by p xs ≡ (if inside then 1 else 0) → count_by (λ x. p x && b) xs ≡ (if inside && b then 1 else 0)
-count-back b inside p xs is = count-alike (λ x. p x && b) (λ x. b && p x) xs (λ x. flip-and (p x) b) ∙ count-front b inside p xs is ∙ ap (λ c. if c then 1 else 0) (flip-and b inside)
+count-back b inside p xs is = count-alike (λ x. p x && b) (λ x. b && p x) xs (λ x. and_comm (p x) b) ∙ count-front b inside p xs is ∙ ap (λ c. if c then 1 else 0) (and_comm b inside)
 
 -- a tuple of leaves is inside exactly one of the regions with a child in the node's place where it is inside the region
 one_inside : (dims : List Dimension) (region : List ℕ) (d : ℕ) (dim : Dimension) (node : ℕ) (cell : List ℕ) → All IsTree dims → is_region dims region ≡ true → slice_get dims d ≡ Some dim → slice_get region d ≡ Some node → is_leaf dim node ≡ false → are_leaves dims cell ≡ true

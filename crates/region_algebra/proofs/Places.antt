@@ -4,7 +4,7 @@ use Rattle.std.specs.Prelude.{All}
 use Rattle.std.proofs.lemmas.List.{map-append, take_more, take_more_set, drop_more}
 use Rattle.std.proofs.lemmas.Grind.{elements}
 use Rattle.std.proofs.lemmas.Nat.{mul-le}
-use Rattle.region_algebra.specs.Fault.{LIMIT}
+use Rattle.cube_model.specs.Limits.{SPACE_LIMIT}
 use Rattle.region_algebra.specs.Space.{product}
 
 -- what is written at the next place is of the item read there
@@ -29,7 +29,7 @@ pub product_more : (sizes : List ℕ) (d e : ℕ) (default : ℕ) → d < length
 product_more sizes d e default within is = rw is (ap product (drop_more sizes d default within))
 
 -- a product over the last numbers that reaches the limit takes that over all there
-pub product_over : (sizes : List ℕ) (d e : ℕ) (default n : ℕ) → All (λ size. 1 ≤ size) sizes → d < length sizes → e ≡ d + 1 → n ≡ product (drop e sizes) → LIMIT ≤ get_or sizes d default * n → LIMIT ≤ product sizes
+pub product_over : (sizes : List ℕ) (d e : ℕ) (default n : ℕ) → All (λ size. 1 ≤ size) sizes → d < length sizes → e ≡ d + 1 → n ≡ product (drop e sizes) → SPACE_LIMIT ≤ get_or sizes d default * n → SPACE_LIMIT ≤ product sizes
 product_over sizes d e default n some within is total over =
     let more : product (drop d sizes) ≡ get_or sizes d default * n = product_more sizes d e default within is ∙ ap (λ m. get_or sizes d default * m) (sym total) in
     omega (arith, product-drop sizes d some, more, over)

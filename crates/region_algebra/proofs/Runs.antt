@@ -10,7 +10,7 @@ use Rattle.std.proofs.lemmas.List.FromFn.{length-range_with_len}
 use Rattle.std.proofs.lemmas.Option.{get_or_from_slice_get, slice_get-get_or, slice_get-map, slice_get_read, slice_get_within}
 use Rattle.cube_model.specs.Tree.{Dimension}
 use Rattle.cube_model.specs.Cells.{all_cells, cells_of, leaf_places}
-use Rattle.region_algebra.specs.Fault.{LIMIT}
+use Rattle.cube_model.specs.Limits.{SPACE_LIMIT}
 use Rattle.region_algebra.specs.Space.{cell_total, is_region}
 use Rattle.region_algebra.specs.Stepped.{IsRun, IsStepped, IsWalk}
 use Rattle.region_algebra.proofs.Codes.{cells_of-cons, cells_of-nil, length-all_cells, length-shifted, shifted, slice_get-back, slice_get-front}
@@ -119,7 +119,7 @@ run-below cells n place cell (suc left) below is run = omega (arith, found-below
 
 -- what is read in the last dimension gives the run
 pub run-there : (dims : List Dimension) (steps nodes : List ℕ) (d first end w place cell rest : ℕ) (dim : Dimension) (node : ℕ) → IsStepped cell_total dims steps → is_region dims nodes ≡ true → 1 ≤ length dims → d ≡ length dims - 1 → dim ≡ get_or dims d dim → slice_get nodes d ≡ Some node
-    → leaf_places dim node ≡ range_with_len first (end - first) → w ≡ end - first → rest ≡ place % w → slice_get (cells_of dims nodes) place ≡ Some cell → IsRun (cells_of dims nodes) (place + 1) cell (w - 1 - rest) × (cell + (w - 1 - rest) < LIMIT)
+    → leaf_places dim node ≡ range_with_len first (end - first) → w ≡ end - first → rest ≡ place % w → slice_get (cells_of dims nodes) place ≡ Some cell → IsRun (cells_of dims nodes) (place + 1) cell (w - 1 - rest) × (cell + (w - 1 - rest) < SPACE_LIMIT)
 run-there dims steps nodes d first end w place cell rest dim node stepped names some last read has range many remains is =
     let this : slice_get dims d ≡ Some dim = slice_get_read dims (length dims) d dim refl (omega arith) read in
     let blocks = runs-last dims nodes d dim node first w names (omega arith) this has (range-of dim node first end w range many) in
@@ -127,7 +127,7 @@ run-there dims steps nodes d first end w place cell rest dim node stepped names 
     (run, omega (arith, run-below (cells_of dims nodes) (cell_total dims) place cell (w - 1 - rest) (cells-below dims nodes) is run, stepped.limit))
 
 -- a walk that gives the first cell of a run, and one that gives the next of a run
-pub walk-anew : (dims : List Dimension) (region : List ℕ) (place count cell left before rest : ℕ) → IsWalk dims region place count before rest → place ≢ count → IsRun (cells_of dims region) (place + 1) cell left → cell + left < LIMIT → IsWalk dims region (place + 1) count cell left
+pub walk-anew : (dims : List Dimension) (region : List ℕ) (place count cell left before rest : ℕ) → IsWalk dims region place count before rest → place ≢ count → IsRun (cells_of dims region) (place + 1) cell left → cell + left < SPACE_LIMIT → IsWalk dims region (place + 1) count cell left
 walk-anew dims region place count cell left before rest walk more run small = record { named = walk.named; whole = walk.whole; within = omega (arith, more, walk.within); run = run; small = small }
 
 run-cell : (cells : List ℕ) (place cell left : ℕ) → IsRun cells place cell left → left ≢ 0 → slice_get cells place ≡ Some (cell + 1)

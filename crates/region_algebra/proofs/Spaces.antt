@@ -1,25 +1,27 @@
 -- What holds of accepted dimensions, and of what is kept beside them.
 use Rattle.std.proofs.Common.{◌≡◌, ℕ, zero, suc, ◌+◌, ◌/◌, ◌%◌, ◌<◌, ◌≤◌, ◌↔◌, Bool, true, false, List, [], ◌∷◌, length, map, drop, refl, sym, ap, ◌∙◌, true≢false, arith}
-use Rattle.std.specs.Prelude.{All, Option, Some, None, IfNone, IfSome, IsNone, IsSome, slice_get, slice_set, nat_lt}
+use Rattle.std.specs.Prelude.{All, Option, Some, None, IfSome, IsNone, IsSome, slice_get, slice_set, nat_lt}
 use Rattle.std.specs.Option.{option_map}
 use Rattle.std.proofs.lemmas.Bool.Decides.{nat_tests}
 use Rattle.std.proofs.lemmas.List.{drop-map, length-map}
 use Rattle.std.proofs.lemmas.Option.{slice_get_within}
+use Rattle.std.proofs.lemmas.List.Elements.{All-head, All-tail}
 use Rattle.cube_model.specs.Tree.{Dimension, IsTree, leaves, parent}
 use Rattle.cube_model.specs.Cells.{all_cells, cells_of}
-use Rattle.region_algebra.specs.Fault.{LIMIT, space_fault}
+use Rattle.cube_model.specs.Limits.{SPACE_LIMIT, MAX_DIMS}
+use Rattle.region_algebra.specs.Fault.{space_fault}
 use Rattle.region_algebra.specs.Space.{all_regions, cell_total, common_cells, is_region, meet_of, product, region_total}
 use Rattle.region_algebra.specs.Stepped.{AreSteps, IsStepped, IsSteppedSpace}
 use Rattle.region_algebra.proofs.Codes.{length-all_cells, length-all_regions}
 use Rattle.region_algebra.proofs.Intervals.{some_leaf, some_node}
 use Rattle.region_algebra.proofs.Tuples.{all_regions-found, all_regions-past}
-use Rattle.region_algebra.proofs.Turns.{cells-below, region_total-some}
-use Rattle.region_algebra.proofs.Meets.{All-head, All-tail, cells_of-meet, common_cells-none, is_region-cons, is_region-meet}
+use Rattle.region_algebra.proofs.Turns.{cells-below, cells-some, region_total-some}
+use Rattle.region_algebra.proofs.Meets.{cells_of-meet, common_cells-none, is_region-cons, is_region-meet}
 
-pub accepted-few : (dims : List Dimension) → space_fault dims ≡ None → (1 ≤ length dims) × (length dims ≤ 6)
+pub accepted-few : (dims : List Dimension) → space_fault dims ≡ None → (1 ≤ length dims) × (length dims ≤ MAX_DIMS)
 accepted-few dims accepted = grind (arith, nat_tests)
 
-pub accepted-from : (dims : List Dimension) → 1 ≤ length dims → length dims ≤ 6 → cell_total dims < LIMIT → region_total dims < LIMIT → space_fault dims ≡ None
+pub accepted-from : (dims : List Dimension) → 1 ≤ length dims → length dims ≤ MAX_DIMS → cell_total dims < SPACE_LIMIT → region_total dims < SPACE_LIMIT → space_fault dims ≡ None
 accepted-from dims some few cells regions = grind (arith, nat_tests)
 
 some-map : (f : Dimension → ℕ) (dims : List Dimension) → All IsTree dims → ((dim : Dimension) → IsTree dim → 1 ≤ f dim) → All (λ n. 1 ≤ n) (map f dims)
@@ -41,7 +43,7 @@ stepped_of f dims sizes steps trees are has = record {
   limit = omega (arith, has.limit, ap product are);
 }
 
-pub stepped_space : (dims : List Dimension) (leaf_sizes node_sizes cell_steps region_steps : List ℕ) → 1 ≤ length dims → length dims ≤ 6 → All IsTree dims → leaf_sizes ≡ map (λ dim. length (leaves dim)) dims → node_sizes ≡ map (λ dim. length dim) dims
+pub stepped_space : (dims : List Dimension) (leaf_sizes node_sizes cell_steps region_steps : List ℕ) → 1 ≤ length dims → length dims ≤ MAX_DIMS → All IsTree dims → leaf_sizes ≡ map (λ dim. length (leaves dim)) dims → node_sizes ≡ map (λ dim. length dim) dims
     → AreSteps leaf_sizes cell_steps → AreSteps node_sizes region_steps → IsSteppedSpace dims cell_steps region_steps
 stepped_space dims leaf_sizes node_sizes cell_steps region_steps some few trees leaves_are nodes_are cells regions =
     let of_cells = stepped_of (λ dim. length (leaves dim)) dims leaf_sizes cell_steps trees leaves_are cells in
@@ -56,9 +58,11 @@ pub meet-region : (dims : List Dimension) (a b : List ℕ) (met : Option (List �
 meet-region dims a b None first second is = tt
 meet-region dims a b (Some m) first second is = is_region-meet dims a b m first second (sym is)
 
-pub meet-nothing : (dims : List Dimension) (a b : List ℕ) (met : Option (List ℕ)) → All IsTree dims → is_region dims a ≡ true → is_region dims b ≡ true → met ≡ meet_of dims a b → IfNone met (common_cells dims a b ≡ [])
-meet-nothing dims a b None trees first second is = common_cells-none dims a b trees first second (sym is)
-meet-nothing dims a b (Some m) trees first second is = tt
+pub meet-nothing : (dims : List Dimension) (a b : List ℕ) (met : Option (List ℕ)) → All IsTree dims → is_region dims a ≡ true → is_region dims b ≡ true → met ≡ meet_of dims a b → IsNone met ↔ (common_cells dims a b ≡ [])
+meet-nothing dims a b None trees first second is = (λ _. common_cells-none dims a b trees first second (sym is), λ _. refl)
+meet-nothing dims a b (Some m) trees first second is =
+    let some : 1 ≤ length (cells_of dims m) = cells-some dims m trees (is_region-meet dims a b m first second (sym is)) in
+    (λ none. absurd (true≢false none), λ none. absurd (omega (arith, some, ap length (cells_of-meet dims a b m trees first second (sym is) ∙ none))))
 
 pub is_region-set : (dims : List Dimension) (nodes : List ℕ) (d node : ℕ) → is_region dims nodes ≡ true → d < length dims → IfSome (slice_get dims d) (λ dim. (node < length dim) × (parent dim node ≡ slice_get nodes d)) → is_region dims (slice_set nodes d node) ≡ true
 is_region-set [] nodes d node names within child = absurd (omega arith)
@@ -71,7 +75,7 @@ is_region-set (dim ∷ dims) (m ∷ nodes) (suc d) node names within child =
     let parts = is_region-cons dim dims m nodes names in
     rw (is_region-set dims nodes d node parts.1 (omega arith) child) (grind (arith, nat_tests, parts.0))
 
-pub some_from_few : (made : Option (List ℕ)) (n : ℕ) → (IsNone made ↔ (6 < n)) → n ≤ 6 → IsSome made
+pub some_from_few : (made : Option (List ℕ)) (n : ℕ) → (IsNone made ↔ (MAX_DIMS < n)) → n ≤ MAX_DIMS → IsSome made
 some_from_few None n refused few = absurd (omega (arith, refused.0 refl))
 some_from_few (Some m) n refused few = refl
 

@@ -9,25 +9,24 @@ use Rattle.std.proofs.lemmas.List.Folds.{list_any-append}
 use Rattle.std.proofs.lemmas.Nat.{div-add-mod', div_below, mod_below, same_from_place}
 use Rattle.std.proofs.lemmas.Option.{slice_get-map, slice_get_within, slice_get-get_or, slice_get_read, slice_get_past}
 use Rattle.cube_model.specs.Tree.{Dimension, Entry, IsTree, is_leaf, leaves, node_lines, numbered}
-use Rattle.cube_model.specs.Cells.{all_cells, cells_of, leaf_places}
+use Rattle.cube_model.specs.Cells.{all_cells, cells_of, is_among, leaf_places}
+use Rattle.cube_model.specs.Limits.{SPACE_LIMIT, MAX_DIMS}
 use Rattle.cube_model.specs.declared.tree.NodeLine.{NodeLine}
 use Rattle.dim_tree.proofs.Nodes.{number-numbered_from}
 use Rattle.std.proofs.lemmas.List.{length-map}
-use Rattle.region_algebra.specs.Fault.{LIMIT}
-use Rattle.region_algebra.specs.Space.{all_regions, cell_total, is_among, is_region, lower, meet_of, region_total}
+use Rattle.region_algebra.specs.Space.{all_regions, cell_total, is_region, lower, meet_of, region_total}
 use Rattle.region_algebra.specs.Stepped.{IsStepped}
 use Rattle.region_algebra.proofs.Codes.{shifted, cells_of-cons, length-all_cells, length-all_regions, slice_get-blocks}
-use Rattle.region_algebra.proofs.Meets.{All-head, All-tail, is_region-cons}
+use Rattle.region_algebra.proofs.Meets.{is_region-cons}
 use Rattle.dim_tree.proofs.Outlines.{tree_fault_none}
 use Rattle.std.proofs.lemmas.List.Sums.{count_by-le-length, length-filter}
-use Rattle.region_algebra.proofs.Turns.{Here, before, here, step-before, cells-below, cell_total-some, region_total-some, region_total-drop, drop-at, is_region-length, All-drop}
+use Rattle.std.proofs.lemmas.Bool.{and_left}
+use Rattle.std.proofs.lemmas.List.Elements.{All-drop, All-head, All-tail}
+use Rattle.region_algebra.proofs.Turns.{Here, before, here, step-before, cells-below, cell_total-some, region_total-some, region_total-drop, drop-at, is_region-length}
 
 and-false : (a : Bool) → false ≡ (a && false)
 and-false true = refl
 and-false false = refl
-
-and-none : (a b : Bool) → a ≡ false → (a && b) ≡ false
-and-none a b none = ap (λ c. c && b) none
 
 and_or : (a b c : Bool) → ((a && b) || (a && c)) ≡ (a && (b || c))
 and_or true b c = refl
@@ -50,7 +49,7 @@ is_among-run n i q r (c ∷ cells) inside below =
 
 -- a cell among those of many runs
 is_among-runs : (n first w q r : ℕ) (cells : List ℕ) → r < n → All (λ c. c < n) cells → is_among (flat_map (shifted n cells) (range_with_len first w)) (q * n + r) ≡ ((nat_le first q && nat_lt q (first + w)) && is_among cells r)
-is_among-runs n first zero q r cells inside below = sym (and-none (nat_le first q && nat_lt q (first + 0)) (is_among cells r) (grind (arith, nat_tests)))
+is_among-runs n first zero q r cells inside below = sym (and_left (nat_le first q && nat_lt q (first + 0)) (is_among cells r) (grind (arith, nat_tests)))
 is_among-runs n first (suc w) q r cells inside below =
     list_any-append (λ c. c == q * n + r) (shifted n cells first) (flat_map (shifted n cells) (range_with_len (first + 1) w))
     ∙ rw (is_among-run n first q r cells inside below, is_among-runs n (first + 1) w q r cells inside below) (one_run first w q (is_among cells r))
@@ -71,7 +70,7 @@ is_among-turn dims nodes d e first end step cell dim node at range some steps po
 pub step-at : (total : List Dimension → ℕ) (some : (dims : List Dimension) → All IsTree dims → 1 ≤ total dims) (dims : List Dimension) (steps : List ℕ) (d : ℕ) → IsStepped total dims steps → d < length dims → (get_or steps d 0 ≡ total (drop (d + 1) dims)) × (0 < get_or steps d 0)
 step-at total some dims steps d stepped within =
     let is = stepped.each d within in
-    (is, omega (arith, is, some (drop (d + 1) dims) (All-drop IsTree dims (d + 1) stepped.trees)))
+    (is, omega (arith, is, some (drop (d + 1) dims) (All-drop IsTree (d + 1) dims stepped.trees)))
 
 -- the tuples over one dimension more, by the number and the rest
 
@@ -202,12 +201,12 @@ leaves-few dim tree =
 
 -- The leaves of a cell over the first d dimensions, and the code of the rest.
 pub record HasLeaves (dims : List Dimension) (nodes : List ℕ) (d rest cell : ℕ) : Type 0 where
-  pub room : length nodes ≡ 6
+  pub room : length nodes ≡ MAX_DIMS
   pub below : rest < cell_total (drop d dims)
   pub named : is_region (take d dims) (take d nodes) ≡ true
   pub behind : IsBehind (take d nodes) (slice_get (all_cells (drop d dims)) rest) (slice_get (all_cells dims) cell)
 
-pub leaves_start : (dims : List Dimension) (nodes : List ℕ) (cell : ℕ) → length nodes ≡ 6 → cell < length (all_cells dims) → HasLeaves dims nodes 0 cell cell
+pub leaves_start : (dims : List Dimension) (nodes : List ℕ) (cell : ℕ) → length nodes ≡ MAX_DIMS → cell < length (all_cells dims) → HasLeaves dims nodes 0 cell cell
 leaves_start dims nodes cell room within = record {
   room = room;
   below = omega (arith, length-all_cells dims);
@@ -215,7 +214,7 @@ leaves_start dims nodes cell room within = record {
   behind = behind_start (slice_get (all_cells dims) cell);
 }
 
-module _ (dims : List Dimension) (steps nodes : List ℕ) (d rest cell : ℕ) (dim : Dimension) (stepped : IsStepped cell_total dims steps) (within : d < length dims) (few : length dims ≤ 6) (read : dim ≡ get_or dims d dim) (has : HasLeaves dims nodes d rest cell) where
+module _ (dims : List Dimension) (steps nodes : List ℕ) (d rest cell : ℕ) (dim : Dimension) (stepped : IsStepped cell_total dims steps) (within : d < length dims) (few : length dims ≤ MAX_DIMS) (read : dim ≡ get_or dims d dim) (has : HasLeaves dims nodes d rest cell) where
   -- the place of the leaf is one of the leaves
   pub leaf-within : (rest / get_or steps d 0 < length (leaves dim)) × (rest / get_or steps d 0 < 65536)
   leaf-within =
@@ -247,14 +246,14 @@ leaves_done dims nodes d n rest cell all most many has =
 
 -- The nodes of a region over the first d dimensions, and the code of the rest.
 pub record HasNodes (dims : List Dimension) (nodes : List ℕ) (d rest code : ℕ) : Type 0 where
-  pub room : length nodes ≡ 6
+  pub room : length nodes ≡ MAX_DIMS
   pub below : 0 < d → rest < region_total (drop d dims)
   pub behind : IsBehind (take d nodes) (slice_get (all_regions (drop d dims)) rest) (slice_get (all_regions dims) code)
 
-pub nodes_start : (dims : List Dimension) (nodes : List ℕ) (code : ℕ) → length nodes ≡ 6 → HasNodes dims nodes 0 code code
+pub nodes_start : (dims : List Dimension) (nodes : List ℕ) (code : ℕ) → length nodes ≡ MAX_DIMS → HasNodes dims nodes 0 code code
 nodes_start dims nodes code room = record { room = room; below = λ some. absurd (omega arith); behind = behind_start (slice_get (all_regions dims) code) }
 
-module _ (dims : List Dimension) (steps nodes : List ℕ) (d rest code : ℕ) (dim : Dimension) (stepped : IsStepped region_total dims steps) (within : d < length dims) (few : length dims ≤ 6) (read : dim ≡ get_or dims d dim) (has : HasNodes dims nodes d rest code) where
+module _ (dims : List Dimension) (steps nodes : List ℕ) (d rest code : ℕ) (dim : Dimension) (stepped : IsStepped region_total dims steps) (within : d < length dims) (few : length dims ≤ MAX_DIMS) (read : dim ≡ get_or dims d dim) (has : HasNodes dims nodes d rest code) where
   pub nodes_none : length dim ≤ rest / get_or steps d 0 → slice_get (all_regions dims) code ≡ None
   nodes_none past =
       let step = step-at region_total region_total-some dims steps d stepped within in
@@ -289,7 +288,7 @@ code_start dims nodes d names all =
     record { is = rw (none_dims, none_nodes) refl; below = rw none_dims (omega arith) }
 
 pub code_next : (dims : List Dimension) (steps nodes : List ℕ) (d e code node : ℕ) → IsStepped region_total dims steps → is_region dims nodes ≡ true → e ≤ length dims → 0 < e → d ≡ e - 1 → slice_get nodes d ≡ Some node → HasCode dims nodes e code
-    → HasCode dims nodes d (code + node * get_or steps d 0) × (code + node * get_or steps d 0 < LIMIT)
+    → HasCode dims nodes d (code + node * get_or steps d 0) × (code + node * get_or steps d 0 < SPACE_LIMIT)
 code_next dims steps nodes d e code node stepped names within some next has_node has =
     let dim = get_or dims d [] in
     let at = before dims nodes d e dim node names within some next (get_or_default dims d [] dim (omega (arith, within))) has_node in
@@ -301,7 +300,7 @@ code_next dims steps nodes d e code node stepped names within some next has_node
 
 -- a cell outside in one dimension is outside, and one inside there is inside where the rest is
 pub outside-here : (whole here rest inside within : Bool) → whole ≡ here → here ≡ (within && rest) → inside ≡ within → inside ≡ false → false ≡ whole
-outside-here whole here rest inside within before turned is out = sym (before ∙ turned ∙ and-none within rest (sym is ∙ out))
+outside-here whole here rest inside within before turned is out = sym (before ∙ turned ∙ and_left within rest (sym is ∙ out))
 
 pub inside-here : (whole here rest inside within : Bool) → whole ≡ here → here ≡ (within && rest) → inside ≡ within → inside ≡ true → whole ≡ rest
 inside-here whole here rest inside within before turned is true_here = before ∙ turned ∙ ap (λ b. b && rest) (sym is ∙ true_here)
@@ -311,7 +310,7 @@ pub is_region-other : (dims : List Dimension) (nodes : List ℕ) (b : Bool) → 
 is_region-other dims nodes true names differ = absurd (differ (sym (is_region-length dims nodes names)))
 is_region-other dims nodes false names differ = refl
 
-pub meet_next : (dims : List Dimension) (a b nodes : List ℕ) (d : ℕ) (dim : Dimension) (x y m : ℕ) → length nodes ≡ 6 → length dims ≤ 6 → is_region dims a ≡ true → is_region dims b ≡ true → d < length dims → dim ≡ get_or dims d dim → slice_get a d ≡ Some x → slice_get b d ≡ Some y → Some m ≡ lower dim x y
+pub meet_next : (dims : List Dimension) (a b nodes : List ℕ) (d : ℕ) (dim : Dimension) (x y m : ℕ) → length nodes ≡ MAX_DIMS → length dims ≤ MAX_DIMS → is_region dims a ≡ true → is_region dims b ≡ true → d < length dims → dim ≡ get_or dims d dim → slice_get a d ≡ Some x → slice_get b d ≡ Some y → Some m ≡ lower dim x y
     → IsBehind (take d nodes) (meet_of (drop d dims) (drop d a) (drop d b)) (meet_of dims a b)
     → IsBehind (take (d + 1) (slice_set nodes d m)) (meet_of (drop (d + 1) dims) (drop (d + 1) a) (drop (d + 1) b)) (meet_of dims a b)
 meet_next dims a b nodes d dim x y m room few first second within read has_x has_y is behind =

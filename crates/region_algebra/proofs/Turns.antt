@@ -7,14 +7,15 @@ use Rattle.std.proofs.lemmas.List.{length-map, drop_more, drop_all}
 use Rattle.std.proofs.lemmas.List.FromFn.{length-range_with_len}
 use Rattle.std.proofs.lemmas.Nat.{div-add-mod', mul-le, mod_below}
 use Rattle.std.proofs.lemmas.Option.{slice_get-map, slice_get_within, get_or_from_slice_get, slice_get_read}
+use Rattle.std.proofs.lemmas.List.Elements.{All-cons, All-head, All-tail}
 use Rattle.cube_model.specs.Tree.{Dimension, IsTree, leaves}
 use Rattle.cube_model.specs.Cells.{all_cells, is_inside, places_from, cells_of, leaf_places}
-use Rattle.region_algebra.specs.Fault.{LIMIT}
+use Rattle.cube_model.specs.Limits.{SPACE_LIMIT}
 use Rattle.region_algebra.specs.Space.{cell_total, is_region, region_total}
 use Rattle.region_algebra.specs.Stepped.{IsStepped}
-use Rattle.region_algebra.proofs.Codes.{shifted, cells_of-cons, cells_of-nil, length-all_cells, length-cells_of-cons, slice_get-back, slice_get-front}
-use Rattle.region_algebra.proofs.Intervals.{some_leaf, some_node}
-use Rattle.region_algebra.proofs.Meets.{All-head, All-tail, is_region-cons}
+use Rattle.region_algebra.proofs.Codes.{shifted, cells_of-cons, cells_of-nil, length-all_cells, length-cells_of-cons, length-cells_of-nil, slice_get-back, slice_get-front}
+use Rattle.region_algebra.proofs.Intervals.{some_leaf, some_leaf_under, some_node}
+use Rattle.region_algebra.proofs.Meets.{is_region-cons}
 
 pub drop-at : {X : Type 0} (xs : List X) (d : ℕ) (x : X) → slice_get xs d ≡ Some x → drop d xs ≡ x ∷ drop (d + 1) xs
 drop-at xs d x is = drop_more xs d x (slice_get_within xs d x is) ∙ ap (λ y. y ∷ drop (d + 1) xs) (get_or_from_slice_get xs d x x is)
@@ -66,15 +67,6 @@ cell_total-some dims trees = omega (arith, cell_total-drop dims (length dims) tr
 pub region_total-some : (dims : List Dimension) → All IsTree dims → 1 ≤ region_total dims
 region_total-some dims trees = omega (arith, region_total-drop dims (length dims) trees, ap region_total (drop_all (length dims) dims (omega arith)))
 
-pub All-drop : {X : Type 0} (P : X → Type 0) (xs : List X) (d : ℕ) → All P xs → All P (drop d xs)
-All-drop P xs zero each = each
-All-drop P [] (suc d) each = each
-All-drop P (x ∷ xs) (suc d) each = All-drop P xs d (All-tail P x xs each)
-
-All-cons : {X : Type 0} (P : X → Type 0) (x : X) (xs : List X) → P x → All P xs → All P (x ∷ xs)
-All-cons P x xs first rest zero d within = first
-All-cons P x xs first rest (suc k) d within = rest k d (omega arith)
-
 All-if : (b : Bool) (P : ℕ → Type 0) (k : ℕ) (xs : List ℕ) → P k → All P xs → All P (if b then k ∷ xs else xs)
 All-if true P k xs first rest = All-cons P k xs first rest
 All-if false P k xs first rest = rest
@@ -99,6 +91,17 @@ length-places_from p k (x ∷ xs) = length-if (p x) k (length xs) (places_from p
 pub cells-few : (dims : List Dimension) (nodes : List ℕ) → length (cells_of dims nodes) ≤ cell_total dims
 unfolding cells_of
 cells-few dims nodes = omega (arith, length-places_from (is_inside dims nodes) 0 (all_cells dims), length-all_cells dims)
+
+-- a region has a cell
+pub cells-some : (dims : List Dimension) (nodes : List ℕ) → All IsTree dims → is_region dims nodes ≡ true → 1 ≤ length (cells_of dims nodes)
+cells-some [] [] trees names = omega (arith, length-cells_of-nil)
+cells-some [] (node ∷ nodes) trees names = absurd (true≢false (sym names))
+cells-some (dim ∷ dims) [] trees names = absurd (true≢false (sym names))
+cells-some (dim ∷ dims) (node ∷ nodes) trees names =
+    let parts = is_region-cons dim dims node nodes names in
+    let leaf = some_leaf_under dim node (All-head IsTree dim dims trees) parts.0 in
+    let rest = cells-some dims nodes (All-tail IsTree dim dims trees) parts.1 in
+    omega (arith, length-cells_of-cons dim dims node nodes, mul-le 1 1 (length (leaf_places dim node)) (length (cells_of dims nodes)) leaf rest)
 
 -- the number of cells, one dimension before
 pub count_turn : (dims : List Dimension) (nodes : List ℕ) (d e : ℕ) (dim : Dimension) (node first n count : ℕ) → Here dims nodes d e dim node → leaf_places dim node ≡ range_with_len first n → count ≡ length (cells_of (drop e dims) (drop e nodes))
@@ -190,16 +193,16 @@ step-before total dims steps d e stepped within some next =
 pub range-of : (dim : Dimension) (node first end n : ℕ) → leaf_places dim node ≡ range_with_len first (end - first) → n ≡ end - first → leaf_places dim node ≡ range_with_len first n
 range-of dim node first end n range is = range ∙ ap (range_with_len first) (sym is)
 
-pub count_next : (dims : List Dimension) (steps nodes : List ℕ) (d e first end n count : ℕ) (dim : Dimension) (node : ℕ) → IsStepped cell_total dims steps → Here dims nodes d e dim node
+pub count_next : (dims : List Dimension) (nodes : List ℕ) (d e first end n count : ℕ) (dim : Dimension) (node : ℕ) → All IsTree dims → cell_total dims < SPACE_LIMIT → Here dims nodes d e dim node
     → leaf_places dim node ≡ range_with_len first (end - first) → n ≡ end - first → count ≡ length (cells_of (drop e dims) (drop e nodes))
-    → (count * n ≡ length (cells_of (drop d dims) (drop d nodes))) × (count * n < LIMIT)
-count_next dims steps nodes d e first end n count dim node stepped at range is counted =
+    → (count * n ≡ length (cells_of (drop d dims) (drop d nodes))) × (count * n < SPACE_LIMIT)
+count_next dims nodes d e first end n count dim node trees total at range is counted =
     let next = count_turn dims nodes d e dim node first n count at (range-of dim node first end n range is) counted in
-    (next, omega (arith, next, cells-few (drop d dims) (drop d nodes), cell_total-drop dims d stepped.trees, stepped.limit))
+    (next, omega (arith, next, cells-few (drop d dims) (drop d nodes), cell_total-drop dims d trees, total))
 
 pub nth_next : (dims : List Dimension) (steps nodes : List ℕ) (d e place left code low first end n quotient rest : ℕ) (dim : Dimension) (node : ℕ) → IsStepped cell_total dims steps → Here dims nodes d e dim node → e ≤ length dims → 0 < e → d ≡ e - 1
     → leaf_places dim node ≡ range_with_len first (end - first) → first < end → n ≡ end - first → low ≡ first → quotient ≡ left / n → rest ≡ left % n → IsNth dims nodes e place left code
-    → IsNth dims nodes d place quotient (code + (low + rest) * get_or steps d 0) × (code + (low + rest) * get_or steps d 0 < LIMIT)
+    → IsNth dims nodes d place quotient (code + (low + rest) * get_or steps d 0) × (code + (low + rest) * get_or steps d 0 < SPACE_LIMIT)
 nth_next dims steps nodes d e place left code low first end n quotient rest dim node stepped at within behind next range some is same divides remains nth =
     let turned = nth_turn dims nodes d e place left code first n (get_or steps d 0) dim node at (range-of dim node first end n range is) (omega arith) (step-before cell_total dims steps d e stepped within behind next) nth in
     rw (same, divides, remains) (turned, omega (arith, nth_below dims nodes d place (left / n) (code + (first + left % n) * get_or steps d 0) turned, cell_total-drop dims d stepped.trees, stepped.limit))

@@ -1,9 +1,9 @@
 -- Regions of a space over several dimensions: which there are, their codes, and what two of them share.
-use Rattle.std.specs.Prelude.{ℕ, ◌*◌, Bool, true, false, List, [], ◌∷◌, length, map, filter, nat_lt, ◌&&◌, ◌==◌, if◌then◌else◌, Option, Some, None}
+use Rattle.std.specs.Prelude.{ℕ, ◌*◌, Bool, true, false, List, [], ◌∷◌, length, map, filter, nat_lt, ◌&&◌, if◌then◌else◌, Option, Some, None}
 use Rattle.std.specs.Option.{option_map, option_and_then}
-use Rattle.std.specs.List.{flat_map, list_any}
+use Rattle.std.specs.List.{flat_map}
 use Rattle.cube_model.specs.Tree.{Dimension, leaves, is_under}
-use Rattle.cube_model.specs.Cells.{cells_of, leaf_places}
+use Rattle.cube_model.specs.Cells.{cells_of, is_among, leaf_places}
 
 -- the product of numbers
 abbrev pub product : List ℕ → ℕ
@@ -28,10 +28,6 @@ is_region (dim ∷ dims) (node ∷ nodes) = nat_lt node (length dim) && is_regio
 unfoldable pub all_regions : List Dimension → List (List ℕ)
 all_regions [] = [] ∷ []
 all_regions (dim ∷ dims) = flat_map (λ node. map (λ region. node ∷ region) (all_regions dims)) (map (λ e. e.number) dim)
-
--- a cell is one of these
-abbrev pub is_among : List ℕ → ℕ → Bool
-is_among cells cell = list_any (λ c. c == cell) cells
 
 -- the cells that two regions share, ascending
 abbrev pub common_cells : List Dimension → List ℕ → List ℕ → List ℕ

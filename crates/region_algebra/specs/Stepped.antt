@@ -2,19 +2,20 @@
 use Rattle.std.specs.Prelude.{◌≡◌, ℕ, ◌+◌, ◌<◌, ◌≤◌, true, List, None, Some, All, length, drop, get_or, slice_get}
 use Rattle.cube_model.specs.Tree.{Dimension, IsTree}
 use Rattle.cube_model.specs.Cells.{cells_of}
+use Rattle.cube_model.specs.Limits.{SPACE_LIMIT}
 use Rattle.region_algebra.specs.Space.{cell_total, is_region, product, region_total}
-use Rattle.region_algebra.specs.Fault.{LIMIT, space_fault}
+use Rattle.region_algebra.specs.Fault.{space_fault}
 
 -- for each number the product of those behind it, the product of all being below the limit
 pub record AreSteps (sizes steps : List ℕ) : Type 0 where
   pub each : (d : ℕ) → d < length sizes → get_or steps d 0 ≡ product (drop (d + 1) sizes)
-  pub limit : product sizes < LIMIT
+  pub limit : product sizes < SPACE_LIMIT
 
 -- for each dimension the total over the dimensions behind it, the total of all being below the limit
 pub record IsStepped (total : List Dimension → ℕ) (dims : List Dimension) (steps : List ℕ) : Type 0 where
   pub trees : All IsTree dims
   pub each : (d : ℕ) → d < length dims → get_or steps d 0 ≡ total (drop (d + 1) dims)
-  pub limit : total dims < LIMIT
+  pub limit : total dims < SPACE_LIMIT
 
 -- accepted dimensions, with the steps of cells and of regions
 pub record IsSteppedSpace (dims : List Dimension) (cell_steps region_steps : List ℕ) : Type 0 where
@@ -33,4 +34,4 @@ pub record IsWalk (dims : List Dimension) (region : List ℕ) (place count cell 
   pub whole : count ≡ length (cells_of dims region)
   pub within : place ≤ count
   pub run : IsRun (cells_of dims region) place cell left
-  pub small : cell + left < LIMIT
+  pub small : cell + left < SPACE_LIMIT

@@ -1,25 +1,25 @@
 //! The cells of a region, each by its code.
-ghost use Rattle.std.specs.Prelude.{◌≡◌, ◌+◌, ◌/◌, ◌%◌, ◌<◌, ◌≤◌, Some, true, length, nat_le, nat_lt, slice_get, take, ◌&&◌};
-ghost use Rattle.cube_model.specs.Cells.{all_cells, cells_of};
-ghost use Rattle.region_algebra.specs.Fault.{LIMIT};
-ghost use Rattle.region_algebra.specs.Space.{cell_total, is_among, is_region};
+ghost use Rattle.std.specs.Prelude.{◌≡◌, ◌+◌, ◌/◌, ◌%◌, ◌<◌, ◌≤◌, All, Some, true, length, nat_le, nat_lt, slice_get, take, ◌&&◌};
+ghost use Rattle.cube_model.specs.Cells.{all_cells, cells_of, is_among};
+ghost use Rattle.cube_model.specs.Limits.{MAX_DIMS, SPACE_LIMIT};
+ghost use Rattle.cube_model.specs.Tree.{IsTree};
+ghost use Rattle.region_algebra.specs.Space.{cell_total, is_region};
 ghost use Rattle.region_algebra.specs.Stepped.{IsRun, IsStepped};
 
 use cube_model::{MAX_DIMS, Region};
 use dim_tree::Dim;
 
 /// The number of a region's cells.
-pub fn count(dims: &[Dim], steps: &[u64; 6], r: Region) -> u64
-    requires steps { IsStepped cell_total dims.now steps.now }
-    requires few { length dims.now ≤ 6 }
+pub fn count(dims: &[Dim], r: Region) -> u64
+    requires trees { All IsTree dims.now }
+    requires total { cell_total dims.now < SPACE_LIMIT }
+    requires few { length dims.now ≤ MAX_DIMS }
     requires region { is_region dims.now r ≡ true }
     ensures count { result ≡ length (cells_of dims.now r) }
     ensures some { 1 ≤ result }
 {
     let mut count = 1;
-    let mut d = dims.len();
-    while d > 0 {
-        d -= 1;
+    for d in (0..dims.len()).rev() {
         let (first, end) = dims[d].leaf_range(r.node(d as u32));
         count *= u64::from(end - first);
     }
@@ -43,18 +43,16 @@ fn divided(n: u64, by: u64) -> (u64, u64)
 }
 
 /// The cell at a place among a region's cells.
-pub fn nth(dims: &[Dim], steps: &[u64; 6], r: Region, place: u64) -> u64
+pub fn nth(dims: &[Dim], steps: &[u64; MAX_DIMS], r: Region, place: u64) -> u64
     requires steps { IsStepped cell_total dims.now steps.now }
-    requires few { length dims.now ≤ 6 }
+    requires few { length dims.now ≤ MAX_DIMS }
     requires region { is_region dims.now r ≡ true }
     requires place { place < length (cells_of dims.now r) }
     ensures { slice_get (cells_of dims.now r) place ≡ Some result }
 {
     let mut left = place;
     let mut code = 0;
-    let mut d = dims.len();
-    while d > 0 {
-        d -= 1;
+    for d in (0..dims.len()).rev() {
         let (first, end) = dims[d].leaf_range(r.node(d as u32));
         let count = u64::from(end - first);
         let (quotient, rest) = divided(left, count);
@@ -66,15 +64,15 @@ pub fn nth(dims: &[Dim], steps: &[u64; 6], r: Region, place: u64) -> u64
 
 /// The cell at a place among a region's cells, and how many behind it have the codes that follow: those with the same
 /// leaves but for the last dimension.
-pub fn run_at(dims: &[Dim], steps: &[u64; 6], r: Region, place: u64) -> (u64, u64)
+pub fn run_at(dims: &[Dim], steps: &[u64; MAX_DIMS], r: Region, place: u64) -> (u64, u64)
     requires steps { IsStepped cell_total dims.now steps.now }
     requires some { 1 ≤ length dims.now }
-    requires few { length dims.now ≤ 6 }
+    requires few { length dims.now ≤ MAX_DIMS }
     requires region { is_region dims.now r ≡ true }
     requires place { place < length (cells_of dims.now r) }
     ensures cell { slice_get (cells_of dims.now r) place ≡ Some result.0 }
     ensures run { IsRun (cells_of dims.now r) (place + 1) result.0 result.1 }
-    ensures small { result.0 + result.1 < LIMIT }
+    ensures small { result.0 + result.1 < SPACE_LIMIT }
 {
     let last = dims.len() - 1;
     let (first, end) = dims[last].leaf_range(r.node(last as u32));
@@ -91,9 +89,9 @@ fn is_within(leaf: u64, first: u32, end: u32) -> bool
 }
 
 /// Whether a cell is one of a region's.
-pub fn contains(dims: &[Dim], steps: &[u64; 6], r: Region, cell: u64) -> bool
+pub fn contains(dims: &[Dim], steps: &[u64; MAX_DIMS], r: Region, cell: u64) -> bool
     requires steps { IsStepped cell_total dims.now steps.now }
-    requires few { length dims.now ≤ 6 }
+    requires few { length dims.now ≤ MAX_DIMS }
     requires region { is_region dims.now r ≡ true }
     ensures { result ≡ is_among (cells_of dims.now r) cell }
 {
@@ -109,9 +107,9 @@ pub fn contains(dims: &[Dim], steps: &[u64; 6], r: Region, cell: u64) -> bool
 }
 
 /// The leaves of a cell.
-pub fn cell_at(dims: &[Dim], steps: &[u64; 6], cell: u64) -> Region
+pub fn cell_at(dims: &[Dim], steps: &[u64; MAX_DIMS], cell: u64) -> Region
     requires steps { IsStepped cell_total dims.now steps.now }
-    requires few { length dims.now ≤ 6 }
+    requires few { length dims.now ≤ MAX_DIMS }
     requires cell { cell < length (all_cells dims.now) }
     ensures cell { slice_get (all_cells dims.now) cell ≡ Some result }
     ensures region { is_region dims.now result ≡ true }
@@ -126,8 +124,8 @@ pub fn cell_at(dims: &[Dim], steps: &[u64; 6], cell: u64) -> Region
 }
 
 /// The region of the first of these nodes.
-pub fn first_nodes(nodes: &[u32; 6], n: usize) -> Region
-    requires { n ≤ 6 }
+pub fn first_nodes(nodes: &[u32; MAX_DIMS], n: usize) -> Region
+    requires { n ≤ MAX_DIMS }
     ensures { result ≡ take n nodes.now }
 {
     Region::new(&nodes[..n]).unwrap()

@@ -11,5 +11,7 @@ mod steps;
 
 pub use cell_walk::CellWalk;
 pub use cube_model::{MAX_DIMS, Region};
-pub use laws::{cells_are_a_product, cells_are_those_of_the_children, nested_or_apart};
+pub use laws::{
+    cells_are_a_product, cells_are_those_of_the_children, nested_or_apart, worked_regions,
+};
 pub use space::{Space, SpaceFault};

@@ -1,5 +1,6 @@
 //! Regions, each by its nodes and by its code.
 ghost use Rattle.std.specs.Prelude.{◌≡◌, ◌<◌, ◌≤◌, Some, true, length, slice_get, slice_set};
+ghost use Rattle.cube_model.specs.Limits.{MAX_DIMS};
 ghost use Rattle.region_algebra.specs.Space.{all_regions, is_region, lower, meet_of, region_total};
 ghost use Rattle.region_algebra.specs.Stepped.{IsStepped};
 
@@ -23,27 +24,25 @@ pub fn is_region(dims: &[Dim], nodes: &[u32]) -> bool
 }
 
 /// A region's code.
-pub fn code(dims: &[Dim], steps: &[u64; 6], r: Region) -> u64
+pub fn code(dims: &[Dim], steps: &[u64; MAX_DIMS], r: Region) -> u64
     requires steps { IsStepped region_total dims.now steps.now }
-    requires few { length dims.now ≤ 6 }
+    requires few { length dims.now ≤ MAX_DIMS }
     requires region { is_region dims.now r ≡ true }
     ensures place { slice_get (all_regions dims.now) result ≡ Some r }
     ensures within { result < region_total dims.now }
 {
     let mut code = 0;
-    let mut d = dims.len();
-    while d > 0 {
-        d -= 1;
+    for d in (0..dims.len()).rev() {
         code += u64::from(r.node(d as u32)) * steps[d];
     }
     code
 }
 
 /// The region of a code, if there is one.
-pub fn uncode(dims: &[Dim], steps: &[u64; 6], code: u64) -> Option<Region>
+pub fn uncode(dims: &[Dim], steps: &[u64; MAX_DIMS], code: u64) -> Option<Region>
     requires steps { IsStepped region_total dims.now steps.now }
     requires some { 1 ≤ length dims.now }
-    requires few { length dims.now ≤ 6 }
+    requires few { length dims.now ≤ MAX_DIMS }
     ensures { result ≡ slice_get (all_regions dims.now) code }
 {
     let mut nodes = [0; MAX_DIMS];
@@ -76,7 +75,7 @@ fn lower(dim: &Dim, x: u32, y: u32) -> Option<u32>
 
 /// The region that has the lower node in each dimension.
 pub fn meet(dims: &[Dim], a: Region, b: Region) -> Option<Region>
-    requires few { length dims.now ≤ 6 }
+    requires few { length dims.now ≤ MAX_DIMS }
     requires first { is_region dims.now a ≡ true }
     requires second { is_region dims.now b ≡ true }
     ensures { result ≡ meet_of dims.now a b }
@@ -91,7 +90,7 @@ pub fn meet(dims: &[Dim], a: Region, b: Region) -> Option<Region>
 /// A region with another node in a dimension.
 pub fn child(r: Region, dims: usize, d: usize, node: u32) -> Region
     requires dims { length r ≡ dims }
-    requires few { dims ≤ 6 }
+    requires few { dims ≤ MAX_DIMS }
     ensures { result ≡ slice_set r d node }
 {
     let mut nodes = [0; MAX_DIMS];

@@ -1,9 +1,10 @@
 //! The space over the dimensions of a cube.
-ghost use Rattle.std.specs.Prelude.{◌≡◌, ◌↔◌, ◌+◌, ◌<◌, ◌≤◌, ℕ, List, [], true, All, None, Some, length, map, slice_get, slice_set, IsSome, IfOk, IfErr, IfNone, IfSome, OnOk};
+ghost use Rattle.std.specs.Prelude.{◌≡◌, ◌↔◌, ◌+◌, ◌<◌, ◌≤◌, ℕ, List, [], true, All, None, Some, length, map, slice_get, slice_set, IsSome, IfOk, IfErr, IsNone, IfSome, OnOk};
 ghost use Rattle.cube_model.specs.Tree.{Dimension, IsTree, parent};
-ghost use Rattle.cube_model.specs.Cells.{all_cells, cells_of};
-ghost use Rattle.region_algebra.specs.Fault.{LIMIT, space_fault};
-ghost use Rattle.region_algebra.specs.Space.{all_regions, cells_left, common_cells, is_among, is_region, meet_of, only_cell, cell_total, region_total};
+ghost use Rattle.cube_model.specs.Cells.{all_cells, cells_of, is_among};
+ghost use Rattle.cube_model.specs.Limits.{SPACE_LIMIT};
+ghost use Rattle.region_algebra.specs.Fault.{space_fault};
+ghost use Rattle.region_algebra.specs.Space.{all_regions, cells_left, common_cells, is_region, meet_of, only_cell, cell_total, region_total};
 ghost use Rattle.region_algebra.specs.Stepped.{IsRun};
 
 #[cfg(test)]
@@ -37,8 +38,8 @@ pub enum SpaceFault {
 pub struct Space {
     dims: Vec<Dim>,
     // For each dimension the number of cells, and of regions, over the dimensions behind it.
-    cell_steps: [u64; 6],
-    region_steps: [u64; 6],
+    cell_steps: [u64; MAX_DIMS],
+    region_steps: [u64; MAX_DIMS],
 }
 
 impl Model for Space {
@@ -117,7 +118,7 @@ impl Space {
         ensures count { result ≡ length (cells_of self.now r) }
         ensures some { 1 ≤ result }
     {
-        cells::count(&self.dims, &self.cell_steps, r)
+        cells::count(&self.dims, r)
     }
 
     /// Whether a cell is one of a region's.
@@ -146,7 +147,7 @@ impl Space {
         ensures meet { result ≡ meet_of self.now a b }
         ensures common { IfSome result (λ region. cells_of self.now region ≡ common_cells self.now a b) }
         ensures some { IfSome result (λ region. is_region self.now region ≡ true) }
-        ensures none { IfNone result (common_cells self.now a b ≡ []) }
+        ensures none { IsNone result ↔ (common_cells self.now a b ≡ []) }
     {
         regions::meet(&self.dims, a, b)
     }
@@ -211,7 +212,7 @@ impl Space {
         CellWalk::new(self, r)
     }
 
-    /// An equal space. It costs as much as building the dimensions anew.
+    /// An equal space, with nodes and names of its own.
     pub fn copy(&self) -> Result<Self, Memory>
         ensures { IfOk result (λ space. space ≡ self.now) }
     {
@@ -237,7 +238,7 @@ impl Space {
         requires place { place < length (cells_of self.now r) }
         ensures cell { slice_get (cells_of self.now r) place ≡ Some result.0 }
         ensures run { IsRun (cells_of self.now r) (place + 1) result.0 result.1 }
-        ensures small { result.0 + result.1 < LIMIT }
+        ensures small { result.0 + result.1 < SPACE_LIMIT }
     {
         cells::run_at(&self.dims, &self.cell_steps, r, place)
     }

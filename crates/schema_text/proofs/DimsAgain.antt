@@ -6,19 +6,21 @@ use Rattle.std.proofs.lemmas.Bool.Decides.{nat_tests}
 use Rattle.std.proofs.lemmas.List.Elements.{All-cons, All-head, All-nil, All-tail}
 use Rattle.cube_base.specs.Name.{is_name}
 use Rattle.cube_model.specs.declared.tree.NodeLine.{NodeLine}
+use Rattle.cube_model.specs.Limits.{MAX_DIMS}
 use Rattle.cube_model.specs.Text.{line_text}
 use Rattle.cube_model.specs.Tree.{Dimension, Entry, IsTree, node_lines, numbered}
 use Rattle.cube_model.proofs.Ascii.{ascii_is_utf8}
+use Rattle.dim_tree.proofs.Entries.{length-node_lines}
 use Rattle.dim_tree.proofs.Outlines.{tree_fault_none}
 use Rattle.schema_text.specs.declared.word.SchemaWord.{SchemaWord}
 use Rattle.schema_text.specs.declared.word.SchemaWord.TheVariants.{Dimension as DimensionWord, Node}
-use Rattle.schema_text.specs.Draft.{AreNames}
+use Rattle.schema_text.specs.Schema.{AreNames}
 use Rattle.schema_text.specs.SchemaText.{Draft, dims_of, dims_text, ended, is_wrong_name, may_follow, node_line}
 use Rattle.schema_text.proofs.Reading.{IsRead}
 use Rattle.schema_text.proofs.Drafts.{is_name-right}
 use Rattle.schema_text.proofs.WrittenLines.{IsField, IsField-name, IsNext, IsPlain-fields, IsRead-next}
 use Rattle.schema_text.proofs.MeasuresAgain.{right-name}
-use Rattle.schema_text.proofs.NodesAgain.{AreNodesNext-tree, last_node, length-node_lines, read_nodes}
+use Rattle.schema_text.proofs.NodesAgain.{AreNodesNext-tree, last_node, read_nodes}
 
 -- the word of the last line, once these dimensions are read
 abbrev pub last_dims : Option SchemaWord → List Dimension → Option SchemaWord
@@ -40,10 +42,10 @@ pub record IsEnded (text : List ℕ) (draft : Draft) (names : List (List ℕ)) (
   pub dims_are : dims_of next ≡ dims_of draft ++ dims
   pub last : next.last ≡ last_dims draft.last dims
 
-next-dimension : (draft : Draft) (name : List ℕ) → may_follow draft.last DimensionWord ≡ true → is_wrong_name name draft.names ≡ false → is_name name ≡ true → length draft.names < 6
+next-dimension : (draft : Draft) (name : List ℕ) → may_follow draft.last DimensionWord ≡ true → is_wrong_name name draft.names ≡ false → is_name name ≡ true → length draft.names < MAX_DIMS
     → IsNext draft (codes "dimension") (name ∷ []) DimensionWord
 next-dimension draft name follows right named room =
-    let few : nat_le 6 (length draft.names) ≡ false = grind (arith, nat_tests) in
+    let few : nat_le MAX_DIMS (length draft.names) ≡ false = grind (arith, nat_tests) in
     record {
       plain = IsPlain-fields (codes "dimension") (name ∷ []) (record { bytes_are = refl; utf8 = ascii_is_utf8 (codes "dimension") refl; short = lit≤ tt }) (All-cons IsField name [] (IsField-name name named) (All-nil IsField)) (lit≤ tt);
       word_is = refl;
@@ -72,7 +74,7 @@ last-tree dim tree = some dim (omega (arith, (tree_fault_none (node_lines dim) t
     some (node ∷ nodes) more = last_node-some nodes
 
 pub read_dims : (text : List ℕ) (draft : Draft) (names : List (List ℕ)) (dims : List Dimension) (lines : ℕ) (rest behind : List ℕ) → IsRead text draft lines rest → rest ≡ dims_text names dims ++ behind
-    → length names ≡ length dims → may_follow draft.last DimensionWord ≡ true → AreNames (draft.names ++ names) → length draft.names + length names ≤ 6 → All IsTree dims → IsEnded text draft names dims behind
+    → length names ≡ length dims → may_follow draft.last DimensionWord ≡ true → AreNames (draft.names ++ names) → length draft.names + length names ≤ MAX_DIMS → All IsTree dims → IsEnded text draft names dims behind
 read_dims text draft [] [] lines rest behind is parts same follows are few trees = record {
   next = draft;
   lines = lines;

@@ -1,8 +1,8 @@
--- Accepted lines keep what is known of a draft.
-use Rattle.std.proofs.Common.{◌≡◌, ◌≢◌, ℕ, ◌+◌, ◌-◌, ◌<◌, ◌≤◌, Bool, true, false, List, [], ◌∷◌, ◌++◌, length, get_or, refl, sym, ap, ◌∙◌, arith, Option, Some, None, length-append, eqb, ltb, sub-one}
+-- What is known of a draft: its names, what stands before a word, and the depth of its last node.
+use Rattle.std.proofs.Common.{◌≡◌, ◌≢◌, ℕ, ◌+◌, ◌-◌, ◌<◌, ◌≤◌, Bool, true, false, List, [], ◌∷◌, ◌++◌, length, get_or, refl, ap, ◌∙◌, arith, Option, Some, None, eqb, ltb, sub-one}
 use Rattle.std.specs.Prelude.{not, ◌||◌, slice_get}
 use Rattle.std.specs.Str.{bytes_eq}
-use Rattle.std.proofs.lemmas.List.{map_push}
+use Rattle.std.proofs.lemmas.Bool.{not-false, or_parts}
 use Rattle.std.proofs.lemmas.List.Elements.{All-push}
 use Rattle.std.proofs.lemmas.List.Folds.{list_any_at}
 use Rattle.std.proofs.lemmas.List.Quantifiers.{all_pairs_push}
@@ -11,20 +11,21 @@ use Rattle.cube_base.specs.Name.{is_name}
 use Rattle.cube_model.specs.declared.tree.NodeLine.{NodeLine}
 use Rattle.schema_text.specs.declared.word.SchemaWord.{SchemaWord}
 use Rattle.schema_text.specs.declared.word.SchemaWord.TheVariants.{Cube, Policy, Number, Dimension as DimensionWord, Node, End}
-use Rattle.schema_text.specs.declared.word.PolicyWord.{PolicyWord}
-use Rattle.schema_text.specs.Draft.{AreNames, HasNodes, IsDraft, open_count}
-use Rattle.schema_text.specs.SchemaText.{Draft, dims_of, ended, is_among_names, is_wrong_depth, is_wrong_name, may_follow}
+use Rattle.schema_text.specs.Schema.{AreNames}
+use Rattle.schema_text.specs.Draft.{HasNodes, open_count}
+use Rattle.schema_text.specs.SchemaText.{ended, is_among_names, is_wrong_depth, is_wrong_name, may_follow}
 
 -- what a name that is not wrong is
 right : (named among : Bool) → not named || among ≡ false → (named ≡ true) × (among ≡ false)
-right true among e = (refl, e)
-right false among e = cc
+right named among e =
+    let parts = or_parts (not named) among e in
+    (not-false named parts.0, parts.1)
 
 pub is_name-right : (name : List ℕ) (names : List (List ℕ)) → is_wrong_name name names ≡ false → is_name name ≡ true
 is_name-right name names e = (right (is_name name) (is_among_names name names) e).0
 
 -- it is none of the names
-differs : (name : List ℕ) (names : List (List ℕ)) (k : ℕ) (d : List ℕ) → is_wrong_name name names ≡ false → k < length names → get_or names k d ≢ name
+pub differs : (name : List ℕ) (names : List (List ℕ)) (k : ℕ) (d : List ℕ) → is_wrong_name name names ≡ false → k < length names → get_or names k d ≢ name
 differs name names k d e within same =
     let among : is_among_names name names ≡ true = list_any_at (λ n. bytes_eq n name) names k d within ((bytes_eq-Decides (get_or names k d) name).1 same) in
     let none = (right (is_name name) (is_among_names name names) e).1 in
@@ -87,59 +88,6 @@ before-Node (Some Number) e = cc
 before-Node (Some DimensionWord) e = refl
 before-Node (Some Node) e = refl
 before-Node (Some End) e = cc
-
--- Each word keeps what is known.
-
-pub IsDraft-version : (draft : Draft) (known : List (List ℕ)) → IsDraft draft known → may_follow draft.last Cube ≡ true → IsDraft (record draft { last = Some Cube }) known
-IsDraft-version draft known is follows =
-    let before = before-Cube draft.last draft.nodes follows is.nodes in
-    record { measures = is.measures; columns = is.columns; names = is.names; few = is.few; named = omega (arith, before.0, is.named); nodes = before.1; known = is.known }
-
-pub IsDraft-policy : (draft : Draft) (known : List (List ℕ)) (policy : PolicyWord) → IsDraft draft known → may_follow draft.last Policy ≡ true
-    → IsDraft (record draft { last = Some Policy; policy = policy }) known
-IsDraft-policy draft known policy is follows =
-    let before = before-Policy draft.last draft.nodes follows is.nodes in
-    record { measures = is.measures; columns = is.columns; names = is.names; few = is.few; named = omega (arith, before.0, is.named); nodes = before.1; known = is.known }
-
-pub IsDraft-measure : (draft : Draft) (known : List (List ℕ)) (name : List ℕ) → IsDraft draft known → may_follow draft.last Number ≡ true
-    → is_wrong_name name draft.measures ≡ false → length draft.measures < 7
-    → IsDraft (record draft { last = Some Number; measures = draft.measures ++ name ∷ [] }) known
-IsDraft-measure draft known name is follows named room =
-    let before = before-Number draft.last draft.nodes follows is.nodes in
-    record {
-      measures = AreNames-push draft.measures name is.measures named;
-      columns = simp length-append (omega arith);
-      names = is.names;
-      few = is.few;
-      named = omega (arith, before.0, is.named);
-      nodes = before.1;
-      known = is.known;
-    }
-
-pub IsDraft-dimension : (draft : Draft) (known : List (List ℕ)) (name : List ℕ) → IsDraft draft known → may_follow draft.last DimensionWord ≡ true
-    → is_wrong_name name draft.names ≡ false → length draft.names < 6
-    → IsDraft (record draft { last = Some DimensionWord; names = draft.names ++ name ∷ []; dims = dims_of draft; nodes = [] }) []
-IsDraft-dimension draft known name is follows named room = record {
-  measures = is.measures;
-  columns = is.columns;
-  names = AreNames-push draft.names name is.names named;
-  few = simp length-append (omega arith);
-  named = simp length-append (omega (arith, before-Dimension draft.last draft.nodes follows is.nodes, is.named));
-  nodes = refl;
-  known = refl;
-}
-
-pub IsDraft-node : (draft : Draft) (known : List (List ℕ)) (node : NodeLine) → IsDraft draft known → may_follow draft.last Node ≡ true
-    → IsDraft (record draft { last = Some Node; nodes = draft.nodes ++ node ∷ [] }) (known ++ node.name ∷ [])
-IsDraft-node draft known node is follows = record {
-  measures = is.measures;
-  columns = is.columns;
-  names = is.names;
-  few = is.few;
-  named = omega (arith, before-Node draft.last follows, is.named);
-  nodes = simp length-append (omega arith);
-  known = ap (λ l. l ++ node.name ∷ []) is.known ∙ sym (map_push (λ (n : NodeLine). n.name) draft.nodes node);
-}
 
 -- the depth of a node behind the last
 abbrev pub wrong_after : Option NodeLine → ℕ → Bool

@@ -1,13 +1,14 @@
 pub mod Cuts
 pub mod DimsAgain
+pub mod DraftSteps
 pub mod Drafts
 pub mod Ends
 pub mod LineFaults
 pub mod LineTexts
+pub mod Measures
 pub mod MeasuresAgain
 pub mod Names
 pub mod NodesAgain
-pub mod NumberMeasures
 pub mod Reading
 pub mod ReadsAgain
 pub mod Writing

@@ -11,12 +11,12 @@ use Rattle.cube_model.specs.Text.{fields_of}
 use Rattle.schema_text.specs.declared.word.SchemaWord.{SchemaWord}
 use Rattle.schema_text.specs.declared.word.SchemaWord.TheVariants.{Cube, Policy, Number, Dimension as DimensionWord, Node, End}
 use Rattle.schema_text.specs.LineText.{field_at, is_clean, is_long, without_cr}
-use Rattle.schema_text.specs.SchemaText.{Draft, field_count_of, fields_fault, has_no_room, has_wrong_depth, has_wrong_name, has_wrong_number, has_wrong_policy, is_end, line_fault, may_follow, word_named}
+use Rattle.schema_text.specs.SchemaText.{Draft, fields_fault, has_no_room, has_wrong_count, has_wrong_depth, has_wrong_name, has_wrong_number, has_wrong_policy, is_end, line_fault, may_follow, word_named}
 
 -- the line of a word is accepted
 pub record IsAccepted (draft : Draft) (fields : List (List ℕ)) (word : SchemaWord) : Type 0 where
   pub follows : may_follow draft.last word ≡ true
-  pub fields_are : length fields ≡ field_count_of word
+  pub count : has_wrong_count fields word ≡ false
   pub name : has_wrong_name draft fields word ≡ false
   pub policy : has_wrong_policy draft fields word ≡ false
   pub number : has_wrong_number draft fields word ≡ false
@@ -47,13 +47,13 @@ IsAccepted-word draft line word accepted named =
     let fields = fields_of (without_cr line) in
     let fault : fields_fault draft fields (Some word) ≡ None = ap (fields_fault draft fields) (sym named) ∙ accepted_fields draft line accepted in
     let follows = if-none (may_follow draft.last word) code.Order _ fault in
-    let counts = none-if (not (eqb (length fields) (field_count_of word))) code.Fields _ follows.1 in
+    let counts = none-if (has_wrong_count fields word) code.Fields _ follows.1 in
     let name = none-if (has_wrong_name draft fields word) code.Name _ counts.1 in
     let policy = none-if (has_wrong_policy draft fields word) code.Policy _ name.1 in
     let number = none-if (has_wrong_number draft fields word) code.Number _ policy.1 in
     let depth = none-if (has_wrong_depth draft fields word) code.Depth _ number.1 in
     let room = none-if (has_no_room draft fields word) code.Limit _ depth.1 in
-    record { follows = follows.0; fields_are = counted _ _ counts.0; name = name.0; policy = policy.0; number = number.0; depth = depth.0; room = room.0 }
+    record { follows = follows.0; count = counts.0; name = name.0; policy = policy.0; number = number.0; depth = depth.0; room = room.0 }
 
 -- an accepted line has a word
 pub word-accepted : (draft : Draft) (line : List ℕ) → line_fault draft line ≡ None → word_named (field_at (fields_of (without_cr line)) 0) ≢ None
@@ -90,4 +90,4 @@ end-one_field line other named one =
     true≢false (sym (ap (λ l. bytes_eq l (codes "end")) (sym (one_field (without_cr line) one)) ∙ word-end (field_at (fields_of (without_cr line)) 0) named) ∙ other)
 
 pub no_end : (draft : Draft) (line : List ℕ) → is_end line ≡ false → line_fault draft line ≡ None → word_named (field_at (fields_of (without_cr line)) 0) ≢ Some End
-no_end draft line other accepted named = end-one_field line other named (IsAccepted-word draft line End accepted named).fields_are
+no_end draft line other accepted named = end-one_field line other named (counted _ 1 (IsAccepted-word draft line End accepted named).count)

@@ -1,10 +1,13 @@
 -- What a line says without its final CR.
 use Rattle.std.proofs.Common.{◌≡◌, ℕ, zero, suc, Bool, true, false, List, [], ◌∷◌, ◌++◌, eqb, refl, ap, sym, ◌∙◌}
-use Rattle.std.specs.Prelude.{if◌then◌else◌, slice_get, Some, None}
+use Rattle.std.specs.Prelude.{◌==◌, ◌||◌, if◌then◌else◌, slice_get, Some, None}
+use Rattle.std.specs.List.{list_all}
+use Rattle.std.proofs.lemmas.Bool.{false_from_ne_true}
+use Rattle.cube_base.specs.Name.{is_name_byte}
 use Rattle.std.proofs.lemmas.Option.{get_or_from_slice_get}
 use Rattle.std.specs.Str.{IsUtf8, is_utf8}
-use Rattle.std.proofs.lemmas.Str.{IsUtf8-from_is_utf8}
-use Rattle.schema_text.specs.LineText.{field_at, without_cr}
+use Rattle.std.proofs.lemmas.Str.{IsUtf8-from_is_utf8, is_utf8-from_IsUtf8}
+use Rattle.schema_text.specs.LineText.{field_at, is_clean, without_cr}
 
 -- a byte in front
 in_front : (b : ℕ) (line : List ℕ) (last : ℕ) → without_cr (b ∷ (line ++ last ∷ [])) ≡ b ∷ without_cr (line ++ last ∷ [])
@@ -21,13 +24,15 @@ without_cr-push [] last = refl
 without_cr-push (b ∷ rest) last =
     in_front b rest last ∙ ap (λ l. b ∷ l) (without_cr-push rest last) ∙ either-in_front (eqb last 13) b rest (rest ++ last ∷ [])
 
--- a test that must not be true fails
 pub is_utf8-not : (bytes : List ℕ) → ¬ IsUtf8 bytes → is_utf8 bytes ≡ false
-is_utf8-not bytes other = fails (is_utf8 bytes) (λ e. other (IsUtf8-from_is_utf8 bytes e))
-  where
-    fails : (b : Bool) → (b ≡ true → ⊥) → b ≡ false
-    fails true none = absurd (none refl)
-    fails false none = refl
+is_utf8-not bytes other = false_from_ne_true (is_utf8 bytes) (λ e. other (IsUtf8-from_is_utf8 bytes e))
+
+-- a line that is UTF-8 is clean where each byte is, and another is not
+pub is_clean-not_utf8 : (line : List ℕ) → ¬ IsUtf8 line → false ≡ is_clean line
+is_clean-not_utf8 line other = rw (is_utf8-not line other) refl
+
+pub is_clean-utf8 : (line : List ℕ) → IsUtf8 line → true ≡ list_all (λ b. b == 9 || is_name_byte b) line → true ≡ is_clean line
+is_clean-utf8 line text bytes = rw (is_utf8-from_IsUtf8 line text) bytes
 
 pub without_cr-last : (line rest : List ℕ) (last : ℕ) → line ≡ rest ++ last ∷ [] → without_cr line ≡ (if eqb last 13 then rest else line)
 without_cr-last line rest last parts = ap without_cr parts ∙ without_cr-push rest last ∙ ap (λ l. if eqb last 13 then rest else l) (sym parts)

@@ -8,7 +8,8 @@ use Rattle.cube_base.specs.Name.{is_name_byte}
 use Rattle.cube_model.specs.Text.{line_text}
 use Rattle.cube_model.specs.Tree.{Dimension}
 use Rattle.cube_model.proofs.Ascii.{ascii_is_utf8}
-use Rattle.region_algebra.specs.Fault.{LIMIT, space_fault}
+use Rattle.cube_model.specs.Limits.{MAX_DIMS, SPACE_LIMIT}
+use Rattle.region_algebra.specs.Fault.{space_fault}
 use Rattle.region_algebra.specs.Space.{cell_total, region_total}
 use Rattle.region_algebra.specs.declared.space.SpaceFault.TheVariants.{Dims, Cells, Nodes}
 use Rattle.cube_base.specs.declared.code.Code.TheVariants as code
@@ -19,12 +20,12 @@ use Rattle.schema_text.specs.declared.word.SchemaWord.{SchemaWord}
 use Rattle.schema_text.specs.declared.word.SchemaWord.TheVariants.{Cube, Policy, Number, Dimension as DimensionWord, Node, End}
 use Rattle.schema_text.specs.Draft.{end_fault}
 use Rattle.schema_text.specs.Schema.{IsSchema, SchemaValue}
-use Rattle.schema_text.specs.SchemaText.{Draft, blank_draft, dims_of, dims_text, fields_fault, may_follow, measure_line, number_measures, policy_named, policy_word, schema_of, schema_of_draft, schema_text}
+use Rattle.schema_text.specs.SchemaText.{Draft, blank_draft, dims_of, dims_text, fields_fault, may_follow, measure_line, policy_named, policy_word, schema_of, schema_of_draft, schema_text}
 use Rattle.schema_text.proofs.Ends.{line_fault-end}
 use Rattle.schema_text.proofs.Cuts.{after_line-cut, lines_of-cut}
 use Rattle.schema_text.proofs.Reading.{IsCut, IsRead, IsRead-none, schema_of-end}
 use Rattle.schema_text.proofs.WrittenLines.{IsField, IsNext, IsPlain-fields, IsRead-next}
-use Rattle.schema_text.proofs.MeasuresAgain.{AreNames-measures, count-numbers, last_number, measured, measures-numbered, names_of, read_measures}
+use Rattle.schema_text.proofs.MeasuresAgain.{AreNames-measures, last_number, measured, read_measures}
 use Rattle.schema_text.proofs.DimsAgain.{last_dims, last_dims-some, read_dims}
 
 is_field : (bytes : List ℕ) → list_all is_name_byte bytes ≡ true → list_all (λ b. nat_lt b 128) bytes ≡ true → length bytes ≤ 128 → IsField bytes
@@ -78,7 +79,7 @@ may_follow-dims (m ∷ measures) = numbers measures
 end_accepted : (draft : Draft) → draft.last ≡ Some Node → space_fault (dims_of draft) ≡ None → end_fault draft ≡ None
 end_accepted draft last accepted =
     let follows : may_follow draft.last End ≡ true = ap (λ l. may_follow l End) last in
-    rw follows (totals (eqb (length (dims_of draft)) 0 || ltb 6 (length (dims_of draft))) (nat_le LIMIT (cell_total (dims_of draft))) (nat_le LIMIT (region_total (dims_of draft))) (length (dims_of draft)) accepted)
+    rw follows (totals (eqb (length (dims_of draft)) 0 || ltb MAX_DIMS (length (dims_of draft))) (nat_le SPACE_LIMIT (cell_total (dims_of draft))) (nat_le SPACE_LIMIT (region_total (dims_of draft))) (length (dims_of draft)) accepted)
   where
     totals : (wrong cells regions : Bool) (n : ℕ) → (if wrong then Some (Dims n) else (if cells then Some Cells else (if regions then Some Nodes else None))) ≡ None
         → (if cells then Some code.Cells else (if regions then Some code.Nodes else None)) ≡ None
@@ -87,10 +88,10 @@ end_accepted draft last accepted =
     totals false false true n e = cc
     totals false false false n e = refl
 
-some_dims : (dims : List Dimension) → space_fault dims ≡ None → (0 < length dims) × (length dims ≤ 6)
-some_dims dims accepted = counted (length dims) (nat_le LIMIT (cell_total dims)) (nat_le LIMIT (region_total dims)) accepted
+some_dims : (dims : List Dimension) → space_fault dims ≡ None → (0 < length dims) × (length dims ≤ MAX_DIMS)
+some_dims dims accepted = counted (length dims) (nat_le SPACE_LIMIT (cell_total dims)) (nat_le SPACE_LIMIT (region_total dims)) accepted
   where
-    counted : (n : ℕ) (cells regions : Bool) → (if eqb n 0 || ltb 6 n then Some (Dims n) else (if cells then Some Cells else (if regions then Some Nodes else None))) ≡ None → (0 < n) × (n ≤ 6)
+    counted : (n : ℕ) (cells regions : Bool) → (if eqb n 0 || ltb MAX_DIMS n then Some (Dims n) else (if cells then Some Cells else (if regions then Some Nodes else None))) ≡ None → (0 < n) × (n ≤ MAX_DIMS)
     counted n cells regions e = grind (arith, nat_tests)
 
 node_last : (last : Option SchemaWord) (dims : List Dimension) → 0 < length dims → last_dims last dims ≡ Some Node
@@ -120,9 +121,9 @@ unfolding schema_text
 text_parts s behind =
     five (line_text (codes "cube") (codes "1" ∷ [])) (line_text (codes "policy") (policy_word s.policy ∷ [])) (flat_map measure_line s.measures) (dims_text s.names s.dims) (line_text (codes "end") []) behind
 
-schema-same : (s : SchemaValue) (draft : Draft) → draft.policy ≡ s.policy → number_measures 1 draft.measures ≡ s.measures → draft.names ≡ s.names → dims_of draft ≡ s.dims → schema_of_draft draft ≡ s
+schema-same : (s : SchemaValue) (draft : Draft) → draft.policy ≡ s.policy → draft.measures ≡ s.measures → draft.names ≡ s.names → dims_of draft ≡ s.dims → schema_of_draft draft ≡ s
 schema-same s draft policy measures names dims =
-    ap (λ (p : PolicyWord). record { policy = p; measures = number_measures 1 draft.measures; names = draft.names; dims = dims_of draft }) policy
+    ap (λ (p : PolicyWord). record { policy = p; measures = draft.measures; names = draft.names; dims = dims_of draft }) policy
     ∙ ap (λ (m : List Measure). record { policy = s.policy; measures = m; names = draft.names; dims = dims_of draft }) measures
     ∙ ap (λ (n : List (List ℕ)). record { policy = s.policy; measures = s.measures; names = n; dims = dims_of draft }) names
     ∙ ap (λ (d : List Dimension). record { policy = s.policy; measures = s.measures; names = s.names; dims = d }) dims
@@ -134,11 +135,11 @@ reads_again s is behind =
     let measures_behind = dims_text s.names s.dims ++ dims_behind in
     let dims = some_dims s.dims is.space in
     let head = read_head text s.policy (flat_map measure_line s.measures ++ measures_behind) (text_parts s behind) in
-    let few : 0 + length s.measures ≤ 7 = omega (arith, is.shape.most, count-numbers s.measures is.numbers) in
-    let numbers = read_measures text s.policy Policy [] s.measures 2 (flat_map measure_line s.measures ++ measures_behind) measures_behind head refl refl (AreNames-measures s.measures is.measure_names is.shape.distinct) few in
-    let draft = measured s.policy (last_number Policy s.measures) (names_of s.measures) in
-    let ended_at = read_dims text draft s.names s.dims (2 + length s.measures) measures_behind dims_behind numbers refl is.named (may_follow-dims s.measures) (record { each = is.dim_names; distinct = is.distinct }) (omega (arith, is.named, dims.1)) is.trees in
-    let same = schema-same s ended_at.next ended_at.policy (ap (number_measures 1) ended_at.measures ∙ measures-numbered 1 s.measures is.shape.order is.numbers) ended_at.names_are ended_at.dims_are in
+    let numbers = read_measures text s.policy Policy [] s.measures 2 (flat_map measure_line s.measures ++ measures_behind) measures_behind head refl refl
+    (record { names = AreNames-measures s.measures is.measure_names is.shape.distinct; numbers = is.numbers; order = is.shape.order; room = omega (arith, is.shape.most) }) in
+    let draft = measured s.policy (last_number Policy s.measures) s.measures in
+    let ended_at = read_dims text draft s.names s.dims (2 + length s.measures) measures_behind dims_behind numbers refl is.named (may_follow-dims s.measures) is.dim_names (omega (arith, is.named, dims.1)) is.trees in
+    let same = schema-same s ended_at.next ended_at.policy ended_at.measures ended_at.names_are ended_at.dims_are in
     let last = ended_at.last ∙ node_last (Some (last_number Policy s.measures)) s.dims dims.0 in
     let accepted = end_accepted ended_at.next last (ap space_fault ended_at.dims_are ∙ is.space) in
     let size : length text - length behind ≡ length (schema_text s) = omega (arith, length-append (schema_text s) behind) in

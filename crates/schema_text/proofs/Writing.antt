@@ -9,7 +9,8 @@ use Rattle.std.proofs.lemmas.List.{take_more}
 use Rattle.std.proofs.lemmas.List.Concat.{flat_map-append}
 use Rattle.std.proofs.lemmas.Option.{get_or_from_slice_get, none-some, same_Some, slice_get_within}
 use Rattle.cube_model.specs.Text.{line_text}
-use Rattle.cube_model.specs.Tree.{Dimension, Entry}
+use Rattle.cube_model.specs.Tree.{Dimension, Entry, IsTree, entry_of}
+use Rattle.dim_tree.proofs.Entries.{entry_of-place}
 use Rattle.schema_text.specs.SchemaText.{dims_text, node_line}
 
 -- a text more
@@ -36,11 +37,11 @@ entry-read (Some e) depth name depth_is name_is =
     (e, refl, ap (λ d. line_text (codes "node") (decimal d ∷ e.name ∷ [])) (same_Some e.depth depth depth_is) ∙ ap (λ n. line_text (codes "node") (decimal depth ∷ n ∷ [])) (same_Some e.name name name_is))
 
 -- the lines of the first nodes, and of one more
-pub nodes-more : (dim : Dimension) (node depth : ℕ) (name : List ℕ) → option_map (λ e. e.depth) (slice_get dim node) ≡ Some depth → option_map (λ e. e.name) (slice_get dim node) ≡ Some name
+pub nodes-more : (dim : Dimension) (node depth : ℕ) (name : List ℕ) → IsTree dim → option_map (λ e. e.depth) (entry_of dim node) ≡ Some depth → option_map (λ e. e.name) (entry_of dim node) ≡ Some name
     → flat_map node_line (take (node + 1) dim) ≡ flat_map node_line (take node dim) ++ line_text (codes "node") (decimal depth ∷ name ∷ [])
-nodes-more dim node depth name depth_is name_is =
-    let entry = entry-read (slice_get dim node) depth name depth_is name_is in
-    texts-more node_line dim node entry.0 entry.1 ∙ ap (λ l. flat_map node_line (take node dim) ++ l) entry.2
+nodes-more dim node depth name tree depth_is name_is =
+    let entry = entry-read (entry_of dim node) depth name depth_is name_is in
+    texts-more node_line dim node entry.0 (sym (entry_of-place dim node tree) ∙ entry.1) ∙ ap (λ l. flat_map node_line (take node dim) ++ l) entry.2
 
 -- the lines of the first dimensions, and of one more
 pub dims_text-more : (names : List (List ℕ)) (dims : List Dimension) (d : ℕ) (name : List ℕ) (dim : Dimension) → slice_get names d ≡ Some name → slice_get dims d ≡ Some dim

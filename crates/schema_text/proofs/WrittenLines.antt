@@ -1,8 +1,9 @@
 -- A line that is written is read as its word and its fields.
 use Rattle.std.proofs.Common.{◌≡◌, ◌≢◌, ℕ, ◌+◌, ◌*◌, ◌≤◌, Bool, true, false, List, [], ◌∷◌, ◌++◌, length, refl, sym, ap, ◌∙◌, arith, Some, None, eqb, append_assoc, append-nil, length-append}
-use Rattle.std.specs.Prelude.{codes, All, ◌||◌, ◌&&◌}
+use Rattle.std.specs.Prelude.{codes, All, ◌||◌}
 use Rattle.std.specs.List.{flat_map, list_all}
 use Rattle.std.specs.Str.{IsUtf8, bytes_eq, is_utf8}
+use Rattle.std.proofs.lemmas.Bool.{and_parts}
 use Rattle.std.proofs.lemmas.Bool.Decides.{nat_tests}
 use Rattle.std.proofs.lemmas.List.Elements.{All-cons, All-head, All-nil, All-tail}
 use Rattle.std.proofs.lemmas.List.Folds.{list_all-append}
@@ -23,15 +24,10 @@ pub record IsField (bytes : List ℕ) : Type 0 where
   pub utf8 : is_utf8 bytes ≡ true
   pub short : length bytes ≤ 128
 
--- two tests that hold
-pub both : (a b : Bool) → a && b ≡ true → (a ≡ true) × (b ≡ true)
-both true b e = (refl, e)
-both false b e = cc
-
 -- a name is one
 pub IsField-name : (name : List ℕ) → is_name name ≡ true → IsField name
 IsField-name name named =
-    let parts = both (has_name_bytes name) (is_utf8 name) named in
+    let parts = and_parts (has_name_bytes name) (is_utf8 name) named in
     record { bytes_are = grind (arith, nat_tests, parts.0); utf8 = parts.1; short = grind (arith, nat_tests, parts.0) }
 
 -- the bytes of a line before its LF
@@ -42,7 +38,7 @@ joined word fields = word ++ flat_map (λ field. 9 ∷ field) fields
 pub none-where : (p : ℕ → Bool) (c : ℕ) (bytes : List ℕ) → list_all p bytes ≡ true → p c ≡ false → All (λ b. b ≢ c) bytes
 none-where p c [] all fails = All-nil (λ b. b ≢ c)
 none-where p c (b ∷ bytes) all fails =
-    let parts = both (p b) (list_all p bytes) all in
+    let parts = and_parts (p b) (list_all p bytes) all in
     All-cons (λ b. b ≢ c) b bytes (λ same. let e : p b ≡ p c = ap p same in cc) (none-where p c bytes parts.1 fails)
 
 -- a line of fields is cut into them
@@ -58,7 +54,7 @@ is_line_byte b = eqb b 9 || is_name_byte b
 line_bytes : (bytes : List ℕ) → list_all is_name_byte bytes ≡ true → list_all is_line_byte bytes ≡ true
 line_bytes [] all = refl
 line_bytes (b ∷ bytes) all =
-    let parts = both (is_name_byte b) (list_all is_name_byte bytes) all in
+    let parts = and_parts (is_name_byte b) (list_all is_name_byte bytes) all in
     let here : is_line_byte b ≡ true = grind (arith, nat_tests, parts.0) in
     rw (here, line_bytes bytes parts.1) refl
 

@@ -1,20 +1,17 @@
 -- What is known of a schema while its lines are read.
-use Rattle.std.specs.Prelude.{◌≡◌, ◌≢◌, ℕ, ◌+◌, ◌≤◌, true, List, [], length, map, nat_le, if◌then◌else◌, Option, Some, None, All, AllPairs}
+use Rattle.std.specs.Prelude.{◌≡◌, ℕ, ◌+◌, ◌≤◌, true, List, [], length, map, nat_le, if◌then◌else◌, Option, Some, None, All}
 use Rattle.cube_base.specs.Name.{is_name}
 use Rattle.cube_base.specs.declared.code.Code.{Code}
 use Rattle.cube_base.specs.declared.code.Code.TheVariants as code
 use Rattle.cube_model.specs.declared.tree.NodeLine.{NodeLine}
-use Rattle.region_algebra.specs.Fault.{LIMIT}
+use Rattle.cube_model.specs.Limits.{MAX_DIMS, SPACE_LIMIT}
+use Rattle.fact_records.specs.declared.shape.Kind.TheVariants.{Number}
+use Rattle.fact_records.specs.Shape.{IsShape, width_of_all}
 use Rattle.region_algebra.specs.Space.{cell_total, region_total}
-use Rattle.fact_records.specs.Shape.{MAX_WIDTH}
 use Rattle.schema_text.specs.declared.word.SchemaWord.{SchemaWord}
 use Rattle.schema_text.specs.declared.word.SchemaWord.TheVariants.{Dimension as DimensionWord, Node, End}
-use Rattle.schema_text.specs.SchemaText.{Draft, MAX_DIMS, dims_of, may_follow}
-
--- distinct names
-pub record AreNames (names : List (List ℕ)) : Type 0 where
-  pub each : All (λ name. is_name name ≡ true) names
-  pub distinct : AllPairs (λ a b. a ≢ b) names
+use Rattle.schema_text.specs.Schema.{AreNames}
+use Rattle.schema_text.specs.SchemaText.{Draft, dims_of, may_follow}
 
 -- how many dimensions are named and not ended, by the word of the last line
 abbrev pub open_count : Option SchemaWord → ℕ
@@ -27,10 +24,12 @@ abbrev pub HasNodes : Option SchemaWord → List NodeLine → Type 0
 HasNodes (Some Node) nodes = 1 ≤ length nodes
 HasNodes word nodes = nodes ≡ []
 
--- what accepted lines say, where the names of the nodes are these
-pub record IsDraft (draft : Draft) (known_names : List (List ℕ)) : Type 0 where
-  pub measures : AreNames draft.measures
-  pub columns : length draft.measures ≤ MAX_WIDTH
+-- what accepted lines say, where the names of the nodes are these, and the measures have so many columns
+pub record IsDraft (draft : Draft) (known_names : List (List ℕ)) (columns : ℕ) : Type 0 where
+  pub shape : IsShape draft.measures
+  pub numbers : All (λ m. m.kind ≡ Number) draft.measures
+  pub measure_names : All (λ m. is_name m.name ≡ true) draft.measures
+  pub width : columns ≡ width_of_all draft.measures
   pub names : AreNames draft.names
   pub few : length draft.names ≤ MAX_DIMS
   pub named : length draft.names ≡ length draft.dims + open_count draft.last
@@ -41,6 +40,6 @@ pub record IsDraft (draft : Draft) (known_names : List (List ℕ)) : Type 0 wher
 abbrev pub end_fault : Draft → Option Code
 end_fault draft =
     if may_follow draft.last End
-    then (if nat_le LIMIT (cell_total (dims_of draft)) then Some code.Cells
-    else (if nat_le LIMIT (region_total (dims_of draft)) then Some code.Nodes else None))
+    then (if nat_le SPACE_LIMIT (cell_total (dims_of draft)) then Some code.Cells
+    else (if nat_le SPACE_LIMIT (region_total (dims_of draft)) then Some code.Nodes else None))
     else Some code.Order

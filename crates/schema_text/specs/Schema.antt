@@ -15,13 +15,17 @@ pub record SchemaValue : Type 0 where
   pub names : List (List ℕ)
   pub dims : List Dimension
 
+-- distinct names
+pub record AreNames (names : List (List ℕ)) : Type 0 where
+  pub each : All (λ name. is_name name ≡ true) names
+  pub distinct : AllPairs (λ a b. a ≢ b) names
+
 -- the measures are number measures with names, the names of the dimensions are distinct names, and the dimensions are a space
 pub record IsSchema (schema : SchemaValue) : Type 0 where
   pub shape : IsShape schema.measures
   pub numbers : All (λ m. m.kind ≡ Number) schema.measures
   pub measure_names : All (λ m. is_name m.name ≡ true) schema.measures
-  pub dim_names : All (λ name. is_name name ≡ true) schema.names
-  pub distinct : AllPairs (λ a b. a ≢ b) schema.names
+  pub dim_names : AreNames schema.names
   pub named : length schema.names ≡ length schema.dims
   pub trees : All IsTree schema.dims
   pub space : space_fault schema.dims ≡ None

@@ -9,13 +9,13 @@ use Rattle.cube_base.specs.declared.code.Code.{Code}
 use Rattle.cube_base.specs.declared.code.Code.TheVariants as code
 use Rattle.cube_model.specs.declared.tree.NodeLine.{NodeLine}
 use Rattle.cube_model.specs.Accepted.{first_that_holds}
+use Rattle.cube_model.specs.Limits.{MAX_COLS, MAX_DEPTH, MAX_DIMS, MAX_NODES, SPACE_LIMIT}
 use Rattle.cube_model.specs.Text.{fields_of, line_text, lines_of, number_in, after_lines}
-use Rattle.cube_model.specs.Tree.{Dimension, Entry, MAX_NODES, numbered, MAX_DEPTH}
-use Rattle.region_algebra.specs.Fault.{LIMIT}
+use Rattle.cube_model.specs.Tree.{Dimension, Entry, numbered}
+use Rattle.fact_records.specs.Shape.{width_of_all}
 use Rattle.region_algebra.specs.Space.{cell_total, region_total}
 use Rattle.fact_records.specs.declared.shape.Kind.TheVariants as kind
 use Rattle.fact_records.specs.declared.shape.Measure.{Measure}
-use Rattle.fact_records.specs.Shape.{MAX_WIDTH}
 use Rattle.schema_text.specs.declared.word.SchemaWord.{SchemaWord}
 use Rattle.schema_text.specs.declared.word.SchemaWord.TheVariants.{Cube, Policy, Number, Dimension as DimensionWord, Node, End}
 use Rattle.schema_text.specs.declared.word.PolicyWord.{PolicyWord}
@@ -53,25 +53,12 @@ may_follow (Some Node) DimensionWord = true
 may_follow (Some Node) End = true
 may_follow before word = false
 
--- the number of fields of a line, the word included
-abbrev pub field_count_of : SchemaWord → ℕ
-field_count_of Cube = 2
-field_count_of Policy = 2
-field_count_of Number = 2
-field_count_of DimensionWord = 2
-field_count_of Node = 3
-field_count_of End = 1
-
--- the most dimensions
-abbrev pub MAX_DIMS : ℕ
-MAX_DIMS = 6
-
 -- A schema while its lines are read: the word of the last line, what the lines said, the dimensions that are ended, and
 -- the nodes so far of the dimension that was named last.
 pub record Draft : Type 0 where
   pub last : Option SchemaWord
   pub policy : PolicyWord
-  pub measures : List (List ℕ)
+  pub measures : List Measure
   pub names : List (List ℕ)
   pub dims : List Dimension
   pub nodes : List NodeLine
@@ -105,8 +92,17 @@ is_wrong_depth (node ∷ next ∷ nodes) depth = is_wrong_depth (next ∷ nodes)
 
 -- Conditions on a line of a word, whose fields are given with the word first.
 
+-- the fields are too few or too many
+abbrev pub has_wrong_count : List (List ℕ) → SchemaWord → Bool
+has_wrong_count fields Cube = not (length fields == 2)
+has_wrong_count fields Policy = not (length fields == 2)
+has_wrong_count fields Number = not (length fields == 2)
+has_wrong_count fields DimensionWord = not (length fields == 2)
+has_wrong_count fields Node = not (length fields == 3)
+has_wrong_count fields End = not (length fields == 1)
+
 abbrev pub has_wrong_name : Draft → List (List ℕ) → SchemaWord → Bool
-has_wrong_name draft fields Number = is_wrong_name (field_at fields 1) draft.measures
+has_wrong_name draft fields Number = is_wrong_name (field_at fields 1) (map (λ m. m.name) draft.measures)
 has_wrong_name draft fields DimensionWord = is_wrong_name (field_at fields 1) draft.names
 has_wrong_name draft fields Node = is_wrong_name (field_at fields 2) (map (λ n. n.name) draft.nodes)
 has_wrong_name draft fields word = false
@@ -126,23 +122,23 @@ has_wrong_depth draft fields word = false
 
 -- the line would pass a limit: a column beyond seven beside the count, a seventh dimension, or a node too many
 abbrev pub has_no_room : Draft → List (List ℕ) → SchemaWord → Bool
-has_no_room draft fields Number = nat_le MAX_WIDTH (length draft.measures)
+has_no_room draft fields Number = nat_le MAX_COLS (width_of_all draft.measures)
 has_no_room draft fields DimensionWord = nat_le MAX_DIMS (length draft.names)
 has_no_room draft fields Node = nat_le MAX_NODES (length draft.nodes)
 has_no_room draft fields word = false
 
 abbrev pub has_many_cells : Draft → List (List ℕ) → SchemaWord → Bool
-has_many_cells draft fields End = nat_le LIMIT (cell_total (dims_of draft))
+has_many_cells draft fields End = nat_le SPACE_LIMIT (cell_total (dims_of draft))
 has_many_cells draft fields word = false
 
 abbrev pub has_many_regions : Draft → List (List ℕ) → SchemaWord → Bool
-has_many_regions draft fields End = nat_le LIMIT (region_total (dims_of draft))
+has_many_regions draft fields End = nat_le SPACE_LIMIT (region_total (dims_of draft))
 has_many_regions draft fields word = false
 
 -- the conditions that refuse a line of a word that may stand here, in their order
 abbrev pub word_conditions : Draft → List (List ℕ) → SchemaWord → List (Bool × Code)
 word_conditions draft fields word =
-    (not (length fields == field_count_of word), code.Fields)
+    (has_wrong_count fields word, code.Fields)
     ∷ (has_wrong_name draft fields word, code.Name)
     ∷ (has_wrong_policy draft fields word, code.Policy)
     ∷ (has_wrong_number draft fields word, code.Number)
@@ -163,6 +159,10 @@ line_fault draft line =
     if is_long line then Some code.Long
     else (if is_clean (without_cr line) then fields_fault draft fields (word_named (field_at fields 0)) else Some code.Text)
 
+-- the number measure of a name, whose column follows those of the measures before it
+abbrev pub number_measure : List Measure → List ℕ → Measure
+number_measure before name = record { name = name; kind = kind.Number; first_col = 1 + width_of_all before }
+
 -- the node of a line
 abbrev pub node_of_fields : List (List ℕ) → NodeLine
 node_of_fields fields = record { depth = unwrap_or (number_in 0 MAX_DEPTH (field_at fields 1)) 0; name = field_at fields 2 }
@@ -171,7 +171,7 @@ node_of_fields fields = record { depth = unwrap_or (number_in 0 MAX_DEPTH (field
 abbrev pub with_word : Draft → List (List ℕ) → SchemaWord → Draft
 with_word draft fields Cube = record draft { last = Some Cube }
 with_word draft fields Policy = record draft { last = Some Policy; policy = unwrap_or (policy_named (field_at fields 1)) Uniform }
-with_word draft fields Number = record draft { last = Some Number; measures = draft.measures ++ field_at fields 1 ∷ [] }
+with_word draft fields Number = record draft { last = Some Number; measures = draft.measures ++ number_measure draft.measures (field_at fields 1) ∷ [] }
 with_word draft fields DimensionWord = record draft { last = Some DimensionWord; names = draft.names ++ field_at fields 1 ∷ []; dims = dims_of draft; nodes = [] }
 with_word draft fields Node = record draft { last = Some Node; nodes = draft.nodes ++ node_of_fields fields ∷ [] }
 with_word draft fields End = record draft { last = Some End }
@@ -180,14 +180,9 @@ with_word draft fields End = record draft { last = Some End }
 abbrev pub with_line : Draft → List ℕ → Draft
 with_line draft line = let fields = fields_of (without_cr line) in option_map_or (with_word draft fields) (word_named (field_at fields 0)) draft
 
--- number measures of these names, from a column on
-abbrev pub number_measures : ℕ → List (List ℕ) → List Measure
-number_measures column [] = []
-number_measures column (name ∷ names) = record { name = name; kind = kind.Number; first_col = column } ∷ number_measures (column + 1) names
-
 -- the schema of a draft whose last line was accepted
 abbrev pub schema_of_draft : Draft → SchemaValue
-schema_of_draft draft = record { policy = draft.policy; measures = number_measures 1 draft.measures; names = draft.names; dims = dims_of draft }
+schema_of_draft draft = record { policy = draft.policy; measures = draft.measures; names = draft.names; dims = dims_of draft }
 
 -- the line that ends a schema
 abbrev pub is_end : List ℕ → Bool

@@ -15,10 +15,9 @@ mod word;
 mod write;
 
 pub use laws::what_is_written_is_read;
-pub use line::{field_at, field_count, is_clean, is_long, is_skipped, without_cr};
+pub use line::{clean_text, field_count, is_long, is_skipped, without_cr};
 pub use lines::first_line_of;
 pub use read::read_schema;
 pub use schema::{Schema, SchemaFault};
-pub use slices::{is_text, split_once};
 pub use word::PolicyWord;
 pub use write::write_schema;

@@ -1,7 +1,6 @@
 //! A line of a text that users write.
-ghost use Rattle.std.specs.Prelude.{◌≡◌, ◌==◌, ◌||◌, length};
+ghost use Rattle.std.specs.Prelude.{◌≡◌, ◌==◌, ◌||◌, length, IfSome, is_some};
 ghost use Rattle.std.specs.List.{list_all};
-ghost use Rattle.std.specs.Str.{is_utf8};
 ghost use Rattle.cube_base.specs.Name.{is_name_byte};
 ghost use Rattle.cube_model.specs.Text.{fields_of};
 ghost use Rattle.schema_text.specs.LineText.{field_at, is_clean, is_long, is_skipped, without_cr};
@@ -38,21 +37,22 @@ pub fn is_long(line: &[u8]) -> bool
     line.len() > MAX_LINE
 }
 
+/// The line as a text: None exactly where it is not UTF-8, or has a byte below 32 other than TAB, or 127.
+pub fn clean_text(line: &[u8]) -> Option<&str>
+    ensures clean { is_some result ≡ is_clean line.now }
+    ensures text { IfSome result (λ text. text.now ≡ line.now) }
+{
+    let Ok(text) = str::from_utf8(line) else {
+        return None;
+    };
+    if are_clean(line) { Some(text) } else { None }
+}
+
 /// Whether a line is UTF-8 with no byte below 32 but TAB, and no 127.
 pub fn is_clean(line: &[u8]) -> bool
     ensures { result ≡ is_clean line.now }
 {
-    is_utf8(line) && are_clean(line)
-}
-
-/// Whether bytes are UTF-8.
-fn is_utf8(bytes: &[u8]) -> bool
-    ensures { result ≡ is_utf8 bytes.now }
-{
-    match str::from_utf8(bytes) {
-        Ok(_) => true,
-        Err(_) => false,
-    }
+    clean_text(line).is_some()
 }
 
 /// Whether each byte may stand in a line.

@@ -4,7 +4,7 @@ ghost use Rattle.std.specs.Str.{bytes_eq};
 ghost use Rattle.cube_base.specs.Name.{is_name};
 ghost use Rattle.schema_text.specs.SchemaText.{is_among_names, is_wrong_name};
 
-use cube_base::{Memory, Name, has_name_bytes};
+use cube_base::{Memory, Name};
 use std::alloc::Global;
 use std::str;
 
@@ -13,7 +13,7 @@ pub fn is_name(bytes: &[u8]) -> bool
     ensures { result ≡ is_name bytes.now }
 {
     match str::from_utf8(bytes) {
-        Ok(text) => has_name_bytes(text),
+        Ok(text) => cube_base::is_name(text),
         Err(_) => false,
     }
 }
@@ -33,7 +33,7 @@ fn is_among_names(bytes: &[u8], names: &[Name]) -> bool
 }
 
 /// Whether a name has these bytes.
-fn has_bytes(name: &Name, bytes: &[u8]) -> bool
+pub fn has_bytes(name: &Name, bytes: &[u8]) -> bool
     ensures { result ≡ bytes_eq name.now bytes.now }
 {
     name.text().as_bytes() == bytes

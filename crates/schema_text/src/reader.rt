@@ -2,25 +2,27 @@
 ghost use Rattle.std.specs.Prelude.{◌≡◌, ◌≢◌, ◌<◌, ◌≤◌, ◌++◌, ◌∷◌, [], false, is_none, length, map, nat_le, true, None, Some, if◌then◌else◌, IfOk, IfErr, OnOk, string_bytes, unwrap_or};
 ghost use Rattle.std.specs.Option.{option_map_or};
 ghost use Rattle.std.specs.Prelude.{codes};
+ghost use Rattle.std.specs.List.{list_any};
 ghost use Rattle.std.specs.Str.{bytes_eq};
 ghost use Rattle.cube_base.specs.declared.code.Code.TheVariants as code;
 ghost use Rattle.cube_model.specs.Accepted.{first_that_holds};
+ghost use Rattle.cube_model.specs.Limits.{MAX_COLS, MAX_DEPTH, MAX_DIMS, MAX_NODES};
 ghost use Rattle.cube_model.specs.Text.{fields_of, number_in};
-ghost use Rattle.cube_model.specs.Tree.{MAX_NODES, numbered, MAX_DEPTH};
-ghost use Rattle.fact_records.specs.Shape.{MAX_WIDTH};
+ghost use Rattle.cube_model.specs.Tree.{numbered};
+ghost use Rattle.fact_records.specs.Shape.{width_of_all};
 ghost use Rattle.schema_text.specs.declared.word.PolicyWord.TheVariants as policy_word;
 ghost use Rattle.schema_text.specs.declared.word.SchemaWord.TheVariants as schema_word;
-ghost use Rattle.schema_text.specs.Draft.{AreNames, end_fault};
+ghost use Rattle.schema_text.specs.Draft.{end_fault};
 ghost use Rattle.schema_text.specs.Fault.{IsCauseAt};
-ghost use Rattle.schema_text.specs.SchemaText.{MAX_DIMS, blank_draft, dims_of, ended, is_among_names, is_end, is_wrong_depth, is_wrong_name, line_fault, may_follow, number_measures, policy_named, schema_of_draft, with_line, word_conditions};
+ghost use Rattle.schema_text.specs.SchemaText.{blank_draft, dims_of, ended, is_among_names, is_end, is_wrong_depth, is_wrong_name, line_fault, may_follow, number_measure, policy_named, schema_of_draft, with_line, word_conditions};
 
-use crate::line::{field_at, field_count, is_clean, is_long, without_cr};
-use crate::name::{is_wrong_name, name_of};
+use crate::line::{field_at, is_clean, is_long, without_cr};
+use crate::name::{has_bytes, is_name, is_wrong_name, name_of};
 use crate::schema::{Schema, SchemaFault};
 use crate::slices::is_text;
-use crate::word::{PolicyWord, SchemaWord, field_count_of, may_follow, policy_named, word_named};
-use cube_base::{Code, Memory, Name, Names, has_name_bytes};
-use cube_model::{MAX_DIMS, NodeLine};
+use crate::word::{PolicyWord, SchemaWord, has_wrong_count, may_follow, policy_named, word_named};
+use cube_base::{Code, MAX_COLS, Memory, Name, Names};
+use cube_model::{MAX_DEPTH, MAX_DIMS, MAX_NODES, NodeLine};
 use dim_tree::Dim;
 use fact_records::{Kind, Measure, Shape, number_in};
 use indexmap::IndexSet;
@@ -29,23 +31,15 @@ use std::alloc::Global;
 use std::marker::Model;
 use std::str;
 
-/// The most nodes of a dimension.
-const MAX_NODES: usize = 65_536;
-
-/// The deepest node.
-const MAX_DEPTH: u64 = 8;
-
-/// The most columns beside the count.
-const MAX_WIDTH: usize = 7;
-
 /// What accepted lines of a schema say. Contracts see the draft.
 #[derive(Drop)]
 pub struct Reader {
     /// The word of the last line.
     last: Option<SchemaWord>,
     policy: PolicyWord,
-    /// The names of the measures.
-    measures: Vec<Name>,
+    measures: Vec<Measure>,
+    /// The number of columns of the measures.
+    columns: usize,
     /// The names of the dimensions.
     names: Vec<Name>,
     /// The dimensions that are ended: all but the one that was named last.
@@ -66,7 +60,7 @@ impl Model for Reader {
 
     ghost view = { λ r. record { last = r.last; policy = r.policy; measures = r.measures.items; names = r.names.items; dims = r.dims.items; nodes = r.nodes.items } };
 
-    ghost invariant = { λ r. IsDraft (record { last = r.last; policy = r.policy; measures = r.measures.items; names = r.names.items; dims = r.dims.items; nodes = r.nodes.items }) (map string_bytes r.known.keys) };
+    ghost invariant = { λ r. IsDraft (record { last = r.last; policy = r.policy; measures = r.measures.items; names = r.names.items; dims = r.dims.items; nodes = r.nodes.items }) (map string_bytes r.known.keys) r.columns };
 }
 
 impl Reader {
@@ -78,6 +72,7 @@ impl Reader {
             last: None,
             policy: PolicyWord::Uniform,
             measures: Vec::new(alloc),
+            columns: 0,
             names: Vec::new(alloc),
             dims: Vec::new(alloc),
             nodes: Vec::new(alloc),
@@ -108,7 +103,7 @@ impl Reader {
         requires { word ≡ schema_word.End → length (fields_of line.now) ≢ 1 }
         ensures { result ≡ first_that_holds (word_conditions self.now (fields_of line.now) word) }
     {
-        if field_count(line) != field_count_of(word) {
+        if has_wrong_count(line, word) {
             return Some(Code::Fields);
         }
         match word {
@@ -123,12 +118,12 @@ impl Reader {
 
     /// Why a measure of a name may not come next.
     fn measure_fault(&self, name: &[u8]) -> Option<Code>
-        ensures { result ≡ (if is_wrong_name name.now self.now.measures then Some code.Name
-            else (if nat_le MAX_WIDTH (length self.now.measures) then Some code.Limit else None)) }
+        ensures { result ≡ (if is_wrong_name name.now (map (λ m. m.name) self.now.measures) then Some code.Name
+            else (if nat_le MAX_COLS (width_of_all self.now.measures) then Some code.Limit else None)) }
     {
-        if is_wrong_name(name, &self.measures) {
+        if self.is_wrong_measure(name) {
             Some(Code::Name)
-        } else if self.measures.len() >= MAX_WIDTH {
+        } else if self.columns >= MAX_COLS {
             Some(Code::Limit)
         } else {
             None
@@ -149,12 +144,19 @@ impl Reader {
         }
     }
 
+    /// Whether bytes are no name, or that of a measure.
+    fn is_wrong_measure(&self, name: &[u8]) -> bool
+        ensures { result ≡ is_wrong_name name.now (map (λ m. m.name) self.now.measures) }
+    {
+        !is_name(name) || is_among_measures(name, &self.measures)
+    }
+
     /// Whether bytes are no name, or that of a node of the dimension.
     fn is_wrong_node(&self, name: &[u8]) -> bool
         ensures { result ≡ is_wrong_name name.now (map (λ n. n.name) self.now.nodes) }
     {
         match str::from_utf8(name) {
-            Ok(name) => !has_name_bytes(name) || self.known.contains(name),
+            Ok(name) => !cube_base::is_name(name) || self.known.contains(name),
             Err(_) => true,
         }
     }
@@ -179,7 +181,7 @@ impl Reader {
         if self.is_wrong_node(name) {
             return Some(Code::Name);
         }
-        let Some(depth) = number_in(depth, 0, MAX_DEPTH) else {
+        let Some(depth) = number_in(depth, 0, u64::from(MAX_DEPTH)) else {
             return Some(Code::Number);
         };
         if self.is_wrong_depth(depth) {
@@ -225,6 +227,7 @@ impl Reader {
             last: _,
             policy,
             measures,
+            columns: _,
             names,
             mut dims,
             nodes,
@@ -233,7 +236,7 @@ impl Reader {
         end_dimension(alloc, &nodes, &mut dims)?;
         match Space::new(alloc, dims) {
             Ok(space) => {
-                let shape = shape_of(alloc, measures)?;
+                let shape = Shape::new(measures);
                 Ok(Schema::new(space, shape, policy, Names::from(names)))
             }
             Err(SpaceFault::Dims { .. }) => unreachable!(),
@@ -271,11 +274,16 @@ impl Reader {
     /// What is said with a measure more.
     fn with_measure(mut self, alloc: Global, name: &[u8]) -> Result<Self, Memory>
         requires follows { may_follow self.last schema_word.Number ≡ true }
-        requires named { is_wrong_name name.now self.measures ≡ false }
-        requires room { length self.measures < MAX_WIDTH }
-        ensures { IfOk result (λ next. next ≡ record self { last = Some schema_word.Number; measures = self.measures ++ name.now ∷ [] }) }
+        requires named { is_wrong_name name.now (map (λ m. m.name) self.measures) ≡ false }
+        requires room { width_of_all self.measures < MAX_COLS }
+        ensures { IfOk result (λ next. next ≡ record self { last = Some schema_word.Number; measures = self.measures ++ number_measure self.measures name.now ∷ [] }) }
     {
-        self.measures.push(name_of(alloc, name)?)?;
+        self.columns += 1;
+        self.measures.push(Measure {
+            name: name_of(alloc, name)?,
+            kind: Kind::Number,
+            first_col: self.columns as u32,
+        })?;
         self.last = Some(SchemaWord::Number);
         Ok(self)
     }
@@ -303,7 +311,7 @@ impl Reader {
         requires number { is_none (number_in 0 MAX_DEPTH depth.now) ≡ false }
         ensures { IfOk result (λ next. next ≡ record self { last = Some schema_word.Node; nodes = self.nodes ++ (record { depth = unwrap_or (number_in 0 MAX_DEPTH depth.now) 0; name = name.now }) ∷ [] }) }
     {
-        let depth = number_in(depth, 0, MAX_DEPTH).unwrap() as u8;
+        let depth = number_in(depth, 0, u64::from(MAX_DEPTH)).unwrap() as u8;
         let name = name_of(alloc, name)?;
         add_known(alloc, &mut self.known, &name)?;
         self.nodes.push(NodeLine { depth, name })?;
@@ -333,23 +341,18 @@ fn policy_fault(policy: &[u8]) -> Option<Code>
     }
 }
 
-/// Number measures of these names.
-fn shape_of(alloc: Global, names: Vec<Name>) -> Result<Shape, Memory>
-    requires names { AreNames names.items }
-    requires few { length names.items ≤ MAX_WIDTH }
-    ensures { IfOk result (λ shape. shape ≡ number_measures 1 names.items) }
+/// Whether bytes are the name of one of these measures.
+fn is_among_measures(bytes: &[u8], measures: &[Measure]) -> bool
+    ensures { result ≡ list_any (λ m. bytes_eq m.name bytes.now) measures.now }
 {
-    let mut measures = Vec::with_capacity(alloc, names.len())?;
-    let mut column = 1;
-    for name in names {
-        measures.push(Measure {
-            name,
-            kind: Kind::Number,
-            first_col: column,
-        })?;
-        column += 1;
-    }
-    Ok(Shape::new(measures))
+    measures.iter().any(|measure| is_named(measure, bytes))
+}
+
+/// Whether these bytes are the name of a measure.
+fn is_named(measure: &Measure, bytes: &[u8]) -> bool
+    ensures { result ≡ bytes_eq measure.now.name bytes.now }
+{
+    has_bytes(&measure.name, bytes)
 }
 
 /// Keeps a name that is none of these.

@@ -2,8 +2,7 @@
 ghost use Rattle.std.specs.Prelude.{◌≡◌, All, length, true};
 ghost use Rattle.cube_base.specs.Name.{is_name};
 ghost use Rattle.fact_records.specs.declared.shape.Kind.TheVariants as kind;
-ghost use Rattle.schema_text.specs.Draft.{AreNames};
-ghost use Rattle.schema_text.specs.Schema.{IsSchema};
+ghost use Rattle.schema_text.specs.Schema.{AreNames, IsSchema};
 
 use crate::word::PolicyWord;
 use cube_base::{Code, Memory, Name, Names};
@@ -14,7 +13,8 @@ use std::marker::Model;
 /// Why a text is refused as a schema.
 #[derive(Clone, Copy, Debug, PartialEq, Eq)]
 pub enum SchemaFault {
-    /// A line, counted from 1, is refused.
+    /// The first line at fault, counted from 1, and why it is refused. A text that ends before its `end` is at fault in
+    /// the line behind its last.
     Bad { line: u64, code: Code },
     /// Want of memory.
     Memory,
@@ -31,7 +31,9 @@ impl From<Memory> for SchemaFault {
     }
 }
 
-/// A schema: the policy, the measures, and the dimensions with their names.
+/// A schema: the policy, the measures, and the dimensions with their names. It has 1 to 6 dimensions, which have distinct
+/// names and are a space, and its measures are number measures, 0 to 7 of them. Contracts see the policy, the list of the
+/// measures, the list of the dimensions' names and the list of the dimensions, each in the order of the text.
 #[derive(Drop)]
 pub struct Schema {
     space: Space,

@@ -1,8 +1,9 @@
 //! The words that a schema is made of.
 ghost use Rattle.std.specs.Prelude.{◌≡◌};
-ghost use Rattle.schema_text.specs.SchemaText.{field_count_of, is_end, may_follow, policy_named, policy_word, word_named};
+ghost use Rattle.cube_model.specs.Text.{fields_of};
+ghost use Rattle.schema_text.specs.SchemaText.{has_wrong_count, is_end, may_follow, policy_named, policy_word, word_named};
 
-use crate::line::without_cr;
+use crate::line::{field_count, without_cr};
 use crate::slices::is_text;
 
 /// The first field of a line of a schema.
@@ -100,13 +101,16 @@ pub fn may_follow(before: Option<SchemaWord>, word: SchemaWord) -> bool
     }
 }
 
-/// The number of fields of a line of a word.
-pub fn field_count_of(word: SchemaWord) -> usize
-    ensures { result ≡ field_count_of word }
+/// Whether a line of a word has too few or too many fields.
+pub fn has_wrong_count(line: &[u8], word: SchemaWord) -> bool
+    ensures { result ≡ has_wrong_count (fields_of line.now) word }
 {
+    let count = field_count(line);
     match word {
-        SchemaWord::Cube | SchemaWord::Policy | SchemaWord::Number | SchemaWord::Dimension => 2,
-        SchemaWord::Node => 3,
-        SchemaWord::End => 1,
+        SchemaWord::Cube | SchemaWord::Policy | SchemaWord::Number | SchemaWord::Dimension => {
+            count != 2
+        }
+        SchemaWord::Node => count != 3,
+        SchemaWord::End => count != 1,
     }
 }

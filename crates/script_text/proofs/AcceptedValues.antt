@@ -1,6 +1,7 @@
 -- Values that fields give are such as a fact may have.
-use Rattle.std.proofs.Common.{◌≡◌, ℕ, ◌+◌, ◌-◌, Bool, true, false, List, [], ◌∷◌, ◌++◌, length, take, drop, refl, sym, ap, ◌∙◌, arith, append_assoc, eq-eqb, length-append, Option, Some, None, Result, Ok, Err, ℤ}
-use Rattle.std.specs.Prelude.{◌==◌, if◌then◌else◌, is_none, unwrap_or}
+use Rattle.std.proofs.Common.{◌≡◌, ℕ, ◌+◌, ◌-◌, Bool, true, false, List, [], ◌∷◌, ◌++◌, length, take, refl, ap, ◌∙◌, arith, append_assoc, eq-eqb, length-append, Option, Some, None, Ok, Err, ℤ}
+use Rattle.std.specs.Prelude.{if◌then◌else◌, is_none, unwrap_or}
+use Rattle.std.proofs.lemmas.Bool.{or_parts}
 use Rattle.std.proofs.lemmas.List.{drop_at, take_at}
 use Rattle.cube_base.specs.declared.code.Code.TheVariants as code
 use Rattle.fact_records.specs.declared.shape.Kind.{Kind}
@@ -12,11 +13,6 @@ use Rattle.fact_records.specs.Values.{values_in}
 use Rattle.script_text.specs.ScriptLine.{is_wrong_number, is_wrong_parts, some_wrong, values_given}
 use Rattle.script_text.specs.Steps.{cols_in}
 use Rattle.script_text.proofs.GivenValues.{values_in-given}
-
--- neither test holds
-neither : (a b : Bool) → (if a then true else b) ≡ false → (a ≡ false) × (b ≡ false)
-neither true b e = cc
-neither false b e = (refl, e)
 
 -- a field that is not wrong gives values
 record HasValues (kind : Kind) (field : List ℕ) : Type 0 where
@@ -48,8 +44,8 @@ accepted : (first : ℕ) (measures : List Measure) (fields : List (List ℕ)) (b
 accepted first [] fields before order column count numbers parts = record { width = refl; small = refl; whole = refl }
 accepted first (m ∷ measures) [] before order column count numbers parts = absurd (omega arith)
 accepted first (m ∷ measures) (field ∷ fields) before order column count numbers parts =
-    let number = neither (is_wrong_number m.kind field) (some_wrong is_wrong_number measures fields) numbers in
-    let part = neither (is_wrong_parts m.kind field) (some_wrong is_wrong_parts measures fields) parts in
+    let number = or_parts (is_wrong_number m.kind field) (some_wrong is_wrong_number measures fields) numbers in
+    let part = or_parts (is_wrong_parts m.kind field) (some_wrong is_wrong_parts measures fields) parts in
     let has = not_wrong m.kind field number.0 part.0 in
     let given = values_in-given m.kind field has.values has.given in
     let later = values_given measures fields in

@@ -5,8 +5,8 @@ use Rattle.std.proofs.Math.Seq.{take-append_seam}
 use Rattle.std.proofs.lemmas.List.{append-nil, map-append, take-append-drop, take_all, take_more}
 use Rattle.std.proofs.lemmas.List.Concat.{flat_map-append}
 use Rattle.cube_model.specs.declared.term.Term.{Term}
-use Rattle.cube_model.specs.Replies.{term_fields}
-use Rattle.script_text.specs.Reply.{Keeps, fields_text, numerators_of}
+use Rattle.script_text.specs.Reply.{term_fields}
+use Rattle.script_text.specs.ReplySteps.{Keeps, fields_text, numerators_of}
 
 -- what holds anyway holds at an error
 pub always : {T E P : Type 0} (r : Result T E) → P → OnErr r P

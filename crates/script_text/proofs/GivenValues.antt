@@ -1,21 +1,17 @@
 -- What a field gives a measure: as many values as it has columns, and such as are accepted.
-use Rattle.std.proofs.Common.{◌≡◌, ℕ, zero, suc, ◌+◌, ◌-◌, ◌<◌, ◌≤◌, Bool, true, false, List, [], ◌∷◌, ◌++◌, length, take, drop, map, refl, sym, ap, ◌∙◌, arith, append_assoc, length-append, Option, Some, None, ℤ, pos}
-use Rattle.std.specs.Prelude.{◌==◌, ◌&&◌, ◌||◌, if◌then◌else◌, nat_le, nat_lt, int_lt, neg_ℤ, unsigned_abs, not, is_none, unwrap_or}
+use Rattle.std.proofs.Common.{◌≡◌, ℕ, zero, suc, ◌≤◌, Bool, true, false, List, [], ◌∷◌, length, map, refl, arith, Option, Some, None, ℤ, pos}
+use Rattle.std.specs.Prelude.{◌==◌, ◌&&◌, if◌then◌else◌, nat_le, nat_lt, int_lt, neg_ℤ, unsigned_abs}
 use Rattle.std.specs.Option.{option_and_then, option_map}
 use Rattle.std.specs.List.{list_any, slice_split}
 use Rattle.std.specs.Str.Parse.{digits_value}
-use Rattle.std.proofs.lemmas.Bool.{ne_eqb}
 use Rattle.std.proofs.lemmas.Bool.Decides.{nat_tests}
-use Rattle.std.proofs.lemmas.List.{drop_at, take_at}
-use Rattle.cube_base.specs.declared.code.Code.TheVariants as code
+use Rattle.cube_model.specs.Limits.{MAX_VALUE}
 use Rattle.cube_model.specs.Text.{is_number, number_in}
 use Rattle.fact_records.specs.declared.shape.Kind.{Kind}
 use Rattle.fact_records.specs.declared.shape.Kind.TheVariants.{Number, Parts}
-use Rattle.fact_records.specs.declared.shape.Measure.{Measure}
-use Rattle.fact_records.specs.Accepted.{cols_refusal, has_large_value, has_wrong_parts, is_large, is_no_distribution}
-use Rattle.fact_records.specs.Shape.{AreInOrder, values_of, width_of, width_of_all}
-use Rattle.fact_records.specs.Values.{MAX_VALUE, all_of, part_in, parts_in, signed_number_in, sums_to, values_in}
-use Rattle.script_text.specs.ScriptLine.{is_wrong_number, is_wrong_parts, some_wrong, values_given}
+use Rattle.fact_records.specs.Accepted.{is_large, is_no_distribution}
+use Rattle.fact_records.specs.Shape.{width_of}
+use Rattle.fact_records.specs.Values.{all_of, part_in, parts_in, signed_number_in, sums_to, values_in}
 
 -- a number is at most the greatest
 number_in-most : (least most n : ℕ) (bytes : List ℕ) → number_in least most bytes ≡ Some n → n ≤ most
@@ -32,25 +28,22 @@ unsigned_abs-neg : (n : ℕ) → unsigned_abs (neg_ℤ (pos n)) ≡ n
 unsigned_abs-neg zero = refl
 unsigned_abs-neg (suc n) = refl
 
-minus_within : (number : Option ℕ) (value : ℤ) → ((n : ℕ) → number ≡ Some n → n ≤ MAX_VALUE) → option_map (λ n. neg_ℤ (pos n)) number ≡ Some value → unsigned_abs value ≤ MAX_VALUE
-minus_within None value most e = cc
-minus_within (Some n) value most e =
-    let same : neg_ℤ (pos n) ≡ value = cc in
-    rw (← same, unsigned_abs-neg) (most n refl)
-
-plus_within : (number : Option ℕ) (value : ℤ) → ((n : ℕ) → number ≡ Some n → n ≤ MAX_VALUE) → option_map (λ n. pos n) number ≡ Some value → unsigned_abs value ≤ MAX_VALUE
-plus_within None value most e = cc
-plus_within (Some n) value most e =
-    let same : pos n ≡ value = cc in
-    rw (← same) (most n refl)
+value_within : (signed : ℕ → ℤ) → ((n : ℕ) → unsigned_abs (signed n) ≡ n) → (least : ℕ) (bytes : List ℕ) (value : ℤ) → option_map signed (number_in least MAX_VALUE bytes) ≡ Some value → unsigned_abs value ≤ MAX_VALUE
+value_within signed size least bytes value e = by_number (number_in least MAX_VALUE bytes) refl e
+  where
+    by_number : (number : Option ℕ) → number_in least MAX_VALUE bytes ≡ number → option_map signed number ≡ Some value → unsigned_abs value ≤ MAX_VALUE
+    by_number None is e = cc
+    by_number (Some n) is e =
+        let same : signed n ≡ value = cc in
+        rw (← same, size n) (number_in-most least MAX_VALUE n bytes is)
 
 signed_within : (field : List ℕ) (value : ℤ) → signed_number_in MAX_VALUE field ≡ Some value → unsigned_abs value ≤ MAX_VALUE
 signed_within [] value e = cc
 signed_within (b ∷ bytes) value e = within (b == 45) e
   where
     within : (minus : Bool) → (if minus then option_map (λ n. neg_ℤ (pos n)) (number_in 1 MAX_VALUE bytes) else option_map (λ n. pos n) (number_in 0 MAX_VALUE (b ∷ bytes))) ≡ Some value → unsigned_abs value ≤ MAX_VALUE
-    within true e = minus_within (number_in 1 MAX_VALUE bytes) value (λ n. number_in-most 1 MAX_VALUE n bytes) e
-    within false e = plus_within (number_in 0 MAX_VALUE (b ∷ bytes)) value (λ n. number_in-most 0 MAX_VALUE n (b ∷ bytes)) e
+    within true e = value_within (λ n. neg_ℤ (pos n)) unsigned_abs-neg 1 bytes value e
+    within false e = value_within (λ n. pos n) (λ n. refl) 0 (b ∷ bytes) value e
 
 -- parts that are taken are as many as the outcomes, none of them below 0, and add up to the scale
 record AreParts (count scale : ℕ) (values : List ℤ) : Type 0 where

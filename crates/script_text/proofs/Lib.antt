@@ -3,7 +3,6 @@ pub mod Appending
 pub mod Cuts
 pub mod FieldWalks
 pub mod GivenValues
-pub mod LineBytes
 pub mod LineSteps
 pub mod NodeFields
 pub mod RowNames

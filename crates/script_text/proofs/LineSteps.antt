@@ -1,22 +1,22 @@
 -- What the steps say is what the definition says of all fields.
-use Rattle.std.proofs.Common.{◌≡◌, ℕ, zero, suc, ◌+◌, Bool, true, false, List, [], ◌∷◌, length, take, drop, refl, sym, ap, ◌∙◌, eq-eqb, ne_eqb, arith, Option, Some, None, Result, Ok, Err, ℤ}
-use Rattle.std.specs.Prelude.{◌==◌, ◌≢◌, if◌then◌else◌, is_none, not, ok_or, unwrap_or}
+use Rattle.std.proofs.Common.{◌≡◌, ℕ, zero, suc, ◌+◌, Bool, true, false, List, [], ◌∷◌, length, take, drop, refl, sym, ap, ◌∙◌, eq-eqb, ne_eqb, arith, Option, Some, None, Ok, Err, ℤ}
+use Rattle.std.specs.Prelude.{◌≢◌, if◌then◌else◌, is_none, ok_or, unwrap_or}
 use Rattle.std.specs.Option.{option_map_or}
-use Rattle.cube_base.specs.declared.code.Code.{Code}
 use Rattle.cube_base.specs.declared.code.Code.TheVariants as code
 use Rattle.cube_model.specs.declared.edit.Fact.{Fact}
 use Rattle.cube_model.specs.declared.edit.Edit.TheVariants as edit
 use Rattle.cube_model.specs.Accepted.{first_that_holds}
-use Rattle.cube_model.specs.Facts.{MIN_ID, MAX_ID}
+use Rattle.cube_model.specs.Limits.{MAX_ID, MIN_ID}
 use Rattle.cube_model.specs.Text.{fields_of, number_in}
+use Rattle.cube_model.specs.Tree.{Dimension}
+use Rattle.fact_records.specs.declared.shape.Measure.{Measure}
 use Rattle.schema_text.specs.LineText.{field_at, is_clean, is_long, is_skipped, without_cr}
-use Rattle.schema_text.specs.Schema.{SchemaValue}
 use Rattle.script_text.specs.declared.line.Line.{Line}
 use Rattle.script_text.specs.declared.line.Line.TheVariants as line
 use Rattle.script_text.specs.declared.line.ScriptWord.{ScriptWord}
 use Rattle.script_text.specs.declared.line.ScriptWord.TheVariants.{Insert, Change, Withdraw, Terms, Rows}
 use Rattle.script_text.specs.ScriptLine.{command_named, field_count_of, fields_line, is_wrong_number, is_wrong_parts, line_of, nodes_named, some_wrong, values_given}
-use Rattle.script_text.specs.Steps.{fact_with, line_in, result_then, schema_over}
+use Rattle.script_text.specs.Steps.{fact_with, line_in, result_then}
 
 -- the value or its code, by the first of the conditions that holds
 
@@ -57,59 +57,45 @@ behind_nodes n name fields =
     ap (λ k. drop k (name ∷ fields)) more ∙ drop-one n fields
 
 -- where the number of fields is right, the line says what the steps say
-pub fields_line-steps : (schema : SchemaValue) (word : ScriptWord) (name : List ℕ) (fields : List (List ℕ)) → length (name ∷ fields) ≡ field_count_of schema word
-    → fields_line schema (name ∷ fields) (Some word) ≡ line_in schema word fields
-fields_line-steps schema Insert name fields count =
-    rw (eq-eqb (length (name ∷ fields)) (field_count_of schema Insert) count, behind_nodes (length schema.dims) name fields)
-    (fact_line (λ fact. line.Edit (edit.Put fact)) (number_in MIN_ID MAX_ID (field_at fields 0)) (nodes_named schema.dims (take (length schema.dims) (drop 1 fields)))
-    (some_wrong is_wrong_number schema.measures (drop (length schema.dims) (drop 1 fields))) (some_wrong is_wrong_parts schema.measures (drop (length schema.dims) (drop 1 fields)))
-    (values_given schema.measures (drop (length schema.dims) (drop 1 fields))))
-fields_line-steps schema Change name fields count =
-    rw (eq-eqb (length (name ∷ fields)) (field_count_of schema Change) count, behind_nodes (length schema.dims) name fields)
-    (fact_line (λ fact. line.Edit (edit.Change fact)) (number_in MIN_ID MAX_ID (field_at fields 0)) (nodes_named schema.dims (take (length schema.dims) (drop 1 fields)))
-    (some_wrong is_wrong_number schema.measures (drop (length schema.dims) (drop 1 fields))) (some_wrong is_wrong_parts schema.measures (drop (length schema.dims) (drop 1 fields)))
-    (values_given schema.measures (drop (length schema.dims) (drop 1 fields))))
-fields_line-steps schema Withdraw name fields count =
-    rw (eq-eqb (length (name ∷ fields)) (field_count_of schema Withdraw) count) (id_line (λ id. line.Edit (edit.Withdraw id)) (number_in MIN_ID MAX_ID (field_at fields 0)))
-fields_line-steps schema Terms name fields count =
-    rw (eq-eqb (length (name ∷ fields)) (field_count_of schema Terms) count) (region_line (nodes_named schema.dims (take (length schema.dims) fields)))
-fields_line-steps schema Rows name fields count =
-    rw (eq-eqb (length (name ∷ fields)) (field_count_of schema Rows) count) (id_line (λ id. line.Rows id) (number_in MIN_ID MAX_ID (field_at fields 0)))
+pub fields_line-steps : (dims : List Dimension) (measures : List Measure) (word : ScriptWord) (name : List ℕ) (fields : List (List ℕ)) → length (name ∷ fields) ≡ field_count_of dims measures word
+    → fields_line dims measures (name ∷ fields) (Some word) ≡ line_in dims measures word fields
+fields_line-steps dims measures Insert name fields count =
+    rw (eq-eqb (length (name ∷ fields)) (field_count_of dims measures Insert) count, behind_nodes (length dims) name fields)
+    (fact_line (λ fact. line.Edit (edit.Put fact)) (number_in MIN_ID MAX_ID (field_at fields 0)) (nodes_named dims (take (length dims) (drop 1 fields)))
+    (some_wrong is_wrong_number measures (drop (length dims) (drop 1 fields))) (some_wrong is_wrong_parts measures (drop (length dims) (drop 1 fields)))
+    (values_given measures (drop (length dims) (drop 1 fields))))
+fields_line-steps dims measures Change name fields count =
+    rw (eq-eqb (length (name ∷ fields)) (field_count_of dims measures Change) count, behind_nodes (length dims) name fields)
+    (fact_line (λ fact. line.Edit (edit.Change fact)) (number_in MIN_ID MAX_ID (field_at fields 0)) (nodes_named dims (take (length dims) (drop 1 fields)))
+    (some_wrong is_wrong_number measures (drop (length dims) (drop 1 fields))) (some_wrong is_wrong_parts measures (drop (length dims) (drop 1 fields)))
+    (values_given measures (drop (length dims) (drop 1 fields))))
+fields_line-steps dims measures Withdraw name fields count =
+    rw (eq-eqb (length (name ∷ fields)) (field_count_of dims measures Withdraw) count) (id_line (λ id. line.Edit (edit.Withdraw id)) (number_in MIN_ID MAX_ID (field_at fields 0)))
+fields_line-steps dims measures Terms name fields count =
+    rw (eq-eqb (length (name ∷ fields)) (field_count_of dims measures Terms) count) (region_line (nodes_named dims (take (length dims) fields)))
+fields_line-steps dims measures Rows name fields count =
+    rw (eq-eqb (length (name ∷ fields)) (field_count_of dims measures Rows) count) (id_line (λ id. line.Rows id) (number_in MIN_ID MAX_ID (field_at fields 0)))
 
 -- where it is another, the line is refused for it
-pub fields_line-other_count : (schema : SchemaValue) (word : ScriptWord) (fields : List (List ℕ)) → length fields ≢ field_count_of schema word
-    → Err code.Fields ≡ fields_line schema fields (Some word)
-fields_line-other_count schema word fields other = rw (ne_eqb (length fields) (field_count_of schema word) other) refl
+pub fields_line-other_count : (dims : List Dimension) (measures : List Measure) (word : ScriptWord) (fields : List (List ℕ)) → length fields ≢ field_count_of dims measures word
+    → Err code.Fields ≡ fields_line dims measures fields (Some word)
+fields_line-other_count dims measures word fields other = rw (ne_eqb (length fields) (field_count_of dims measures word) other) refl
 
 -- what a line says, by the first of its conditions that holds
 
-pub line_of-skipped : (schema : SchemaValue) (bytes : List ℕ) → true ≡ is_skipped bytes → Ok line.Nothing ≡ line_of schema bytes
+pub line_of-skipped : (dims : List Dimension) (measures : List Measure) (bytes : List ℕ) → true ≡ is_skipped bytes → Ok line.Nothing ≡ line_of dims measures bytes
 unfolding line_of
-line_of-skipped schema bytes skipped = rw (← skipped) refl
+line_of-skipped dims measures bytes skipped = rw (← skipped) refl
 
-pub line_of-long : (schema : SchemaValue) (bytes : List ℕ) → false ≡ is_skipped bytes → true ≡ is_long bytes → Err code.Long ≡ line_of schema bytes
+pub line_of-long : (dims : List Dimension) (measures : List Measure) (bytes : List ℕ) → false ≡ is_skipped bytes → true ≡ is_long bytes → Err code.Long ≡ line_of dims measures bytes
 unfolding line_of
-line_of-long schema bytes skipped long = rw (← skipped, ← long) refl
+line_of-long dims measures bytes skipped long = rw (← skipped, ← long) refl
 
-pub line_of-not_clean : (schema : SchemaValue) (bytes : List ℕ) → false ≡ is_skipped bytes → false ≡ is_long bytes → false ≡ is_clean (without_cr bytes) → Err code.Text ≡ line_of schema bytes
+pub line_of-not_clean : (dims : List Dimension) (measures : List Measure) (bytes : List ℕ) → false ≡ is_skipped bytes → false ≡ is_long bytes → false ≡ is_clean (without_cr bytes) → Err code.Text ≡ line_of dims measures bytes
 unfolding line_of
-line_of-not_clean schema bytes skipped long clean = rw (← skipped, ← long, ← clean) refl
+line_of-not_clean dims measures bytes skipped long clean = rw (← skipped, ← long, ← clean) refl
 
-pub line_of-clean : (schema : SchemaValue) (bytes text : List ℕ) → false ≡ is_skipped bytes → false ≡ is_long bytes → true ≡ is_clean (without_cr bytes) → text ≡ without_cr bytes
-    → fields_line schema (fields_of text) (command_named (field_at (fields_of text) 0)) ≡ line_of schema bytes
+pub line_of-clean : (dims : List Dimension) (measures : List Measure) (bytes text : List ℕ) → false ≡ is_skipped bytes → false ≡ is_long bytes → true ≡ is_clean (without_cr bytes) → text ≡ without_cr bytes
+    → fields_line dims measures (fields_of text) (command_named (field_at (fields_of text) 0)) ≡ line_of dims measures bytes
 unfolding line_of
-line_of-clean schema bytes text skipped long clean same = rw (same, ← skipped, ← long, ← clean) refl
-
--- a line says nothing of the policy and of the names of the dimensions
-
-fields_line-over : (schema : SchemaValue) (fields : List (List ℕ)) (word : Option ScriptWord) → fields_line (schema_over schema.dims schema.measures) fields word ≡ fields_line schema fields word
-fields_line-over schema fields None = refl
-fields_line-over schema fields (Some Insert) = refl
-fields_line-over schema fields (Some Change) = refl
-fields_line-over schema fields (Some Withdraw) = refl
-fields_line-over schema fields (Some Terms) = refl
-fields_line-over schema fields (Some Rows) = refl
-
-pub line_of-over : (schema : SchemaValue) (bytes : List ℕ) → line_of (schema_over schema.dims schema.measures) bytes ≡ line_of schema bytes
-unfolding line_of
-line_of-over schema bytes = rw (fields_line-over schema (fields_of (without_cr bytes)) (command_named (field_at (fields_of (without_cr bytes)) 0))) refl
+line_of-clean dims measures bytes text skipped long clean same = rw (same, ← skipped, ← long, ← clean) refl

@@ -1,30 +1,19 @@
--- What a term's place says of its denominator and its numerators.
-use Rattle.std.proofs.Common.{◌≡◌, ℕ, ◌+◌, ◌<◌, List, length, get_or, sym, ap, ◌∙◌, arith, Some, pos}
+-- What is read of the term at a place.
+use Rattle.std.proofs.Common.{◌≡◌, ℕ, ◌+◌, ◌<◌, List, length, sym, ap, ◌∙◌, arith, Some}
 use Rattle.std.specs.Prelude.{slice_get}
-use Rattle.std.specs.Option.{option_map, option_map_or}
+use Rattle.std.specs.Option.{option_map}
 use Rattle.std.proofs.lemmas.Bool.Decides.{nat_tests}
 use Rattle.std.proofs.lemmas.Option.{slice_get-get_or}
 use Rattle.cube_model.specs.declared.term.Term.{Term}
-use Rattle.cube_model.specs.Answer.{numerator_of}
-use Rattle.group_sum.specs.Place.{IsAt, no_term, term_at}
+use Rattle.group_sum.specs.Place.{no_term, term_at}
 use Rattle.group_sum.specs.Terms.{AreTerms, TermList}
-use Rattle.group_sum.proofs.Ascending.{is_term_at, term_of_at}
-use Rattle.script_text.specs.Reply.{numerators_of}
+use Rattle.group_sum.proofs.Ascending.{is_term_at}
+use Rattle.script_text.specs.ReplySteps.{numerators_of}
 
--- the denominator that is read at a place
-pub den-read : (terms : List Term) (i den : ℕ) → i < length terms → option_map (λ (t : Term). t.den) (slice_get terms i) ≡ Some den → (term_at terms i).den ≡ den
-den-read terms i den within read =
-    let at = slice_get-get_or terms i no_term within in
-    let found : Some ((term_at terms i).den) ≡ Some den = sym (ap (option_map (λ (t : Term). t.den)) at) ∙ read in
+pub term_at-read : {A : Type 0} (part : Term → A) (terms : List Term) (i : ℕ) (read : A) → i < length terms → option_map part (slice_get terms i) ≡ Some read → part (term_at terms i) ≡ read
+term_at-read part terms i read within at =
+    let found : Some (part (term_at terms i)) ≡ Some read = sym (ap (option_map part) (slice_get-get_or terms i no_term within)) ∙ at in
     cc
-
--- the numerator of a column at the denominator of a place
-pub numerator-read : (list : TermList) (i den column : ℕ) → AreTerms list → i < length list.terms
-    → option_map (λ (t : Term). t.den) (slice_get list.terms i) ≡ Some den
-    → numerator_of list.terms den column ≡ get_or (numerators_of (term_at list.terms i)) column (pos 0)
-numerator-read list i den column whole within read =
-    let place : IsAt list.terms den i = record { in_range = within; has_den = den-read list.terms i den within read } in
-    ap (λ found. option_map_or (λ (t : Term). get_or (numerators_of t) column (pos 0)) found (pos 0)) (term_of_at list.columns 1 list.terms whole.terms den i place)
 
 -- a term has a numerator for each column
 pub length-numerators : (list : TermList) (i : ℕ) → AreTerms list → i < length list.terms → length (numerators_of (term_at list.terms i)) ≡ list.columns

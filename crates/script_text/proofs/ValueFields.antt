@@ -1,8 +1,7 @@
 -- The values that fields give measures, one after another.
 use Rattle.std.proofs.Common.{◌≡◌, ℕ, zero, suc, ◌+◌, ◌<◌, ◌≤◌, Bool, true, false, List, [], ◌∷◌, ◌++◌, length, drop, refl, sym, ap, ◌∙◌, arith, append_assoc, append-nil, length-append, length-drop, Option, Some, None, Result, Ok, Err, ℤ, IfSome}
-use Rattle.std.specs.Prelude.{if◌then◌else◌, is_none, unwrap_or, slice_get, IsSomeAnd}
-use Rattle.std.proofs.lemmas.List.{drop_all, drop_more}
-use Rattle.std.proofs.lemmas.Option.{get_or_from_slice_get, slice_get_past, slice_get_within}
+use Rattle.std.specs.Prelude.{◌||◌, if◌then◌else◌, is_none, unwrap_or, slice_get, IsSomeAnd}
+use Rattle.std.proofs.lemmas.List.{drop_all}
 use Rattle.cube_base.specs.declared.code.Code.{Code}
 use Rattle.cube_base.specs.declared.code.Code.TheVariants as code
 use Rattle.fact_records.specs.declared.shape.Kind.{Kind}
@@ -121,11 +120,11 @@ Searches-some measures first fields i left before within = omega (arith, before.
 
 -- what one field more says
 pub Searches-step : (measures : List Measure) (first : ℕ) (fields : List (List ℕ)) (i : ℕ) (left : List (List ℕ)) (field : List ℕ) (more : List (List ℕ)) (wrong : Bool) → Searches measures first fields i left → left ≡ field ∷ more → i < length measures
-    → IfSome (slice_get measures i) (λ m. wrong ≡ is_wrong_number m.kind field) → some_wrong is_wrong_number (drop first measures) fields ≡ (if wrong then true else some_wrong is_wrong_number (drop (i + 1) measures) more)
+    → IfSome (slice_get measures i) (λ m. wrong ≡ is_wrong_number m.kind field) → some_wrong is_wrong_number (drop first measures) fields ≡ (wrong || some_wrong is_wrong_number (drop (i + 1) measures) more)
 Searches-step measures first fields i left field more wrong before cut within is = step (slice_get measures i) refl is
   where
     step : (found : Option Measure) → slice_get measures i ≡ found → IfSome found (λ m. wrong ≡ is_wrong_number m.kind field)
-        → some_wrong is_wrong_number (drop first measures) fields ≡ (if wrong then true else some_wrong is_wrong_number (drop (i + 1) measures) more)
+        → some_wrong is_wrong_number (drop first measures) fields ≡ (wrong || some_wrong is_wrong_number (drop (i + 1) measures) more)
     step None at is = absurd (none_within measures i within at)
     step (Some m) at is = before.same ∙ rw (drop-at measures i m at, cut, is) refl
 

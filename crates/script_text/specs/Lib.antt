@@ -1,6 +1,6 @@
 pub mod FieldsLeft
 pub mod LineOf
 pub mod Reply
-pub mod RowsText
+pub mod ReplySteps
 pub mod ScriptLine
 pub mod Steps

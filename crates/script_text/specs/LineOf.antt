@@ -8,7 +8,6 @@ use Rattle.cube_model.specs.Tree.{Dimension}
 use Rattle.fact_records.specs.declared.shape.Measure.{Measure}
 use Rattle.fact_records.specs.Accepted.{cols_refusal}
 use Rattle.region_algebra.specs.Space.{is_region}
-use Rattle.schema_text.specs.Schema.{SchemaValue}
 use Rattle.script_text.specs.declared.line.Line.{Line}
 use Rattle.script_text.specs.declared.line.Line.TheVariants as line
 use Rattle.script_text.specs.declared.line.LineFault.{LineFault}
@@ -21,18 +20,18 @@ pub record IsFactOf (dims : List Dimension) (measures : List Measure) (fact : Fa
   pub region : is_region dims fact.region ≡ true
   pub values : cols_refusal measures fact.cols ≡ None
 
-abbrev pub IsEditOf : SchemaValue → Edit → Type 0
-IsEditOf schema (edit.Put fact) = IsFactOf schema.dims schema.measures fact
-IsEditOf schema (edit.Change fact) = IsFactOf schema.dims schema.measures fact
-IsEditOf schema (edit.Withdraw id) = IsId id
+abbrev pub IsEditOf : List Dimension → List Measure → Edit → Type 0
+IsEditOf dims measures (edit.Put fact) = IsFactOf dims measures fact
+IsEditOf dims measures (edit.Change fact) = IsFactOf dims measures fact
+IsEditOf dims measures (edit.Withdraw id) = IsId id
 
-abbrev pub IsLineOf : SchemaValue → Line → Type 0
-IsLineOf schema line.Nothing = ⊤
-IsLineOf schema (line.Edit change) = IsEditOf schema change
-IsLineOf schema (line.Terms region) = is_region schema.dims region ≡ true
-IsLineOf schema (line.Rows id) = IsId id
+abbrev pub IsLineOf : List Dimension → List Measure → Line → Type 0
+IsLineOf dims measures line.Nothing = ⊤
+IsLineOf dims measures (line.Edit change) = IsEditOf dims measures change
+IsLineOf dims measures (line.Terms region) = is_region dims region ≡ true
+IsLineOf dims measures (line.Rows id) = IsId id
 
 -- where a line is refused, this is its code; want of memory says nothing of it
-abbrev pub IsFaultOf : SchemaValue → List ℕ → LineFault → Type 0
-IsFaultOf schema bytes (fault.Code refusal) = line_of schema bytes ≡ Err refusal
-IsFaultOf schema bytes fault.Memory = ⊤
+abbrev pub IsFaultOf : List Dimension → List Measure → List ℕ → LineFault → Type 0
+IsFaultOf dims measures bytes (fault.Code refusal) = line_of dims measures bytes ≡ Err refusal
+IsFaultOf dims measures bytes fault.Memory = ⊤

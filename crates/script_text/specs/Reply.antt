@@ -1,25 +1,40 @@
--- The text of a reply.
-use Rattle.std.specs.Prelude.{◌≡◌, ℕ, List, [], ◌∷◌, length, take, codes, ⊤, ℤ, pos}
+-- The text of a reply over the dimensions whose cells it names.
+use Rattle.std.specs.Prelude.{ℕ, List, [], ◌∷◌, ◌++◌, length, map, codes, slice_get, ⊤}
+use Rattle.std.specs.Option.{option_map_or}
 use Rattle.std.specs.List.{flat_map}
-use Rattle.std.specs.Fmt.{decimal}
+use Rattle.std.specs.Fmt.{decimal, signed_decimal}
 use Rattle.cube_base.specs.Code.{word_of}
 use Rattle.cube_model.specs.declared.term.Term.{Term}
-use Rattle.cube_model.specs.Replies.{ok_text, error_text, term_fields, terms_text}
+use Rattle.cube_model.specs.Cells.{AreRows, all_cells}
+use Rattle.cube_model.specs.Text.{line_text}
+use Rattle.cube_model.specs.Tree.{Dimension, entry_of}
 use Rattle.script_text.specs.declared.reply.Reply.{Reply}
 use Rattle.script_text.specs.declared.reply.Reply.TheVariants.{Ok, Error, Terms, Rows}
 
--- the text of a reply that names no cells
-abbrev pub reply_text : Reply → List ℕ
-reply_text (Ok refreshed) = ok_text refreshed
-reply_text (Error code) = error_text code
-reply_text (Terms list) = terms_text list.terms
-reply_text (Rows _ _) = []
+-- the denominator of a term and all its numerators, that of the count first
+abbrev pub term_fields : Term → List (List ℕ)
+term_fields term = decimal term.den ∷ decimal term.count ∷ map signed_decimal term.sums
 
-abbrev pub NamesNoCells : Reply → Type 0
-NamesNoCells (Ok _) = ⊤
-NamesNoCells (Error _) = ⊤
-NamesNoCells (Terms _) = ⊤
-NamesNoCells (Rows _ _) = ⊥
+-- the number of the terms, and the terms
+abbrev pub terms_fields : List Term → List (List ℕ)
+terms_fields terms = decimal (length terms) ∷ flat_map term_fields terms
+
+-- the name of the node of a number
+abbrev pub name_of : Dimension → ℕ → List ℕ
+name_of dim number = option_map_or (λ e. e.name) (entry_of dim number) []
+
+-- the names of one node of each dimension
+abbrev pub names_of : List Dimension → List ℕ → List (List ℕ)
+names_of (dim ∷ dims) (node ∷ nodes) = name_of dim node ∷ names_of dims nodes
+names_of dims nodes = []
+
+-- the names of a cell's leaves, then the weight
+abbrev pub row_fields : List Dimension → ℕ × ℕ → List (List ℕ)
+row_fields dims row = option_map_or (names_of dims) (slice_get (all_cells dims) row.0) [] ++ decimal row.1 ∷ []
+
+-- the denominator, the number of the rows, and the rows
+abbrev pub rows_fields : List Dimension → ℕ → List (ℕ × ℕ) → List (List ℕ)
+rows_fields dims den rows = decimal den ∷ decimal (length rows) ∷ flat_map (row_fields dims) rows
 
 -- the first field of a reply
 abbrev pub word_of_reply : Reply → List ℕ
@@ -28,25 +43,19 @@ word_of_reply (Error _) = codes "error"
 word_of_reply (Terms _) = codes "terms"
 word_of_reply (Rows _ _) = codes "rows"
 
--- the number of the terms, and the fields of each
-abbrev pub terms_fields : List Term → List (List ℕ)
-terms_fields terms = decimal (length terms) ∷ flat_map term_fields terms
+-- its further fields
+abbrev pub fields_of_reply : List Dimension → Reply → List (List ℕ)
+fields_of_reply dims (Ok refreshed) = decimal refreshed ∷ []
+fields_of_reply dims (Error code) = word_of code ∷ []
+fields_of_reply dims (Terms list) = terms_fields list.terms
+fields_of_reply dims (Rows den rows) = rows_fields dims den rows
 
--- the further fields of a reply that names no cells
-abbrev pub fields_of_reply : Reply → List (List ℕ)
-fields_of_reply (Ok refreshed) = decimal refreshed ∷ []
-fields_of_reply (Error code) = word_of code ∷ []
-fields_of_reply (Terms list) = terms_fields list.terms
-fields_of_reply (Rows _ _) = []
+abbrev pub reply_text : List Dimension → Reply → List ℕ
+reply_text dims reply = line_text (word_of_reply reply) (fields_of_reply dims reply)
 
--- a TAB and a field each
-abbrev pub fields_text : List (List ℕ) → List ℕ
-fields_text fields = flat_map (λ field. 9 ∷ field) fields
-
--- the numerators of a term, that of the count first
-abbrev pub numerators_of : Term → List ℤ
-numerators_of term = pos term.count ∷ term.sums
-
--- the new bytes begin with the old ones
-abbrev pub Keeps : List ℕ → List ℕ → Type 0
-Keeps old new = take (length old) new ≡ old
+-- the cells that a reply names are there
+abbrev pub NamesCells : List Dimension → Reply → Type 0
+NamesCells dims (Ok _) = ⊤
+NamesCells dims (Error _) = ⊤
+NamesCells dims (Terms _) = ⊤
+NamesCells dims (Rows _ rows) = AreRows dims rows

@@ -1,5 +1,5 @@
 //! A walk through the fields of a line.
-ghost use Rattle.std.specs.Prelude.{◌≡◌, ◌∷◌, ◌≤◌, ◌==◌, count_by, length};
+ghost use Rattle.std.specs.Prelude.{◌≡◌, ◌∷◌, ◌≤◌, length};
 ghost use Rattle.cube_model.specs.Text.{fields_of};
 
 use std::marker::Model;
@@ -28,7 +28,7 @@ impl<'a> FieldWalk<'a> {
     }
 
     /// The next field.
-    pub fn next(&mut self) -> &'a str
+    pub fn next_field(&mut self) -> &'a str
         requires { 1 ≤ length self.old }
         ensures { self.old ≡ result.now ∷ self.new }
     {
@@ -44,20 +44,4 @@ impl<'a> FieldWalk<'a> {
             }
         }
     }
-}
-
-/// The number of fields of a line.
-pub fn field_count(line: &str) -> usize
-    requires { length line.now ≤ 4096 }
-    ensures { result ≡ length (fields_of line.now) }
-{
-    tab_count(line.as_bytes()) + 1
-}
-
-/// The number of TABs.
-fn tab_count(bytes: &[u8]) -> usize
-    ensures count { result ≡ count_by (λ b. b == 9) bytes.now }
-    ensures most { result ≤ length bytes.now }
-{
-    bytes.iter().filter(|b| **b == b'\t').count()
 }

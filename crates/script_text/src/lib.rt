@@ -6,13 +6,12 @@ mod examples;
 mod field_walk;
 mod line;
 mod line_reader;
-mod line_text;
 mod read_values;
 mod reply;
-mod reply_over;
+mod reply_fields;
 mod reply_rows;
+mod reply_terms;
 
 pub use line::{Line, LineFault};
 pub use line_reader::read_line;
-pub use reply::Reply;
-pub use reply_over::{append_reply, write_reply};
+pub use reply::{Reply, append_reply, write_reply};

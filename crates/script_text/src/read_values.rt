@@ -1,5 +1,6 @@
 //! The values of a fact, one field for each measure.
 ghost use Rattle.std.specs.Prelude.{◌≡◌, ◌<◌, ◌≤◌, None, drop, length, slice_get, IfOk, IfSome};
+ghost use Rattle.cube_model.specs.Limits.{MAX_COLS};
 ghost use Rattle.fact_records.specs.Accepted.{cols_refusal};
 ghost use Rattle.script_text.specs.ScriptLine.{is_wrong_number, some_wrong};
 ghost use Rattle.script_text.specs.Steps.{cols_in};
@@ -17,7 +18,7 @@ pub fn read_values(shape: &Shape, fields: &mut FieldWalk<'_>) -> Result<Cols, Co
 {
     let mut cols = blank_cols(0);
     for i in 0..shape.len() {
-        if let Err(code) = read_value(shape, i, fields.next(), &mut cols) {
+        if let Err(code) = read_value(shape, i, fields.next_field(), &mut cols) {
             // A wrong number comes before wrong parts, wherever they stand.
             if some_wrong_number(shape, i + 1, fields) {
                 return Err(Code::Value);
@@ -35,7 +36,7 @@ fn some_wrong_number(shape: &Shape, first: u32, fields: &mut FieldWalk<'_>) -> b
     ensures { result ≡ some_wrong is_wrong_number (drop first shape.now) fields.old }
 {
     for i in first..shape.len() {
-        if is_wrong_number(shape, i, fields.next()) {
+        if is_wrong_number(shape, i, fields.next_field()) {
             return true;
         }
     }
@@ -57,7 +58,7 @@ fn is_wrong_number(shape: &Shape, i: u32, field: &str) -> bool
 
 /// So many values.
 fn blank_cols(len: u32) -> Cols
-    requires { len ≤ 7 }
+    requires { len ≤ MAX_COLS }
     ensures { length result ≡ len }
 {
     let places = [0; MAX_COLS];

@@ -1,12 +1,19 @@
-//! Replies.
-ghost use Rattle.std.specs.Prelude.{◌≡◌, ◌∷◌, ◌++◌, ◌<◌, length, OnOk, OnErr};
-ghost use Rattle.group_sum.specs.Place.{term_at};
-ghost use Rattle.cube_model.specs.Replies.{term_fields};
-ghost use Rattle.script_text.specs.Reply.{Keeps, NamesNoCells, fields_of_reply, fields_text, reply_text, terms_fields, word_of_reply};
+//! Replies over a schema, whose cells they name.
+ghost use Rattle.std.specs.Prelude.{◌≡◌, ◌++◌, IfOk, OnOk, OnErr};
+ghost use Rattle.script_text.specs.Reply.{NamesCells, fields_of_reply, reply_text, word_of_reply};
+ghost use Rattle.script_text.specs.ReplySteps.{Keeps, fields_text};
 
-use cube_base::{Code, Memory, Pairs};
+#[cfg(test)]
+mod tests;
+
+use crate::reply_fields::{append_field, append_number};
+use crate::reply_rows::append_rows;
+use crate::reply_terms::append_terms;
+use cube_base::{Bytes, Code, Memory, Pairs};
 use group_sum::Terms;
-use itoa::{Buffer, Integer};
+use region_algebra::Space;
+use schema_text::Schema;
+use std::alloc::Global;
 
 /// The answer to a line.
 #[derive(Debug, Drop)]
@@ -21,17 +28,42 @@ pub enum Reply {
     Rows { den: u64, rows: Pairs },
 }
 
-// Each of the following appends what it says, or, where memory is wanting, a part of it.
-
-/// Appends the line of a reply that names no cells.
-pub(crate) fn append_line(out: &mut Vec<u8>, reply: &Reply) -> Result<(), Memory>
-    requires { NamesNoCells reply.now }
-    ensures ok { OnOk result (out.new.items ≡ out.old.items ++ reply_text reply.now) }
-    ensures err { OnErr result (Keeps out.old.items out.new.items) }
+/// Appends the text of a reply over a schema: the word and its fields with TABs between, and LF. `ok` has the number of
+/// refreshed facts, `error` the word of the code, `terms` the number of terms and then, for each, its denominator and its
+/// numerators, the count first, and `rows` the denominator, the number of rows and then, for each, the names of the
+/// cell's leaves, one of each dimension, and the weight. An error leaves the text as it was.
+pub fn append_reply(text: &mut Vec<u8>, schema: &Schema, reply: &Reply) -> Result<(), Memory>
+    requires { NamesCells schema.now.dims reply.now }
+    ensures ok { OnOk result (text.new.items ≡ text.old.items ++ reply_text schema.now.dims reply.now) }
+    ensures err { OnErr result (text.new.items ≡ text.old.items) }
 {
-    out.extend_from_slice(word_of(reply).as_bytes())?;
-    append_fields(out, reply)?;
-    out.push(b'\n')?;
+    let len = text.len();
+    let appended = append_line(text, schema.space(), reply);
+    if appended.is_err() {
+        text.truncate(len);
+    }
+    appended
+}
+
+/// The text of a reply over a schema.
+pub fn write_reply(alloc: Global, schema: &Schema, reply: &Reply) -> Result<Bytes, Memory>
+    requires { NamesCells schema.now.dims reply.now }
+    ensures { IfOk result (λ text. text ≡ reply_text schema.now.dims reply.now) }
+{
+    let mut text = Vec::new(alloc);
+    append_reply(&mut text, schema, reply)?;
+    Ok(Bytes::from(text))
+}
+
+/// Appends the line of a reply.
+fn append_line(text: &mut Vec<u8>, space: &Space, reply: &Reply) -> Result<(), Memory>
+    requires { NamesCells space.now reply.now }
+    ensures ok { OnOk result (text.new.items ≡ text.old.items ++ reply_text space.now reply.now) }
+    ensures err { OnErr result (Keeps text.old.items text.new.items) }
+{
+    text.extend_from_slice(word_of(reply).as_bytes())?;
+    append_fields(text, space, reply)?;
+    text.push(b'\n')?;
     Ok(())
 }
 
@@ -47,60 +79,16 @@ fn word_of(reply: &Reply) -> &'static str
     }
 }
 
-/// Appends the further fields of a reply that names no cells.
-fn append_fields(out: &mut Vec<u8>, reply: &Reply) -> Result<(), Memory>
-    requires { NamesNoCells reply.now }
-    ensures ok { OnOk result (out.new.items ≡ out.old.items ++ fields_text (fields_of_reply reply.now)) }
-    ensures err { OnErr result (Keeps out.old.items out.new.items) }
+/// Appends the further fields of a reply.
+fn append_fields(text: &mut Vec<u8>, space: &Space, reply: &Reply) -> Result<(), Memory>
+    requires { NamesCells space.now reply.now }
+    ensures ok { OnOk result (text.new.items ≡ text.old.items ++ fields_text (fields_of_reply space.now reply.now)) }
+    ensures err { OnErr result (Keeps text.old.items text.new.items) }
 {
     match reply {
-        Reply::Ok(refreshed) => append_number(out, *refreshed),
-        Reply::Error(code) => append_field(out, code.word().as_bytes()),
-        Reply::Terms(terms) => append_terms(out, terms),
-        Reply::Rows { .. } => unreachable!(),
+        Reply::Ok(refreshed) => append_number(text, *refreshed),
+        Reply::Error(code) => append_field(text, code.word().as_bytes()),
+        Reply::Terms(terms) => append_terms(text, terms),
+        Reply::Rows { den, rows } => append_rows(text, space, *den, rows.as_slice()),
     }
-}
-
-/// Appends the fields of terms: how many there are, and those of each.
-fn append_terms(out: &mut Vec<u8>, terms: &Terms) -> Result<(), Memory>
-    ensures ok { OnOk result (out.new.items ≡ out.old.items ++ fields_text (terms_fields terms.now.terms)) }
-    ensures err { OnErr result (Keeps out.old.items out.new.items) }
-{
-    append_number(out, terms.len())?;
-    for i in 0..terms.len() {
-        append_term(out, terms, i)?;
-    }
-    Ok(())
-}
-
-/// Appends the fields of the term at a place: its denominator and its numerators, the count first.
-fn append_term(out: &mut Vec<u8>, terms: &Terms, i: u64) -> Result<(), Memory>
-    requires { i < length terms.now.terms }
-    ensures ok { OnOk result (out.new.items ≡ out.old.items ++ fields_text (term_fields (term_at terms.now.terms i))) }
-    ensures err { OnErr result (Keeps out.old.items out.new.items) }
-{
-    let den = terms.den_at(i);
-    append_number(out, den)?;
-    for column in 0..terms.columns() {
-        append_number(out, terms.num(den, column))?;
-    }
-    Ok(())
-}
-
-/// Appends a field: TAB and a number.
-pub(crate) fn append_number<I: Integer>(out: &mut Vec<u8>, number: I) -> Result<(), Memory>
-    ensures ok { OnOk result (out.new.items ≡ out.old.items ++ 9 ∷ I.text number) }
-    ensures err { OnErr result (Keeps out.old.items out.new.items) }
-{
-    append_field(out, Buffer::new().format(number).as_bytes())
-}
-
-/// Appends a field: TAB and these bytes.
-pub(crate) fn append_field(out: &mut Vec<u8>, field: &[u8]) -> Result<(), Memory>
-    ensures ok { OnOk result (out.new.items ≡ out.old.items ++ 9 ∷ field.now) }
-    ensures err { OnErr result (Keeps out.old.items out.new.items) }
-{
-    out.push(b'\t')?;
-    out.extend_from_slice(field)?;
-    Ok(())
 }

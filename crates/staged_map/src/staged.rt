@@ -13,8 +13,8 @@ use indexmap::IndexMap;
 use std::alloc::{AllocError, Global};
 use std::marker::Model;
 
-/// A finite map from u64, and the keys that have a place. Every key with a value has a place; a place without a
-/// value is an entry of the map beneath that holds None. Contracts see the places with their values.
+/// A finite map from u64 in which a key may have a place before it has a value: an entry of the map beneath that holds
+/// None. Contracts see the places with their values.
 #[derive(Drop)]
 pub struct Staged<V> {
     places: IndexMap<u64, Option<V>>,

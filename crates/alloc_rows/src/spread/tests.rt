@@ -1,7 +1,8 @@
 //! Worked facts over places and autos.
-ghost use Rattle.std.specs.Prelude.{◌≡◌, ◌≤◌, ◌^◌, true, IfOk, IfSome};
+ghost use Rattle.std.specs.Prelude.{◌≡◌, ◌≤◌, true, IfOk, IfSome};
 ghost use Rattle.std.specs.List.{sum_by};
 ghost use Rattle.cube_model.specs.Cells.{AreRows, cells_of};
+ghost use Rattle.cube_model.specs.Limits.{MAX_FACTS};
 ghost use Rattle.cell_weight.specs.Stats.{stat_at};
 ghost use Rattle.region_algebra.specs.Space.{is_region};
 
@@ -9,7 +10,7 @@ use super::allocate;
 use crate::{Alloc, inside};
 use cell_weight::{ByCount, CellStat, StatIndex, Uniform, WeightPolicy};
 use cube_base::{Cols, Name};
-use cube_model::{Fact, NodeLine, Region};
+use cube_model::{Fact, MAX_CELLS, MAX_FACTS, NodeLine, Region};
 use dim_tree::Dim;
 use region_algebra::Space;
 use std::alloc::Global;
@@ -69,12 +70,12 @@ fn region_of(space: &Space, nodes: &[u32]) -> Result<Region, Fail>
 fn facts_in(space: &Space, stats: &StatIndex, r: Region) -> Option<u64>
     requires { is_region space.now r ≡ true }
     ensures sum { IfSome result (λ n. n ≡ sum_by (λ cell. (stat_at stats.now cell).count) (cells_of space.now r)) }
-    ensures few { IfSome result (λ n. n ≤ 2 ^ 20) }
+    ensures few { IfSome result (λ n. n ≤ MAX_FACTS) }
 {
     let mut sum = 0;
     for cell in space.cells(r) {
         sum += stats.stat(cell).count;
-        if sum > 1 << 20 {
+        if sum > MAX_FACTS {
             return None;
         }
     }
@@ -93,7 +94,7 @@ fn allocated<P: WeightPolicy>(
 {
     let region = region_of(space, nodes)?;
     facts_in(space, stats, region).ok_or("too many facts")?;
-    if space.cell_count(region) > 1 << 20 {
+    if space.cell_count(region) > MAX_CELLS {
         Err("too many cells")?;
     }
     let fact = Fact {
@@ -106,7 +107,7 @@ fn allocated<P: WeightPolicy>(
 
 /// A cell has so many precise facts.
 fn set_count(stats: &mut StatIndex, cell: u64, count: u64) -> Result<(), Fail>
-    requires { count ≤ 2 ^ 20 }
+    requires { count ≤ MAX_FACTS }
 {
     let changes = [(cell, CellStat { count, sum: 0 })];
     stats.stage(&changes)?;

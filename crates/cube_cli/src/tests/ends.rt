@@ -31,6 +31,8 @@ fn texts_and_statuses_of_ends(rt: HostRuntime) -> Result<(), Fail> {
         code: Code::Depth,
     };
     let table = [
+        (End::Finished { refused: 0 }, 0, "finished, 0 lines refused"),
+        (End::Finished { refused: 2 }, 1, "finished, 2 lines refused"),
         (
             End::Usage,
             2,
@@ -46,7 +48,5 @@ fn texts_and_statuses_of_ends(rt: HostRuntime) -> Result<(), Fail> {
         assert_eq!(rt; end.status(), status, "{text}");
         assert_eq!(rt; end.to_string(rt.alloc())?.as_str(), text);
     }
-    assert_eq!(rt; End::Finished { refused: 0 }.status(), 0);
-    assert_eq!(rt; End::Finished { refused: 2 }.status(), 1);
     Ok(())
 }

@@ -22,12 +22,7 @@ const LINES: [(&str, &str); 12] = [
 
 /// The schema and the lines, and the replies.
 fn input_and_replies(alloc: Global) -> Result<(String, String), AllocError> {
-    let mut script = String::new(alloc);
-    let mut replies = String::new(alloc);
-    for (line, reply) in LINES {
-        script.push_str(line)?;
-        replies.push_str(reply)?;
-    }
+    let (script, replies) = joined(alloc, &LINES)?;
     Ok((input_of(alloc, &REPAIRS, &script)?, replies))
 }
 

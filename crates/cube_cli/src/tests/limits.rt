@@ -20,15 +20,22 @@ fn large_schema(alloc: Global) -> Result<String, AllocError> {
 
 #[test]
 fn most_cells_and_rows(rt: HostRuntime) -> Result<(), Fail> {
+    let lines = [
+        ("insert\t1\tL\tR\n", "error\tregion\n"),
+        ("insert\t1\tL\tS\n", "ok\t1\n"),
+        ("insert\t2\tL\tS\n", "ok\t1\n"),
+        ("insert\t3\tl1\tt\n", "error\trows\n"),
+        ("insert\t3\tl1\ts1\n", "ok\t3\n"),
+        ("insert\t4\tL\tS\n", "ok\t1\n"),
+        ("withdraw\t3\n", "error\trows\n"),
+        ("withdraw\t4\n", "ok\t0\n"),
+        ("withdraw\t3\n", "ok\t2\n"),
+    ];
+    let (script, replies) = joined(rt.alloc(), &lines)?;
     let mut input = large_schema(rt.alloc())?;
-    input.push_str(
-        "insert\t1\tL\tR\ninsert\t1\tL\tS\ninsert\t2\tL\tS\ninsert\t3\tl1\tt\ninsert\t3\tl1\ts1\ninsert\t4\tL\tS\nwithdraw\t3\nwithdraw\t4\nwithdraw\t3\n",
-    )?;
+    input.push_str(&script)?;
     let ran = run_whole(&rt, &input)?;
-    assert_eq!(rt;
-        str::from_utf8(&ran.written)?,
-        "error\tregion\nok\t1\nok\t1\nerror\trows\nok\t3\nok\t1\nerror\trows\nok\t0\nok\t2\n"
-    );
+    assert_eq!(rt; str::from_utf8(&ran.written)?, replies.as_str());
     assert_eq!(rt; ran.end, End::Finished { refused: 3 });
     Ok(())
 }

@@ -114,6 +114,20 @@ fn answers_for_cities_in_states(rt: HostRuntime) -> Result<(), Fail> {
 }
 
 #[test]
+fn a_copy_has_the_nodes_and_finds_them(rt: HostRuntime) -> Result<(), Fail> {
+    let nodes = [(0, "All"), (1, "TX"), (2, "Austin"), (1, "CA")];
+    let copy = Dim::build(rt.alloc(), &lines_of(rt.alloc(), &nodes)?)?.copy()?;
+    assert_eq!(rt; copy.len(), 4);
+    assert_eq!(rt; copy.leaf_count(), 2);
+    assert_eq!(rt; copy.find("CA"), Some(3));
+    assert_eq!(rt; copy.parent(2), Some(1));
+    assert_eq!(rt; copy.depth(2), 2);
+    assert_eq!(rt; copy.leaf_range(1), (0, 1));
+    assert_eq!(rt; copy.leaf_node(1), 3);
+    Ok(())
+}
+
+#[test]
 fn a_node_with_one_child_is_no_leaf(rt: HostRuntime) -> Result<(), Fail> {
     let nodes = [
         (0, "All"),

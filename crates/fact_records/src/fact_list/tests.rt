@@ -4,7 +4,7 @@ use cube_model::Region;
 use std::process::Abort;
 use std::test::Fail;
 
-// A fact of an id, with a value.
+/// A fact of an id, with a value.
 fn fact(id: u64, value: i64) -> Result<Fact, Fail> {
     Ok(Fact {
         id,
@@ -20,14 +20,14 @@ fn value_of(fact: &Fact) -> Option<i64> {
     Some(fact.cols.get(0))
 }
 
-// Puts a fact for which room is made first, and says which value the old one had.
+/// Puts a fact for which room is made first, and says which value the old one had.
 fn put(list: &mut FactList, id: u64, value: i64) -> Result<Option<i64>, Fail> {
     let fact = fact(id, value)?;
     list.reserve(1)?;
     Ok(list.put(fact).and_then(|old| value_of(&old)))
 }
 
-// The list has these ids: by place, by id and in the walk.
+/// The list has these ids: by place, by id and in the walk.
 fn expect_ids(rt: &impl Abort, list: &FactList, ids: &[u64]) {
     assert_eq!(rt; list.len(), ids.len() as u64);
     let mut walk = list.iter();
@@ -85,12 +85,12 @@ fn refuses_room_that_there_is_not(rt: HostRuntime) -> Result<(), Fail> {
     Ok(())
 }
 
-// More facts than two blocks have, and a prime above them.
+/// More facts than two blocks have, and a prime above them.
 const COUNT: u64 = 2000;
 
 const PRIME: u64 = 2003;
 
-// Puts ids 1 to 2000, by a step from each to the next, round and round.
+/// Puts ids 1 to 2000, by a step from each to the next, round and round.
 fn put_by(rt: &impl Abort, list: &mut FactList, step: u16) -> Result<(), Fail> {
     for turn in 1..PRIME {
         let id = turn * u64::from(step) % PRIME;
@@ -101,7 +101,7 @@ fn put_by(rt: &impl Abort, list: &mut FactList, step: u16) -> Result<(), Fail> {
     Ok(())
 }
 
-// Takes them again in the same way.
+/// Takes them again in the same way.
 fn take_by(rt: &impl Abort, list: &mut FactList, step: u16) {
     for turn in 1..PRIME {
         let id = turn * u64::from(step) % PRIME;

@@ -4,7 +4,7 @@ use crate::examples::repair_and_quality;
 use std::process::Abort;
 use std::test::Fail;
 
-// The shape is that of Repair and Quality.
+/// The shape is that of Repair and Quality.
 fn expect_both(rt: &impl Abort, shape: &Shape) {
     assert_eq!(rt; shape.len(), 2);
     assert_eq!(rt; shape.columns(), 4);

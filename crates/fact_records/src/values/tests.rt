@@ -7,7 +7,7 @@ use cube_base::{Code, Cols};
 use std::process::Abort;
 use std::test::Fail;
 
-// The values are these.
+/// The values are these.
 fn expect_values(rt: &impl Abort, cols: Cols, values: &[i64], field: &str) {
     assert_eq!(rt; &places_of(cols)[..cols.len() as usize], values, "{field}");
 }

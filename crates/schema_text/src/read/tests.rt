@@ -249,3 +249,39 @@ fn a_dimension_has_at_most_65536_nodes(rt: HostRuntime) -> Result<(), Fail> {
     );
     Ok(())
 }
+
+// A schema of six dimensions, each of a root with so many leaves, with one LF behind `end`.
+fn six_dimensions(alloc: Global, leaves: u32) -> Result<Vec<u8>, AllocError> {
+    let mut text = Vec::from_slice(alloc, b"cube\t1\npolicy\tcount\n")?;
+    for dimension in b"abcdef" {
+        text.extend_from_slice(b"dimension\t")?;
+        text.push(*dimension)?;
+        text.extend_from_slice(b"\nnode\t0\tAll\n")?;
+        for number in 0..leaves {
+            text.extend_from_slice(b"node\t1\t")?;
+            append_name(&mut text, number)?;
+            text.push(b'\n')?;
+        }
+    }
+    text.extend_from_slice(b"end\n")?;
+    Ok(text)
+}
+
+// 1,290^6 is below 2^62, and 1,291^6 is not.
+#[test]
+fn spaces_that_pass_a_limit(rt: HostRuntime) -> Result<(), Fail> {
+    let table = [(1_290, Code::Nodes), (1_291, Code::Cells)];
+    for (leaves, code) in table {
+        let text = six_dimensions(rt.alloc(), leaves)?;
+        let end = u64::from(leaves)
+            .wrapping_add(2)
+            .wrapping_mul(6)
+            .wrapping_add(3);
+        assert_eq!(rt;
+            fault_of(rt.alloc(), text.as_slice()),
+            bad(end, code),
+            "{leaves}"
+        );
+    }
+    Ok(())
+}

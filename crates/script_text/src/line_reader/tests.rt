@@ -11,6 +11,7 @@ use fact_records::Shape;
 use region_algebra::Space;
 use schema_text::Schema;
 use std::alloc::{AllocError, Global};
+use std::process::Abort;
 use std::test::Fail;
 
 /// A fact of two dimensions and one value.
@@ -75,6 +76,14 @@ fn fault_of(schema: &Schema, line: &[u8]) -> Option<LineFault> {
     }
 }
 
+/// Each line is refused for its code.
+fn expect_refusals(rt: &impl Abort, schema: &Schema, table: &[(&[u8], Code)]) {
+    for (line, want) in table {
+        let want = Some(LineFault::Code(*want));
+        assert_eq!(rt; fault_of(schema, line), want, "{line:?}");
+    }
+}
+
 #[test]
 fn hostile_lines(rt: HostRuntime) -> Result<(), Fail> {
     let schema = schema_of(rt.alloc())?;
@@ -86,10 +95,7 @@ fn hostile_lines(rt: HostRuntime) -> Result<(), Fail> {
         (b"\t", Code::Command),
         (b"count\tAustin\tCamry", Code::Command),
     ];
-    for (line, want) in table {
-        let want = Some(LineFault::Code(want));
-        assert_eq!(rt; fault_of(&schema, line), want, "{line:?}");
-    }
+    expect_refusals(&rt, &schema, &table);
     Ok(())
 }
 

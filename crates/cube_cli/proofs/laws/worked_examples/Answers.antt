@@ -29,11 +29,12 @@ returns c =
     let end = ascii_is_utf8 (codes "end") refl in
     let in_austin = ascii_is_utf8 (codes "insert" ++ 9 ∷ codes "1" ++ 9 ∷ codes "Austin") refl in
     let in_state = ascii_is_utf8 (codes "insert" ++ 9 ∷ codes "2" ++ 9 ∷ codes "TX") refl in
-    let terms = ascii_is_utf8 (codes "terms" ++ 9 ∷ codes "Austin") refl in
+    let austin_terms = ascii_is_utf8 (codes "terms" ++ 9 ∷ codes "Austin") refl in
     let insert = ascii_is_utf8 (codes "insert" ++ 9 ∷ codes "1" ++ 9 ∷ codes "TX") refl in
     let total = ascii_is_utf8 (codes "total" ++ 9 ∷ codes "TX") refl in
+    let state_terms = ascii_is_utf8 (codes "terms" ++ 9 ∷ codes "TX") refl in
     let rows = ascii_is_utf8 (codes "rows" ++ 9 ∷ codes "2") refl in
     record {
-      city_and_state = rw (cube, policy, dimension, place, state_line, state, austin_line, austin, dallas_line, dallas, end, in_austin, in_state, terms) (refl, refl);
-      refusals = rw (cube, policy, dimension, place, state_line, state, austin_line, austin, dallas_line, dallas, end, insert, total, rows) (refl, refl);
+      city_and_state = rw (cube, policy, dimension, place, state_line, state, austin_line, austin, dallas_line, dallas, end, in_austin, in_state, austin_terms) (refl, refl);
+      refusals = rw (cube, policy, dimension, place, state_line, state, austin_line, austin, dallas_line, dallas, end, insert, total, state_terms, rows) (refl, refl);
     }

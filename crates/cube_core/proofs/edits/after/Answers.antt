@@ -5,8 +5,8 @@ use Rattle.cube_core.proofs.Ascents.{put-withdraw}
 use Rattle.cube_core.proofs.edits.after.Goals as goal
 use Rattle.cube_core.proofs.edits.after.Goals.{in-Withdraw, in-Put2}
 
-pub returns : goal.returns
-returns c = elim c.match-edit.branch [
+pub returns-clause-facts : goal.returns-clause-facts
+returns-clause-facts c = elim c.match-edit.branch [
   | in-Withdraw w ↦
       let facts = c.args.facts.now.facts in
       ap (λ l. l.facts) w.later-is ∙ w.take.ensures.facts ∙ ap (withdraw w.in-Withdraw.id) c.in_ok-later.ensures.facts ∙ sym (ap (λ edit. after edit facts) w.in-Withdraw.is)

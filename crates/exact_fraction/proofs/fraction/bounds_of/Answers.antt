@@ -2,7 +2,7 @@ use Rattle.std.proofs.Common.{true, false, ap, sym, ◌∙◌, rules}
 use Rattle.std.specs.Int.{w128}
 use mir.Val.{SFits}
 use Rattle.std.proofs.lemmas.Int.{to_z-of_z}
-use Rattle.exact_fraction.specs.Parts.{signed}
+use Rattle.exact_fraction.specs.Signed.{signed}
 use Rattle.exact_fraction.proofs.Signs.{floor-true, floor-false, ceiling-true, ceiling-false}
 use Rattle.exact_fraction.proofs.fraction.bounds_of.Goals as goal
 

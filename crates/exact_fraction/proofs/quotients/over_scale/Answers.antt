@@ -1,6 +1,6 @@
 use Rattle.std.proofs.Common.{◌*◌, ◌≤◌, arith}
 use Rattle.std.proofs.Math.Nat.{le-mul_of_pos_right}
-use Rattle.exact_fraction.specs.Parts.{MOST_WHOLE}
+use Rattle.exact_fraction.specs.Signed.{MOST_WHOLE}
 use Rattle.exact_fraction.proofs.Scaling.{scaled_wide, scaled_told}
 use Rattle.exact_fraction.proofs.quotients.over_scale.Goals as goal
 

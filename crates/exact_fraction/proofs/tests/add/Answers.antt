@@ -5,7 +5,8 @@ use mir.Val.{SFits}
 use Rattle.std.proofs.lemmas.Int.{to_z-of_z}
 use Rattle.cube_model.specs.declared.term.Term.{Term}
 use Rattle.cube_model.specs.Answer.{count_of, numerator_of}
-use Rattle.group_sum.specs.Terms.{Fits, WIDE}
+use Rattle.cube_model.specs.Limits.{WIDE}
+use Rattle.group_sum.specs.Terms.{Fits}
 use Rattle.exact_fraction.proofs.tests.add.Goals as goal
 
 -- the count and both columns have room for a share

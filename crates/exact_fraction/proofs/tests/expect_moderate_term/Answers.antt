@@ -8,20 +8,21 @@ use Rattle.std.proofs.lemmas.Bool.Decides.{nat_tests}
 use Rattle.std.proofs.lemmas.List.Elements.{All-from_get_or}
 use Rattle.std.proofs.lemmas.Option.{slice_get-get_or}
 use Rattle.cube_model.specs.declared.term.Term.{Term}
+use Rattle.cube_model.specs.Limits.{MAX_FACTS, MAX_VALUE}
 use Rattle.group_sum.specs.Terms.{TermList, AreTerms, is_term}
 use Rattle.group_sum.specs.Place.{term_at, no_term}
 use Rattle.group_sum.proofs.Ascending.{is_term_at}
-use Rattle.exact_fraction.specs.Moderate.{IsModerateTerm, MOST_COUNT, MOST_VALUE}
+use Rattle.exact_fraction.specs.Moderate.{IsModerateTerm}
 use Rattle.exact_fraction.proofs.Columns.{column_of}
 use Rattle.exact_fraction.proofs.tests.expect_moderate_term.Goals as goal
 
 -- a term of two sums, each of which is moderate
-two_sums : (t : Term) → is_term 3 t ≡ true → t.count ≤ MOST_COUNT * t.den → nat_abs (column_of 1 t) ≤ MOST_VALUE * t.count → nat_abs (column_of 2 t) ≤ MOST_VALUE * t.count → IsModerateTerm t
+two_sums : (t : Term) → is_term 3 t ≡ true → t.count ≤ MAX_FACTS * t.den → nat_abs (column_of 1 t) ≤ MAX_VALUE * t.count → nat_abs (column_of 2 t) ≤ MAX_VALUE * t.count → IsModerateTerm t
 two_sums t whole count first second =
     let two : length t.sums ≡ 2 = grind (arith, nat_tests) in
-    record { count = count; sums = All-from_get_or (λ sum. nat_abs sum ≤ MOST_VALUE * t.count) t.sums (pos 0) (λ k lt. each k (omega arith)) }
+    record { count = count; sums = All-from_get_or (λ sum. nat_abs sum ≤ MAX_VALUE * t.count) t.sums (pos 0) (λ k lt. each k (omega arith)) }
   where
-    each : (k : ℕ) → k < 2 → nat_abs (get_or t.sums k (pos 0)) ≤ MOST_VALUE * t.count
+    each : (k : ℕ) → k < 2 → nat_abs (get_or t.sums k (pos 0)) ≤ MAX_VALUE * t.count
     each zero lt = first
     each (suc zero) lt = second
     each (suc (suc k)) lt = absurd (omega arith)
@@ -29,7 +30,7 @@ two_sums t whole count first second =
 -- what was read at a place
 module _ (list : TermList) (are : AreTerms list) (columns : list.columns ≡ 3) (i : ℕ) (within : i < length list.terms) where
   read_moderate : (den : ℕ) (count first second : ℤ) → option_map (λ (t : Term). t.den) (slice_get list.terms i) ≡ Some den → option_map (column_of 0) (slice_get list.terms i) ≡ Some count → option_map (column_of 1) (slice_get list.terms i) ≡ Some first → option_map (column_of 2) (slice_get list.terms i) ≡ Some second
-      → nat_abs count ≤ MOST_COUNT * den → nat_abs first ≤ MOST_VALUE * nat_abs count → nat_abs second ≤ MOST_VALUE * nat_abs count → IsModerateTerm (term_at list.terms i)
+      → nat_abs count ≤ MAX_FACTS * den → nat_abs first ≤ MAX_VALUE * nat_abs count → nat_abs second ≤ MAX_VALUE * nat_abs count → IsModerateTerm (term_at list.terms i)
   read_moderate den count first second den_read count_read first_read second_read small first_le second_le =
       let read : slice_get list.terms i ≡ Some (term_at list.terms i) = slice_get-get_or list.terms i no_term within in
       let den_is : (term_at list.terms i).den ≡ den = cc (read, den_read) in

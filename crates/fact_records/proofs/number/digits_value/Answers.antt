@@ -1,14 +1,16 @@
--- Each digit lengthens the number read; where that stops, the whole has no value.
-use Rattle.std.proofs.Common.{◌∙◌}
-use Rattle.fact_records.proofs.Digits.{ReadsTo-more, ReadsTo-all, ReadsTo-stop}
+-- Digits are UTF-8, and std reads their value.
+use Rattle.std.proofs.Common.{◌≡◌, true, sym, ◌∙◌}
+use Rattle.std.specs.List.{list_all}
+use Rattle.cube_model.specs.Text.{is_digit}
+use Rattle.fact_records.proofs.Digits.{digits-parsed, digits-utf8}
 use Rattle.fact_records.proofs.number.digits_value.Goals as goal
 
-pub returns-in_err-value : goal.returns-in_err-value
-returns-in_err-value c =
-    c.from_residual.ensures ∙ ReadsTo-stop _ _ c.loop-byte.value c.loop-byte-test.true c.loop-byte.invariant c.in_err-value.ensures
+pub returns-in-Ok : goal.returns-in-Ok
+returns-in-Ok c =
+    let all : list_all is_digit c.args.bytes.now ≡ true = sym c.are_digits.ensures ∙ c.if-not-are_digits.false in
+    c.ok.ensures.value ∙ digits-parsed c.args.bytes.now c.parse.result all c.requires (rw c.in-Ok.ensures.cases.0 at c.parse.ensures.value.0)
 
-pub loop-byte-preserved : goal.loop-byte-preserved
-loop-byte-preserved c = ReadsTo-more _ _ c.loop-byte.value _ c.loop-byte-test.true c.loop-byte.invariant c.in_ok-value.ensures
-
-pub returns : goal.returns
-returns c = ReadsTo-all _ _ _ c.loop-byte-test.false c.loop-byte.invariant
+pub returns-in-Err : goal.returns-in-Err
+returns-in-Err c =
+    let all : list_all is_digit c.args.bytes.now ≡ true = sym c.are_digits.ensures ∙ c.if-not-are_digits.false in
+    absurd (c.in-Err.ensures.cases.0 (digits-utf8 c.args.bytes.now all))

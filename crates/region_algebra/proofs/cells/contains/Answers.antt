@@ -1,6 +1,7 @@
 use Rattle.std.proofs.Common.{◌≡◌, ◌+◌, ◌∙◌, false, true, get_or, refl, sym, ap, arith}
 use Rattle.std.proofs.lemmas.Bool.Decides.{nat_tests}
-use Rattle.region_algebra.specs.Space.{cell_total, is_among}
+use Rattle.cube_model.specs.Cells.{is_among}
+use Rattle.region_algebra.specs.Space.{cell_total}
 use Rattle.region_algebra.proofs.Tuples.{inside-here, is_among-turn, outside-here, step-at}
 use Rattle.region_algebra.proofs.Turns.{cells-at_end, cell_total-some, here}
 use Rattle.region_algebra.proofs.cells.contains.Goals as goal

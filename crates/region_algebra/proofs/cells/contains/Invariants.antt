@@ -1,6 +1,5 @@
 use Rattle.std.proofs.Common.{◌≡◌, drop}
-use Rattle.cube_model.specs.Cells.{cells_of}
-use Rattle.region_algebra.specs.Space.{is_among}
+use Rattle.cube_model.specs.Cells.{cells_of, is_among}
 use Rattle.region_algebra.proofs.cells.contains.Given as goal
 
 abbrev pub invariant-loop-d : goal.invariant-loop-d

@@ -21,13 +21,13 @@ leaf_range-first-requires c =
 pub overflow_mul-count : goal.overflow_mul-count
 overflow_mul-count c =
     let at = before c.args.dims.now c.args.r (c.loop-d.d - 1) c.loop-d.d c.index-dims-d.result c.node.result c.requires.region c.loop-d.invariant.within c.loop-d-test.true refl c.index-dims-d.is c.node.ensures in
-    let next = count_next c.args.dims.now c.args.steps.now c.args.r (c.loop-d.d - 1) c.loop-d.d c.leaf_range-first.result.0 c.leaf_range-first.result.1 c.from-count.result c.loop-d.count c.index-dims-d.result c.node.result c.requires.steps at c.leaf_range-first.ensures.leaves c.from-count.ensures c.loop-d.invariant.count_is in
+    let next = count_next c.args.dims.now c.args.r (c.loop-d.d - 1) c.loop-d.d c.leaf_range-first.result.0 c.leaf_range-first.result.1 c.from-count.result c.loop-d.count c.index-dims-d.result c.node.result c.requires.trees c.requires.total at c.leaf_range-first.ensures.leaves c.from-count.ensures c.loop-d.invariant.count_is in
     omega (arith, next.1)
 
 pub loop-d-preserved : goal.loop-d-preserved
 loop-d-preserved c =
     let at = before c.args.dims.now c.args.r (c.loop-d.d - 1) c.loop-d.d c.index-dims-d.result c.node.result c.requires.region c.loop-d.invariant.within c.loop-d-test.true refl c.index-dims-d.is c.node.ensures in
-    let next = count_next c.args.dims.now c.args.steps.now c.args.r (c.loop-d.d - 1) c.loop-d.d c.leaf_range-first.result.0 c.leaf_range-first.result.1 c.from-count.result c.loop-d.count c.index-dims-d.result c.node.result c.requires.steps at c.leaf_range-first.ensures.leaves c.from-count.ensures c.loop-d.invariant.count_is in
+    let next = count_next c.args.dims.now c.args.r (c.loop-d.d - 1) c.loop-d.d c.leaf_range-first.result.0 c.leaf_range-first.result.1 c.from-count.result c.loop-d.count c.index-dims-d.result c.node.result c.requires.trees c.requires.total at c.leaf_range-first.ensures.leaves c.from-count.ensures c.loop-d.invariant.count_is in
     record {
       within = omega (arith, c.loop-d.invariant.within);
       count_is = next.0;

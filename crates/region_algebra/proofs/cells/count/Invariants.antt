@@ -8,6 +8,3 @@ invariant-loop-d l = record {
   count_is : l.count ≡ length (cells_of (drop l.d l.dims) (drop l.d l.r));
   some : 1 ≤ l.count;
 }
-
-abbrev pub decreases-loop-d : goal.decreases-loop-d
-decreases-loop-d l = l.d

@@ -7,6 +7,3 @@ invariant-loop-d l = record {
   within : l.d ≤ length l.dims;
   code_is : HasCode l.dims l.r l.d l.code;
 }
-
-abbrev pub decreases-loop-d : goal.decreases-loop-d
-decreases-loop-d l = l.d

@@ -7,11 +7,11 @@ pub returns-then-is_wrong_number : goal.returns-then-is_wrong_number
 returns-then-is_wrong_number c =
     let within : c.loop-i.i < length c.args.shape.now = omega arith in
     let step =
-    Searches-step c.args.shape.now c.args.first c.args.fields.now c.loop-i.i c.loop-i.fields c.next.result.now c.next.new.self c.is_wrong_number.result c.loop-i.invariant c.next.ensures within c.is_wrong_number.ensures in
+    Searches-step c.args.shape.now c.args.first c.args.fields.now c.loop-i.i c.loop-i.fields c.next_field.result.now c.next_field.new.self c.is_wrong_number.result c.loop-i.invariant c.next_field.ensures within c.is_wrong_number.ensures in
     sym (rw c.if-is_wrong_number.true at step)
 
 pub loop-i-preserved : goal.loop-i-preserved
 loop-i-preserved c =
     let within : c.loop-i.i < length c.args.shape.now = omega arith in
-    Searches-next c.args.shape.now c.args.first c.args.fields.now c.loop-i.i c.loop-i.fields c.next.result.now c.next.new.self c.is_wrong_number.result c.loop-i.invariant c.next.ensures within c.is_wrong_number.ensures
+    Searches-next c.args.shape.now c.args.first c.args.fields.now c.loop-i.i c.loop-i.fields c.next_field.result.now c.next_field.new.self c.is_wrong_number.result c.loop-i.invariant c.next_field.ensures within c.is_wrong_number.ensures
     c.if-is_wrong_number.false

@@ -16,8 +16,8 @@ returns-in_err-append_field-clause-err c = always _ (Keeps-front _ _ _ _ c.loop-
 
 pub loop-d-preserved : goal.loop-d-preserved
 loop-d-preserved c =
-    names-more c.args.space.now c.args.region c.loop-d.d c.dim.result.now c.node.result c.name_of.result.now c.args.out.now.items c.loop-d.out.items c.append_field.new.out.items c.dims-d-end.ensures.trees c.dim.ensures c.node.ensures
+    names-more c.args.space.now c.args.region c.loop-d.d c.dim.result.now c.node.result c.name_of.result.now c.args.text.now.items c.loop-d.text.items c.append_field.new.text.items c.dim.ensures c.node.ensures
     c.name_of.ensures c.loop-d.invariant (rw c.as_bytes.ensures.value at c.in_ok-append_field.ensures.ok)
 
 pub returns-clause-ok : goal.returns-clause-ok
-returns-clause-ok c = names-all c.args.space.now c.args.region c.loop-d.d c.args.out.now.items c.loop-d.out.items (omega arith) c.loop-d.invariant
+returns-clause-ok c = names-all c.args.space.now c.args.region c.loop-d.d c.args.text.now.items c.loop-d.text.items (omega arith) c.loop-d.invariant

@@ -37,10 +37,7 @@ fn inserts(rt: HostRuntime) -> Result<(), Fail> {
         (b"insert\t1\tLA\tCivic\t", Code::Value),
         (b"insert\t1\tLA\tCivic\t-", Code::Value),
     ];
-    for (line, want) in table {
-        let want = Some(LineFault::Code(want));
-        assert_eq!(rt; fault_of(&schema, line), want, "{line:?}");
-    }
+    expect_refusals(&rt, &schema, &table);
     Ok(())
 }
 
@@ -72,10 +69,7 @@ fn changes(rt: HostRuntime) -> Result<(), Fail> {
         (b"change\t1\tAustin\tCamry\t1.0", Code::Value),
         (b"change\t1\tAustin\tCamry\t", Code::Value),
     ];
-    for (line, want) in table {
-        let want = Some(LineFault::Code(want));
-        assert_eq!(rt; fault_of(&schema, line), want, "{line:?}");
-    }
+    expect_refusals(&rt, &schema, &table);
     Ok(())
 }
 
@@ -98,10 +92,7 @@ fn withdrawals(rt: HostRuntime) -> Result<(), Fail> {
         (b"withdraw\t1 ", Code::Id),
         (b"withdraw\t9223372036854775808", Code::Id),
     ];
-    for (line, want) in table {
-        let want = Some(LineFault::Code(want));
-        assert_eq!(rt; fault_of(&schema, line), want, "{line:?}");
-    }
+    expect_refusals(&rt, &schema, &table);
     Ok(())
 }
 
@@ -126,10 +117,7 @@ fn terms_of_a_region(rt: HostRuntime) -> Result<(), Fail> {
         (b"terms\tAustin\t", Code::Node),
         (b"terms\taustin\tCamry", Code::Node),
     ];
-    for (line, want) in table {
-        let want = Some(LineFault::Code(want));
-        assert_eq!(rt; fault_of(&schema, line), want, "{line:?}");
-    }
+    expect_refusals(&rt, &schema, &table);
     Ok(())
 }
 
@@ -152,9 +140,6 @@ fn rows_of_a_fact(rt: HostRuntime) -> Result<(), Fail> {
         (b"rows\tone", Code::Id),
         (b"rows\t9223372036854775808", Code::Id),
     ];
-    for (line, want) in table {
-        let want = Some(LineFault::Code(want));
-        assert_eq!(rt; fault_of(&schema, line), want, "{line:?}");
-    }
+    expect_refusals(&rt, &schema, &table);
     Ok(())
 }

@@ -23,10 +23,7 @@ fn two_faults_of_an_insert(rt: HostRuntime) -> Result<(), Fail> {
         (b"insert\t1\tWaco\tCamry\t+5", Code::Node),
         (b"insert\t1\tAustin\tWaco\t+5", Code::Node),
     ];
-    for (line, want) in table {
-        let want = Some(LineFault::Code(want));
-        assert_eq!(rt; fault_of(&schema, line), want, "{line:?}");
-    }
+    expect_refusals(&rt, &schema, &table);
     Ok(())
 }
 
@@ -52,10 +49,7 @@ fn two_faults_of_a_change(rt: HostRuntime) -> Result<(), Fail> {
         (b"change\t1\tWaco\tCamry\t+5", Code::Node),
         (b"change\t1\tAustin\tWaco\t+5", Code::Node),
     ];
-    for (line, want) in table {
-        let want = Some(LineFault::Code(want));
-        assert_eq!(rt; fault_of(&schema, line), want, "{line:?}");
-    }
+    expect_refusals(&rt, &schema, &table);
     Ok(())
 }
 
@@ -71,10 +65,7 @@ fn two_faults_of_a_withdrawal(rt: HostRuntime) -> Result<(), Fail> {
         (b"withdraw\t0\tx", Code::Fields),
         (b"withdraw\tx\t1", Code::Fields),
     ];
-    for (line, want) in table {
-        let want = Some(LineFault::Code(want));
-        assert_eq!(rt; fault_of(&schema, line), want, "{line:?}");
-    }
+    expect_refusals(&rt, &schema, &table);
     Ok(())
 }
 
@@ -90,10 +81,7 @@ fn two_faults_of_terms(rt: HostRuntime) -> Result<(), Fail> {
         (b"terms\tWaco", Code::Fields),
         (b"terms\tAustin\tWaco\t", Code::Fields),
     ];
-    for (line, want) in table {
-        let want = Some(LineFault::Code(want));
-        assert_eq!(rt; fault_of(&schema, line), want, "{line:?}");
-    }
+    expect_refusals(&rt, &schema, &table);
     Ok(())
 }
 
@@ -109,10 +97,7 @@ fn two_faults_of_rows(rt: HostRuntime) -> Result<(), Fail> {
         (b"rows\t0\tx", Code::Fields),
         (b"rows\tx\t1", Code::Fields),
     ];
-    for (line, want) in table {
-        let want = Some(LineFault::Code(want));
-        assert_eq!(rt; fault_of(&schema, line), want, "{line:?}");
-    }
+    expect_refusals(&rt, &schema, &table);
     Ok(())
 }
 

@@ -20,7 +20,7 @@ inside-weight-requires-clause-cells g c = next_rows c.loop-fact.invariant c.in-S
 pub add_term-requires-clause-within : goal.add_term-requires-clause-within
 add_term-requires-clause-within g c =
     next_fits c.loop-fact.invariant c.in-Some.ensures.steps c.in-Some-get.ensures.value c.den-den.ensures.kept c.den-den.ensures.den c.space-space.ensures.dims c.inside-weight.ensures.sum c.inside-weight.ensures.most
-    c.self.invariant.lawful.few
+    c.self.invariant.valid.few
 
 -- and then a fact less is left
 pub loop-fact-preserved : goal.loop-fact-preserved
@@ -33,7 +33,7 @@ pub returns-clause-terms : goal.returns-clause-terms
 returns-clause-terms g c = rw (← c.self.view_is) (end_answer c.loop-fact.invariant c.in-None.ensures.steps.0)
 
 pub returns-clause-moderate : goal.returns-clause-moderate
-returns-clause-moderate g c = end_moderate c.loop-fact.invariant c.in-None.ensures.steps.0 c.self.invariant.lawful.few
+returns-clause-moderate g c = end_moderate c.loop-fact.invariant c.in-None.ensures.steps.0 c.self.invariant.valid.few
 
 pub returns-clause-bounded : goal.returns-clause-bounded
-returns-clause-bounded g c = end_bounded c.loop-fact.invariant c.in-None.ensures.steps.0 c.self.invariant.lawful.few
+returns-clause-bounded g c = end_bounded c.loop-fact.invariant c.in-None.ensures.steps.0 c.self.invariant.valid.few

@@ -1,4 +1,4 @@
--- No facts are lawful, and have no rows.
+-- No facts are valid, and have no rows.
 use Rattle.cube_core.proofs.Keeping.{IsCube-empty}
 use Rattle.cube_core.proofs.cube.Cube.new.Goals as goal
 

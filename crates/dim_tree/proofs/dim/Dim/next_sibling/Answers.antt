@@ -1,4 +1,4 @@
-use Rattle.std.proofs.Common.{arith, ap, sym, ◌∙◌, ◌≡◌, ◌<◌, get_or, length}
+use Rattle.std.proofs.Common.{arith, get_or}
 use Rattle.std.proofs.lemmas.Bool.Decides.{nat_tests}
 use Rattle.dim_tree.proofs.Families.{family, sibling_some, sibling_none}
 use Rattle.dim_tree.proofs.Queries.{answers, item_read}
@@ -31,11 +31,6 @@ returns-then-end-index-clause-within c =
     let room = (family c.self.invariant c.self.view_is).parent_within c.args.n c.requires in
     let parent_end = item_read _ _ _ kept.room_ends (omega (arith, parent, room)) c.index.ensures in
     grind (arith, nat_tests, parent, parent_end, kept.end_within (get_or c.self.inside.parents.items c.args.n 0) room)
-
-pub returns-then-end-index-clause-behind : goal.returns-then-end-index-clause-behind
-returns-then-end-index-clause-behind c =
-    let kept = answers c.self.invariant c.self.view_is in
-    grind (arith, item_read _ _ _ kept.room_ends c.requires c.index-end.ensures, (family c.self.invariant c.self.view_is).end_above c.args.n c.requires)
 
 pub returns-else-end-index-clause-sibling : goal.returns-else-end-index-clause-sibling
 returns-else-end-index-clause-sibling c =

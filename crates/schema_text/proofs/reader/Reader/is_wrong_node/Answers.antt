@@ -4,8 +4,8 @@ use Rattle.dim_tree.proofs.Judging.{list_any-names}
 use Rattle.schema_text.proofs.Names.{is_name-not_utf8}
 use Rattle.schema_text.proofs.reader.Reader.is_wrong_node.Goals as goal
 
-pub returns-else-not-has_name_bytes : goal.returns-else-not-has_name_bytes
-returns-else-not-has_name_bytes c =
+pub returns-else-not-is_name : goal.returns-else-not-is_name
+returns-else-not-is_name c =
     rw (← c.self.view_is, ← c.self.invariant.known) (grind (arith, list_any-names c.args.name.now c.self.inside.known.keys))
 
 pub returns-in-Err : goal.returns-in-Err

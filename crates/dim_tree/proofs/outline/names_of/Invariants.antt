@@ -1,6 +1,0 @@
-use Rattle.std.proofs.Common.{map, string_bytes}
-use Rattle.dim_tree.proofs.Judging.{IsJudged}
-use Rattle.dim_tree.proofs.outline.names_of.Given as goal
-
-abbrev pub invariant-loop-place : goal.invariant-loop-place
-invariant-loop-place l = IsJudged l.lines l.place l.before (map string_bytes l.names.keys)

@@ -1,0 +1,26 @@
+//! The fields of a reply.
+ghost use Rattle.std.specs.Prelude.{◌≡◌, ◌∷◌, ◌++◌, OnOk, OnErr};
+ghost use Rattle.script_text.specs.ReplySteps.{Keeps};
+
+use cube_base::Memory;
+use itoa::{Buffer, Integer};
+
+// Where memory is wanting, these and their callers below `append_reply` may have appended a part.
+
+/// Appends TAB and a number.
+pub fn append_number<I: Integer>(text: &mut Vec<u8>, number: I) -> Result<(), Memory>
+    ensures ok { OnOk result (text.new.items ≡ text.old.items ++ 9 ∷ I.text number) }
+    ensures err { OnErr result (Keeps text.old.items text.new.items) }
+{
+    append_field(text, Buffer::new().format(number).as_bytes())
+}
+
+/// Appends TAB and these bytes.
+pub fn append_field(text: &mut Vec<u8>, field: &[u8]) -> Result<(), Memory>
+    ensures ok { OnOk result (text.new.items ≡ text.old.items ++ 9 ∷ field.now) }
+    ensures err { OnErr result (Keeps text.old.items text.new.items) }
+{
+    text.push(b'\t')?;
+    text.extend_from_slice(field)?;
+    Ok(())
+}
