@@ -8,10 +8,14 @@ use Rattle.cube_base.specs.declared.fault.SinkError.TheVariants.{Failed, Memory}
 abbrev pub LAST_COUNT : ℕ
 LAST_COUNT = 2 ^ 64 - 1
 
+-- a count after one more, which stands at its last value
+abbrev pub next_count : ℕ → ℕ
+next_count n = min (n + 1) LAST_COUNT
+
 -- A count of faults rose in a call: it is greater after it than before, or stands at its last value.
 pub record Rose (before after : ℕ) : Type 0 where
   pub no_less : before ≤ after
-  pub risen : min (before + 1) LAST_COUNT ≤ after
+  pub risen : next_count before ≤ after
 
 -- a call whose one error is a fault of the outside: at an error the count rose, else it stays
 abbrev pub CountsFault : {T E : Type 0} → ℕ → ℕ → Result T E → Type 0

@@ -100,19 +100,3 @@ impl Code {
         }
     }
 }
-
-#[cfg(test)]
-mod tests {
-    use super::*;
-
-    #[test]
-    fn codes_have_the_words_of_the_replies(rt: HostRuntime) {
-        for (code, word) in [
-            (Code::Exists, "exists"),
-            (Code::Command, "command"),
-            (Code::Order, "order"),
-        ] {
-            assert_eq!(rt; code.word(), word);
-        }
-    }
-}

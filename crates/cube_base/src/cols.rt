@@ -64,23 +64,3 @@ impl Cols {
         self.values[i as usize]
     }
 }
-
-#[cfg(test)]
-mod tests {
-    use super::*;
-    use std::test::Fail;
-
-    #[test]
-    fn holds_up_to_seven_values(rt: HostRuntime) -> Result<(), Fail> {
-        let values = [i64::MIN, -1, 0, 1, 2, 3, i64::MAX, 8];
-        let none = Cols::new(&[]).ok_or("no values are few enough")?;
-        assert_eq!(rt; none.len(), 0);
-        let seven = Cols::new(&values[..7]).ok_or("seven values are few enough")?;
-        assert_eq!(rt; seven.len(), 7);
-        for i in 0..7u32 {
-            assert_eq!(rt; seven.get(i), values[i as usize], "at {i}");
-        }
-        assert!(rt; Cols::new(&values).is_none());
-        Ok(())
-    }
-}

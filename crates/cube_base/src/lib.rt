@@ -5,15 +5,19 @@
 mod code;
 mod cols;
 mod fault;
+mod laws;
 mod memory_io;
 mod name;
 mod outside;
 mod plain_list;
 mod standard_io;
+#[cfg(test)]
+mod tests;
 
 pub use code::Code;
 pub use cols::{Cols, MAX_COLS};
 pub use fault::{Failed, Memory, SinkError};
+pub use laws::worked_names;
 pub use memory_io::{MemSink, MemSource};
 pub use name::{MAX_NAME_LEN, Name, is_name};
 pub use outside::{Sink, Source, write_from, write_whole};

@@ -2,8 +2,7 @@
 ghost use Rattle.std.specs.Prelude.{◌≡◌, ◌↔◌, ◌<◌, ◌≤◌, [], Some, Err, min, length, Contains, IfOk, OnErr, IsErr, IsTrue, if◌then◌else◌};
 ghost use Rattle.std.specs.Bool.{OnTrue};
 ghost use Rattle.std.specs.Io.KnownBytes.{ReadConsumes, WriteAppends};
-ghost use Rattle.cube_base.specs.Outside.{CountsFault, CountsSinkFault, Rose};
-ghost use Rattle.cube_base.specs.MemoryIo.{next_call};
+ghost use Rattle.cube_base.specs.Outside.{CountsFault, CountsSinkFault, Rose, next_count};
 ghost use Rattle.cube_base.specs.declared.fault.SinkError.TheVariants as sink_error;
 
 use crate::{Bytes, Failed, Ids, Sink, SinkError, Source};
@@ -33,9 +32,9 @@ impl Calls {
     /// Counts a call, and its fault where it is one of those that fail. Both counts stand at their
     /// last value.
     fn next_fails(&mut self) -> bool
-        ensures failed { IsTrue result ↔ Contains self.old.fails (next_call self.old.made) }
-        ensures made { self.new.made ≡ next_call self.old.made }
-        ensures faults { self.new.faults ≡ (if result then next_call self.old.faults else self.old.faults) }
+        ensures failed { IsTrue result ↔ Contains self.old.fails (next_count self.old.made) }
+        ensures made { self.new.made ≡ next_count self.old.made }
+        ensures faults { self.new.faults ≡ (if result then next_count self.old.faults else self.old.faults) }
         ensures rose { OnTrue result (Rose self.old.faults self.new.faults) }
         ensures fails { self.new.fails ≡ self.old.fails }
     {
@@ -111,10 +110,10 @@ impl Source for MemSource {
         ensures count { CountsFault self.old.faults self.new.faults result }
 
         // What this one adds.
-        ensures fails { IsErr result ↔ Contains self.old.fails (next_call self.old.calls) }
-        ensures raised { OnErr result (self.new.faults ≡ next_call self.old.faults) }
+        ensures fails { IsErr result ↔ Contains self.old.fails (next_count self.old.calls) }
+        ensures raised { OnErr result (self.new.faults ≡ next_count self.old.faults) }
         ensures given { IfOk result (λ n. n ≡ min (min self.old.step (length into.new)) (length self.old.left)) }
-        ensures called { self.new.calls ≡ next_call self.old.calls }
+        ensures called { self.new.calls ≡ next_count self.old.calls }
         ensures same_step { self.new.step ≡ self.old.step }
         ensures same_fails { self.new.fails ≡ self.old.fails }
     {
@@ -191,10 +190,10 @@ impl Sink for MemSink {
         ensures count { CountsSinkFault self.old.faults self.new.faults result }
 
         // What this one adds.
-        ensures fails { (result ≡ Err sink_error.Failed) ↔ Contains self.old.fails (next_call self.old.calls) }
-        ensures raised { result ≡ Err sink_error.Failed → self.new.faults ≡ next_call self.old.faults }
+        ensures fails { (result ≡ Err sink_error.Failed) ↔ Contains self.old.fails (next_count self.old.calls) }
+        ensures raised { result ≡ Err sink_error.Failed → self.new.faults ≡ next_count self.old.faults }
         ensures taken { IfOk result (λ n. n ≡ min self.old.step (length piece.now)) }
-        ensures called { self.new.calls ≡ next_call self.old.calls }
+        ensures called { self.new.calls ≡ next_count self.old.calls }
         ensures same_step { self.new.step ≡ self.old.step }
         ensures same_fails { self.new.fails ≡ self.old.fails }
     {
@@ -204,47 +203,5 @@ impl Sink for MemSink {
         let count = self.step.min(piece.len());
         self.taken.extend_from_slice(&piece[..count])?;
         Ok(count)
-    }
-}
-
-#[cfg(test)]
-mod tests {
-    use super::*;
-    use crate::write_whole;
-    use std::test::Fail;
-
-    #[test]
-    fn source_gives_its_bytes_in_steps_round_a_failed_call(rt: HostRuntime) -> Result<(), Fail> {
-        let bytes = Bytes::from(b"abcdefg".to_vec(rt.alloc())?);
-        let fails = Ids::from([2].to_vec(rt.alloc())?);
-        let mut source = MemSource::new(rt.alloc(), bytes, 3, fails);
-        let mut into = [0; 8];
-        for (answer, left) in [
-            (Ok(3), "defg"),
-            (Err(Failed), "defg"),
-            (Ok(3), "g"),
-            (Ok(1), ""),
-            (Ok(0), ""),
-        ] {
-            assert_eq!(rt; source.read(&mut into), answer);
-            assert_eq!(rt; source.left(), left.as_bytes());
-        }
-        Ok(())
-    }
-
-    #[test]
-    fn sink_keeps_the_bytes_before_a_failed_call(rt: HostRuntime) -> Result<(), Fail> {
-        for (fails, answer, taken) in [
-            (0, Ok(()), "ok\t1\n"),
-            (1, Err(SinkError::Failed), ""),
-            (2, Err(SinkError::Failed), "ok\t"),
-            (3, Ok(()), "ok\t1\n"),
-        ] {
-            let fails = Ids::from([fails].to_vec(rt.alloc())?);
-            let mut sink = MemSink::new(rt.alloc(), 3, fails);
-            assert_eq!(rt; write_whole(&mut sink, b"ok\t1\n"), answer);
-            assert_eq!(rt; sink.bytes(), taken.as_bytes());
-        }
-        Ok(())
     }
 }

@@ -37,6 +37,14 @@ impl Name {
         Ok(Some(Name { text }))
     }
 
+    /// An equal name.
+    pub fn copy(&self) -> Result<Self, Memory>
+        ensures { IfOk result (λ name. name ≡ self.now) }
+    {
+        let text = self.text.clone()?;
+        Ok(Name { text })
+    }
+
     /// The text of the name.
     pub fn text(&self) -> &str
         ensures same { result.now ≡ self.now }
@@ -60,35 +68,4 @@ fn are_name_bytes(bytes: &[u8]) -> bool
     ensures { result ≡ list_all is_name_byte bytes.now }
 {
     bytes.iter().all(|b| *b >= 32 && *b != 127)
-}
-
-#[cfg(test)]
-mod tests {
-    use super::*;
-    use std::test::Fail;
-
-    #[test]
-    fn names_have_1_to_128_bytes_and_no_control_bytes(rt: HostRuntime) -> Result<(), Fail> {
-        let cases = [
-            ("a", 0, false),
-            ("a", 1, true),
-            ("a", 128, true),
-            ("a", 129, false),
-            ("\x1f", 1, false),
-            (" ", 1, true),
-            ("~", 1, true),
-            ("\x7f", 1, false),
-            ("\u{e9}", 1, true),
-            ("\u{1f697}", 32, true),
-            ("\u{1f697}", 33, false),
-        ];
-        for (piece, times, is_accepted) in cases {
-            let text = piece.repeat(rt.alloc(), times)?;
-            let name = Name::new(rt.alloc(), text.as_str())?;
-            let kept = name.as_ref().map(|name| name.text());
-            let want = is_accepted.then_some(text.as_str());
-            assert_eq!(rt; kept, want, "{times} times {piece:?}");
-        }
-        Ok(())
-    }
 }

@@ -72,30 +72,3 @@ impl<T> From<Vec<T>> for PlainList<T> {
         PlainList { items }
     }
 }
-
-#[cfg(test)]
-mod tests {
-    use super::*;
-    use std::test::Fail;
-
-    #[test]
-    fn lists_of_each_item_take_one_more(rt: HostRuntime) -> Result<(), Fail> {
-        let mut bytes = Bytes::new(rt.alloc());
-        bytes.push(b'a')?;
-        assert_eq!(rt; bytes.as_slice(), [b'a'].as_slice());
-        let mut ids = Ids::from([1].to_vec(rt.alloc())?);
-        ids.push(u64::MAX)?;
-        assert_eq!(rt; ids.as_slice(), [1, u64::MAX].as_slice());
-        let mut nums = Nums::new(rt.alloc());
-        nums.push(i128::MIN)?;
-        assert_eq!(rt; nums.as_slice(), [i128::MIN].as_slice());
-        let mut pairs = Pairs::new(rt.alloc());
-        pairs.push((1, 2))?;
-        assert_eq!(rt; pairs.into_vec().as_slice(), [(1, 2)].as_slice());
-        let mut names = Names::new(rt.alloc());
-        names.push(Name::new(rt.alloc(), "Austin")?.ok_or("a name")?)?;
-        let first = names.as_slice().first().map(|name| name.text());
-        assert_eq!(rt; first, Some("Austin"));
-        Ok(())
-    }
-}

@@ -1,7 +1,8 @@
 //! Readers and writers of std as sources and sinks.
-ghost use Rattle.std.specs.Prelude.{◌≡◌};
-ghost use Rattle.std.specs.Io.KnownBytes.{Keeps};
-ghost use Rattle.cube_base.specs.Outside.{CountsFault, Rose};
+ghost use Rattle.std.specs.Prelude.{◌≡◌, ◌<◌, ◌≤◌, length, IfErr, IfOk, OnErr};
+ghost use Rattle.std.specs.Io.KnownBytes.{ReadConsumes, WriteAppends};
+ghost use Rattle.cube_base.specs.Outside.{CountsFault, CountsSinkFault, Rose, next_count};
+ghost use Rattle.cube_base.specs.declared.fault.SinkError.TheVariants as sink_error;
 
 use crate::{Failed, Sink, SinkError, Source};
 use std::io::{Read, Write};
@@ -45,7 +46,17 @@ impl<R: Read> Source for StdSource<R> {
 
     ghost faults = { λ s. s.faults };
 
-    fn read(&mut self, into: &mut [u8]) -> Result<usize, Failed> {
+    fn read(&mut self, into: &mut [u8]) -> Result<usize, Failed>
+        requires { 0 < length into.old }
+
+        // What every source says.
+        ensures within { IfOk result (λ n. n ≤ length into.new) }
+        ensures bytes { ReadConsumes (R.remaining self.old.inner) (R.remaining self.new.inner) result into.new }
+        ensures count { CountsFault self.old.faults self.new.faults result }
+
+        // What this one adds.
+        ensures raised { OnErr result (self.new.faults ≡ next_count self.old.faults) }
+    {
         match self.inner.read(into) {
             Ok(count) => Ok(count),
             Err(_) => Err(count_fault(&mut self.faults)),
@@ -54,7 +65,7 @@ impl<R: Read> Source for StdSource<R> {
 }
 
 /// A writer of std as a sink. It tells the bytes that the writer tells. The writer's errors count as
-/// faults, and so does a write that takes nothing.
+/// faults, and so does a write that takes nothing. It never answers `Memory`.
 #[derive(Debug, Drop)]
 pub struct StdSink<W> {
     inner: W,
@@ -77,17 +88,6 @@ impl<W: Write> StdSink<W> {
         StdSink { inner, faults: 0 }
     }
 
-    /// Passes on what the writer has kept back. `Failed` is an error of the writer, counted.
-    pub fn flush(&mut self) -> Result<(), Failed>
-        ensures bytes { Keeps (W.contents self.old.inner) (W.contents self.new.inner) }
-        ensures count { CountsFault self.old.faults self.new.faults result }
-    {
-        match self.inner.flush() {
-            Ok(()) => Ok(()),
-            Err(_) => Err(count_fault(&mut self.faults)),
-        }
-    }
-
     /// The writer.
     pub fn into_inner(self) -> W
         ensures { result ≡ self.inner }
@@ -102,7 +102,19 @@ impl<W: Write> Sink for StdSink<W> {
 
     ghost faults = { λ s. s.faults };
 
-    fn write(&mut self, piece: &[u8]) -> Result<usize, SinkError> {
+    fn write(&mut self, piece: &[u8]) -> Result<usize, SinkError>
+        requires { 0 < length piece.now }
+
+        // What every sink says.
+        ensures some { IfOk result (λ n. 0 < n) }
+        ensures within { IfOk result (λ n. n ≤ length piece.now) }
+        ensures bytes { WriteAppends (W.contents self.old.inner) (W.contents self.new.inner) result piece.now }
+        ensures count { CountsSinkFault self.old.faults self.new.faults result }
+
+        // What this one adds.
+        ensures never_memory { IfErr result (λ error. error ≡ sink_error.Failed) }
+        ensures raised { OnErr result (self.new.faults ≡ next_count self.old.faults) }
+    {
         match self.inner.write(piece) {
             Ok(count) if count > 0 => Ok(count),
             _ => Err(count_fault(&mut self.faults).into()),
@@ -112,54 +124,9 @@ impl<W: Write> Sink for StdSink<W> {
 
 /// Counts a fault. The count stands at its last value.
 fn count_fault(faults: &mut u64) -> Failed
-    ensures { Rose faults.old faults.new }
+    ensures raised { faults.new ≡ next_count faults.old }
+    ensures rose { Rose faults.old faults.new }
 {
     *faults = faults.saturating_add(1);
     Failed
-}
-
-#[cfg(test)]
-mod tests {
-    use super::*;
-    use std::io;
-
-    /// A writer that takes nothing and cannot pass anything on.
-    #[derive(Drop)]
-    struct Full;
-
-    impl Write for Full {
-        fn write(&mut self, _buf: &[u8]) -> io::Result<usize> {
-            Ok(0)
-        }
-
-        fn flush(&mut self) -> io::Result<()> {
-            Err(io::Error::from(io::ErrorKind::WriteZero))
-        }
-    }
-
-    #[test]
-    fn source_gives_what_its_reader_gives(rt: HostRuntime) {
-        let mut source = StdSource::new(b"abc".as_slice());
-        let mut into = [0; 2];
-        assert_eq!(rt; source.read(&mut into), Ok(2));
-        assert_eq!(rt; into, *b"ab");
-        assert_eq!(rt; source.read(&mut into), Ok(1));
-        assert_eq!(rt; source.read(&mut into), Ok(0));
-        assert!(rt; source.into_inner().is_empty());
-    }
-
-    #[test]
-    fn sink_hands_bytes_to_its_writer(rt: HostRuntime) {
-        let mut sink = StdSink::new(Vec::new(rt.alloc()));
-        assert_eq!(rt; sink.write(b"abc"), Ok(3));
-        assert_eq!(rt; sink.flush(), Ok(()));
-        assert_eq!(rt; sink.into_inner().as_slice(), b"abc".as_slice());
-    }
-
-    #[test]
-    fn write_that_takes_nothing_is_a_fault(rt: HostRuntime) {
-        let mut sink = StdSink::new(Full);
-        assert_eq!(rt; sink.write(b"abc"), Err(SinkError::Failed));
-        assert_eq!(rt; sink.flush(), Err(Failed));
-    }
 }

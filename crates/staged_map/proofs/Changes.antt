@@ -5,7 +5,7 @@ use Rattle.std.proofs.lemmas.Grind.{common_steps}
 use Rattle.std.proofs.lemmas.List.{take-append-drop, take_more}
 use Rattle.std.proofs.lemmas.List.Folds.{list_any-append}
 use Rattle.std.specs.Cmp.{nat_eq_equiv}
-use Rattle.std.specs.List.{list_any}
+use Rattle.std.specs.List.{All, list_any}
 use Rattle.staged_map.specs.Staged.{Places, Reserves, ReservesSome, Sets, has_place, place_of}
 
 module _ {V : Type 0} (old new : Places V) (key : ℕ) where
@@ -38,6 +38,11 @@ module _ {V : Type 0} (old new : Places V) where
     where
       one_more : (k : ℕ) → list_any (eqb k) (take (i + 1) keys) ≡ (list_any (eqb k) (take i keys) || list_any (eqb k) (get_or keys i 0 ∷ []))
       one_more k = ap (list_any (eqb k)) (take_more keys i 0 below) ∙ list_any-append (eqb k) (take i keys) (get_or keys i 0 ∷ [])
+
+  -- where each of the keys had a place, none of them is without one when some have got theirs
+  pub placed-absent : (keys before : List ℕ) (i : ℕ) → i < length keys → Reserves old new before → has_place new (get_or keys i 0) ≡ false
+      → All (λ key. has_place old key ≡ true) keys → ⊥
+  placed-absent keys before i below given absent placed = grind (arith, common_steps, given.places (get_or keys i 0), absent, placed i 0 below)
 
   -- a part of the keys is some of them
   pub ReservesSome-part : (keys : List ℕ) (count : ℕ) → Reserves old new (take count keys) → ReservesSome old new keys

@@ -2,5 +2,7 @@
 #![tactic(auto)]
 
 mod staged;
+#[cfg(test)]
+mod tests;
 
 pub use staged::Staged;

@@ -1,12 +1,9 @@
 //! A map from numbers in which keys can have a place before they have a value.
-ghost use Rattle.std.specs.Prelude.{◌≡◌, ◌∷◌, [], true, map, filter, is_some, nat_eq, IfOk, OnOk, OnErr};
+ghost use Rattle.std.specs.Prelude.{◌≡◌, ◌∷◌, [], true, false, map, filter, is_some, nat_eq, All, IfOk, IsOk, OnOk, OnErr};
 ghost use Rattle.std.specs.List.{IsDistinct};
 ghost use Rattle.std.specs.Map.{keys_of};
 ghost use Rattle.std.specs.Option.{option_copied};
 ghost use Rattle.staged_map.specs.Staged.{AreKeys, Removes, Reserves, ReservesSome, Sets, has_place, value_at};
-
-#[cfg(test)]
-mod tests;
 
 use cube_base::{Ids, Memory};
 use indexmap::IndexMap;
@@ -62,10 +59,12 @@ impl<V: Drop> Staged<V> {
         self.places.swap_remove(&key).flatten()
     }
 
-    /// Gives each of the keys a place. On an error some of them may have got one.
+    /// Gives each of the keys a place. On an error some of them may have got one. It takes no memory where each has a
+    /// place already.
     pub fn reserve(&mut self, keys: &[u64]) -> Result<(), Memory>
         ensures ok { OnOk result (Reserves self.old self.new keys.now) }
         ensures err { OnErr result (ReservesSome self.old self.new keys.now) }
+        ensures placed { All (λ key. has_place self.old key ≡ true) keys.now → IsOk result }
     {
         for key in keys {
             self.give_place(*key)?;
@@ -73,10 +72,11 @@ impl<V: Drop> Staged<V> {
         Ok(())
     }
 
-    /// Gives a key a place. On an error it got none.
+    /// Gives a key a place. On an error it has none.
     fn give_place(&mut self, key: u64) -> Result<(), Memory>
         ensures ok { OnOk result (Reserves self.old self.new (key ∷ [])) }
         ensures err { OnErr result (self.new ≡ self.old) }
+        ensures absent { OnErr result (has_place self.old key ≡ false) }
     {
         if !self.places.contains_key(&key) {
             self.places.insert(key, None)?;
