@@ -1,0 +1,6 @@
+pub mod Ascii
+pub mod Cuts
+pub mod Digits
+pub mod FieldWalks
+pub mod LineTexts
+pub mod Numbers

@@ -1,0 +1,3 @@
+pub mod FieldsLeft
+pub mod LineText
+pub mod Text

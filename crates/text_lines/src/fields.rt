@@ -1,0 +1,93 @@
+//! The fields of a line: what stands between its TABs.
+ghost use Rattle.std.specs.Prelude.{◌≡◌, ◌==◌, ℕ, ◌≤◌, List, ◌∷◌, count_by, length};
+ghost use Rattle.std.specs.Str.{bytes_eq};
+ghost use Rattle.text_lines.specs.Text.{fields_of};
+ghost use Rattle.text_lines.specs.LineText.{field_at};
+
+use std::marker::Model;
+
+/// What hands out fields one after another, as the walk through a line does. What reads ids, names and values takes
+/// their fields from any of these. Contracts see the fields that are left.
+pub trait Fields<'a> {
+    /// The fields that are left.
+    ghost left: { Self → List (List ℕ) };
+
+    /// Hands out the next of the fields.
+    fn next_field(&mut self) -> &'a str
+        requires { 1 ≤ length (left self.old) }
+        ensures { left self.old ≡ result.now ∷ left self.new };
+}
+
+/// A walk through the fields of a line, which makes no list of them. Contracts see the fields that are left.
+#[derive(Drop)]
+pub struct FieldWalk<'a> {
+    rest: Option<&'a str>,
+}
+
+impl<'a> Model for FieldWalk<'a> {
+    ghost use Rattle.std.specs.Prelude.{ℕ, List};
+    ghost use Rattle.text_lines.specs.FieldsLeft.{fields_left};
+
+    ghost Value = { List (List ℕ) };
+
+    ghost view = { λ w. fields_left w.rest };
+}
+
+impl<'a> FieldWalk<'a> {
+    /// The walk before the first field of a line. There is one at least: an empty line has an empty field.
+    pub fn new(line: &'a str) -> Self
+        ensures { result ≡ fields_of line.now }
+    {
+        FieldWalk { rest: Some(line) }
+    }
+}
+
+impl<'a> Fields<'a> for FieldWalk<'a> {
+    ghost left = { λ walk. walk };
+
+    fn next_field(&mut self) -> &'a str {
+        let line = self.rest.unwrap();
+        match line.split_once('\t') {
+            Some((field, rest)) => {
+                self.rest = Some(rest);
+                field
+            }
+            None => {
+                self.rest = None;
+                line
+            }
+        }
+    }
+}
+
+/// The number of fields of a line: one more than it has TABs.
+pub fn field_count(line: &[u8]) -> usize
+    ensures { result ≡ length (fields_of line.now) }
+{
+    tab_count(line) + 1
+}
+
+/// The number of TABs in a line.
+fn tab_count(line: &[u8]) -> usize
+    ensures count { result ≡ count_by (λ b. b == 9) line.now }
+    ensures most { result ≤ length line.now }
+{
+    line.iter().filter(|byte| **byte == b'\t').count()
+}
+
+/// The field of a line at a place, counted from 0: empty where the line has fewer fields.
+pub fn field_at(line: &[u8], place: usize) -> &[u8]
+    ensures { result.now ≡ field_at (fields_of line.now) place }
+{
+    match line.split(|byte| *byte == b'\t').nth(place) {
+        Some(field) => field,
+        None => &[],
+    }
+}
+
+/// Whether a field is this text, byte for byte.
+pub fn is_text(field: &[u8], text: &str) -> bool
+    ensures { result ≡ bytes_eq field.now text.now }
+{
+    field == text.as_bytes()
+}
