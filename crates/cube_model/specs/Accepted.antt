@@ -13,6 +13,12 @@ abbrev pub first_that_holds : List (Bool × Code) → Option Code
 first_that_holds [] = None
 first_that_holds ((holds, code) ∷ rest) = if holds then Some code else first_that_holds rest
 
+-- the first refusal that there is
+abbrev pub first_refusal : List (Option Code) → Option Code
+first_refusal [] = None
+first_refusal (None ∷ refusals) = first_refusal refusals
+first_refusal (Some refusal ∷ refusals) = Some refusal
+
 -- an edit is a put of an id that is there
 abbrev pub is_repeat : Edit → List Fact → Bool
 is_repeat (Put fact) facts = has_id fact.id facts

@@ -1,5 +1,5 @@
 -- What the facts inside a region add up to, denominator by denominator.
-use Rattle.std.specs.Prelude.{ℕ, List, [], ◌∷◌, ◌++◌, zero, suc, map, filter, sum_by, max, ◌==◌, if◌then◌else◌, ℤ, pos, ◌+ℤ◌, ◌*ℤ◌, slice_index_or, Option}
+use Rattle.std.specs.Prelude.{ℕ, ◌+◌, List, [], ◌∷◌, ◌++◌, zero, suc, map, filter, sum_by, max, ◌==◌, if◌then◌else◌, ℤ, pos, ◌+ℤ◌, ◌*ℤ◌, slice_index_or, Option}
 use Rattle.std.specs.Option.{option_map_or}
 use Rattle.std.specs.List.{find, range_with_len}
 use Rattle.cube_model.specs.declared.term.Term.{Term}
@@ -44,6 +44,11 @@ answer columns dims rows region =
     let cells = cells_of dims region in
     terms_below (count_at cells rows) (λ den. map (λ column. sum_at cells rows column den) (range_with_len 0 columns)) (bound_of rows)
 
+-- one more than the largest denominator of terms
+abbrev pub den_bound : List Term → ℕ
+den_bound [] = 0
+den_bound (t ∷ terms) = max (suc t.den) (den_bound terms)
+
 -- the term of a denominator, if there is one
 abbrev pub term_of : List Term → ℕ → Option Term
 term_of terms den = find (λ t. t.den == den) terms
@@ -55,3 +60,15 @@ count_of terms den = option_map_or (λ t. t.count) (term_of terms den) 0
 -- a column's numerator at a denominator, the count being column 0; 0 where there is no term
 abbrev pub numerator_of : List Term → ℕ → ℕ → ℤ
 numerator_of terms den column = option_map_or (λ t. slice_index_or (pos t.count ∷ t.sums) column (pos 0)) (term_of terms den) (pos 0)
+
+-- Two answers merged, over a number of columns of values: numerators of equal denominators are added, and a term whose count is 0 is left out.
+unfoldable pub merge : ℕ → List Term → List Term → List Term
+merge columns left right =
+    terms_below (λ den. count_of left den + count_of right den)
+    (λ den. map (λ column. numerator_of left den (column + 1) +ℤ numerator_of right den (column + 1)) (range_with_len 0 columns))
+    (max (den_bound left) (den_bound right))
+
+-- several answers merged
+abbrev pub merge_all : ℕ → List (List Term) → List Term
+merge_all columns [] = []
+merge_all columns (terms ∷ answers) = merge columns terms (merge_all columns answers)

@@ -12,9 +12,9 @@ is_same a b = a.den == b.den && pointwise (λ r s. r.0 == s.0 && r.1 == s.1) a.r
 
 -- a fact of the later list was in the earlier one, and lay there as it does now
 abbrev pub lies_as_before : Policy → List Dimension → List Fact → List Fact → Fact → Bool
-lies_as_before weigh dims facts later fact =
-    list_any (λ f. f.id == fact.id && is_same (allocation weigh dims facts f) (allocation weigh dims later fact)) facts
+lies_as_before policy dims facts later fact =
+    list_any (λ f. f.id == fact.id && is_same (allocation policy dims facts f) (allocation policy dims later fact)) facts
 
 -- the ids of the later facts that are new or lie otherwise, in order
 unfoldable pub refreshed : Policy → List Dimension → List Fact → List Fact → List ℕ
-refreshed weigh dims facts later = map (λ f. f.id) (filter (λ f. not (lies_as_before weigh dims facts later f)) later)
+refreshed policy dims facts later = map (λ f. f.id) (filter (λ f. not (lies_as_before policy dims facts later f)) later)

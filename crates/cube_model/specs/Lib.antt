@@ -1,10 +1,11 @@
 pub mod Accepted
 pub mod Allocation
+pub mod Ascending
 pub mod Answer
 pub mod Cells
 pub mod Cut
 pub mod Difference
 pub mod Facts
+pub mod Growing
 pub mod Limits
-pub mod Text
 pub mod Tree

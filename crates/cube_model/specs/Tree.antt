@@ -1,20 +1,19 @@
 -- A dimension is a tree, given as the list of its nodes in preorder. Domains as trees follow Burdick, Deshpande, Jayram,
 -- Ramakrishnan and Vaithyanathan, "OLAP Over Uncertain and Imprecise Data", VLDB 2005.
-use Rattle.std.specs.Prelude.{◌≡◌, ℕ, ◌+◌, Bool, true, false, List, [], ◌∷◌, length, map, filter, not, nat_lt, ◌||◌, ◌==◌, if◌then◌else◌, Option, Some, None, slice_get}
+use Rattle.std.specs.Prelude.{◌≡◌, ℕ, ◌+◌, Bool, true, false, List, [], ◌∷◌, length, map, filter, not, nat_lt, ◌||◌, ◌&&◌, ◌==◌, if◌then◌else◌, Option, Some, None, position, slice_get}
 use Rattle.std.specs.Option.{option_map, option_map_or, option_or}
 use Rattle.std.specs.List.{list_all, list_any, find}
 use Rattle.std.specs.Str.{bytes_eq}
 use Rattle.cube_base.specs.Name.{is_name}
 use Rattle.cube_model.specs.declared.tree.NodeLine.{NodeLine}
+use Rattle.cube_model.specs.declared.tree.NumberedLine.{NumberedLine}
 use Rattle.cube_model.specs.declared.tree.DimFault.{DimFault}
-use Rattle.cube_model.specs.declared.tree.DimFault.TheVariants.{Empty, Many, Root, Depth, Name}
+use Rattle.cube_model.specs.declared.tree.DimFault.TheVariants.{Empty, Many, Root, Depth, Name, Number}
 use Rattle.cube_model.specs.Limits.{MAX_DEPTH, MAX_NODES}
 
 -- a node: its depth, its name, and the number by which regions name it
-pub record Entry : Type 0 where
-  pub depth : ℕ
-  pub name : List ℕ
-  pub number : ℕ
+abbrev pub Entry : Type 0
+Entry = NumberedLine
 
 abbrev pub Dimension : Type 0
 Dimension = List Entry
@@ -58,6 +57,27 @@ leaves dim = filter (is_leaf dim) (map (λ e. e.number) dim)
 abbrev pub node_named : Dimension → List ℕ → Option ℕ
 node_named dim name = option_map (λ e. e.number) (find (λ e. bytes_eq e.name name) dim)
 
+-- the numbers of the nodes, in preorder
+abbrev pub numbers : Dimension → List ℕ
+numbers dim = map (λ e. e.number) dim
+
+-- the place of a node among all, in preorder
+abbrev pub place_of : Dimension → ℕ → Option ℕ
+place_of dim number = position (λ e. e.number == number) dim
+
+-- no number stands twice
+abbrev pub are_distinct : List ℕ → Bool
+are_distinct [] = true
+are_distinct (n ∷ ns) = not (list_any (λ m. m == n) ns) && are_distinct ns
+
+-- the number of a node is above that of its parent, if it has one
+abbrev pub is_above_parent : Dimension → Entry → Bool
+is_above_parent dim e = option_map_or (λ p. nat_lt p e.number) (parent dim e.number) true
+
+-- the numbers are those of an order in which the nodes may have been made: distinct, below their count, a child's above its parent's
+unfoldable pub is_numbered : Dimension → Bool
+is_numbered dim = are_distinct (numbers dim) && list_all (λ n. nat_lt n (length dim)) (numbers dim) && list_all (is_above_parent dim) dim
+
 -- nodes take their places, from 0, as numbers
 abbrev pub numbered_from : ℕ → List NodeLine → Dimension
 numbered_from k [] = []
@@ -86,8 +106,12 @@ tree_fault lines = if length lines == 0 then Some Empty else (if nat_lt MAX_NODE
 abbrev pub node_lines : Dimension → List NodeLine
 node_lines dim = map (λ e. record { depth = e.depth; name = e.name }) dim
 
--- a dimension that lines make: they are accepted, the numbers are the places, and the names are names
+-- why numbered nodes are no dimension: their lines are no tree, or else their numbers are wrong
+unfoldable pub dim_fault : Dimension → Option DimFault
+dim_fault dim = option_or (tree_fault (node_lines dim)) (if is_numbered dim then None else Some Number)
+
+-- a dimension: its lines are a tree, its numbers tell an order of creation, and its names are names
 pub record IsTree (dim : Dimension) : Type 0 where
   pub accepted : tree_fault (node_lines dim) ≡ None
-  pub places : numbered (node_lines dim) ≡ dim
+  pub numbered : is_numbered dim ≡ true
   pub names : list_all (λ e. is_name e.name) dim ≡ true

@@ -3,7 +3,6 @@
 #![tactic(auto)]
 
 mod edit;
-mod laws;
 mod limits;
 mod region;
 mod statistic;
@@ -11,7 +10,6 @@ mod term;
 mod tree;
 
 pub use edit::{Edit, Fact};
-pub use laws::one_spelling;
 pub use limits::{
     MAX_CELLS, MAX_DEPTH, MAX_DIMS, MAX_FACTS, MAX_ID, MAX_NODES, MAX_ROWS, MAX_VALUE, MIN_ID,
     SPACE_LIMIT, WIDE,
@@ -19,4 +17,4 @@ pub use limits::{
 pub use region::Region;
 pub use statistic::CellStat;
 pub use term::Term;
-pub use tree::{DimFault, NodeLine};
+pub use tree::{DimFault, Grow, NodeLine, NumberedLine};

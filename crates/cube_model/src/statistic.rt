@@ -5,6 +5,7 @@
 pub struct CellStat {
     /// How many there are, at most 2^20.
     pub count: u64,
-    /// The sum of what they weigh, each at most 10^12: 0 under the policies that there are, which look at the number alone.
+    /// The sum of what each adds by the policy, at most 10^12: the value of a column, or 0 under a policy that looks at
+    /// the number alone.
     pub sum: u64,
 }

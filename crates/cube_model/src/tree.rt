@@ -14,6 +14,28 @@ pub struct NodeLine {
     pub name: Name,
 }
 
+/// A node of a dimension with the number by which regions name it.
+#[derive(Debug, Drop)]
+pub struct NumberedLine {
+    /// The number of nodes above it.
+    pub depth: u8,
+    /// Its name, which no other node of the dimension has.
+    pub name: Name,
+    /// Its number, in order of creation from 0: no other node of the dimension has it, and that of its parent is smaller.
+    pub number: u32,
+}
+
+/// A leaf to be put into a dimension as the last child of a node.
+#[derive(Debug, Drop)]
+pub struct Grow {
+    /// The dimension, by its place.
+    pub dim: u32,
+    /// The number of the node that becomes the parent.
+    pub parent: u32,
+    /// The name of the leaf.
+    pub name: Name,
+}
+
 /// Why lines are refused as a tree. Lines are counted from 0.
 #[derive(Clone, Copy, Debug, PartialEq, Eq)]
 pub enum DimFault {
@@ -27,6 +49,8 @@ pub enum DimFault {
     Depth { line: u32 },
     /// An earlier line has the same name.
     Name { line: u32 },
+    /// The numbers of the nodes are not distinct, not below their count, or one is not above that of the node's parent.
+    Number,
     /// Want of memory.
     Memory,
 }

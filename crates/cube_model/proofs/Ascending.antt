@@ -1,0 +1,75 @@
+-- Lists that ascend by a key: their parts, what is left of them, what is made of each item, and the cells of a region.
+use Rattle.std.proofs.Common.{◌≡◌, ℕ, zero, suc, ◌+◌, ◌<◌, ◌≤◌, Bool, true, false, List, [], ◌∷◌, ◌++◌, get_or, length, map, filter, refl, arith}
+use Rattle.std.proofs.lemmas.Bool.Decides.{nat_tests}
+use Rattle.std.specs.Prelude.{All, if◌then◌else◌}
+use Rattle.cube_model.specs.Ascending.{ascends_from}
+use Rattle.cube_model.specs.Cells.{all_cells, cells_of, is_inside, places_from}
+use Rattle.cube_model.specs.Tree.{Dimension}
+
+-- what ascends says of the first and of the others
+pub record AscendsFrom {X : Type 0} (key : X → ℕ) (least : ℕ) (x : X) (xs : List X) : Type 0 where
+  pub from : least ≤ key x
+  pub others : ascends_from key (key x + 1) xs ≡ true
+
+module _ {X : Type 0} (key : X → ℕ) where
+  pub ascends_first : (least : ℕ) (x : X) (xs : List X) → ascends_from key least (x ∷ xs) ≡ true → AscendsFrom key least x xs
+  ascends_first least x xs ascends = record { from = grind (arith, nat_tests); others = grind (arith, nat_tests) }
+
+  pub ascends_cons : (least : ℕ) (x : X) (xs : List X) → AscendsFrom key least x xs → ascends_from key least (x ∷ xs) ≡ true
+  ascends_cons least x xs first = grind (arith, nat_tests, first.from, first.others)
+
+  -- what ascends from a number on ascends from a smaller one
+  pub ascends_lower : (least more : ℕ) (xs : List X) → least ≤ more → ascends_from key more xs ≡ true → ascends_from key least xs ≡ true
+  ascends_lower least more [] lower ascends = refl
+  ascends_lower least more (x ∷ xs) lower ascends = grind (arith, nat_tests, ascends)
+
+  -- no key is below the least
+  pub ascends_least : (least : ℕ) (xs : List X) → ascends_from key least xs ≡ true → All (λ x. least ≤ key x) xs
+  ascends_least least [] ascends i d within = absurd (omega arith)
+  ascends_least least (x ∷ xs) ascends zero d within = (ascends_first least x xs ascends).from
+  ascends_least least (x ∷ xs) ascends (suc i) d within =
+      let first = ascends_first least x xs ascends in
+      omega (arith, first.from, ascends_least (key x + 1) xs first.others i d (omega arith))
+
+  -- a later key is greater
+  pub ascends_later : (least : ℕ) (xs : List X) → ascends_from key least xs ≡ true → (i j : ℕ) (d e : X) → i < j → j < length xs → key (get_or xs i d) < key (get_or xs j e)
+  ascends_later least [] ascends i j d e before within = absurd (omega arith)
+  ascends_later least (x ∷ xs) ascends i zero d e before within = absurd (omega arith)
+  ascends_later least (x ∷ xs) ascends zero (suc j) d e before within =
+      omega (arith, ascends_least (key x + 1) xs (ascends_first least x xs ascends).others j e (omega arith))
+  ascends_later least (x ∷ xs) ascends (suc i) (suc j) d e before within =
+      ascends_later (key x + 1) xs (ascends_first least x xs ascends).others i j d e (omega arith) (omega arith)
+
+  -- one more behind, with a key above the others
+  pub ascends_push : (least : ℕ) (xs : List X) (y : X) → ascends_from key least xs ≡ true → All (λ x. key x < key y) xs → least ≤ key y → ascends_from key least (xs ++ y ∷ []) ≡ true
+  ascends_push least [] y ascends below from = grind (arith, nat_tests)
+  ascends_push least (x ∷ xs) y ascends below from =
+      let first = ascends_first least x xs ascends in
+      ascends_cons least x (xs ++ y ∷ [])
+      (record { from = first.from; others = ascends_push (key x + 1) xs y first.others (λ i d within. below (suc i) d (omega arith)) (omega (arith, below 0 x (omega arith))) })
+
+  either_ascends : (b : Bool) (least : ℕ) (x : X) (xs : List X) → least ≤ key x → ascends_from key (key x + 1) xs ≡ true → ascends_from key least (if b then x ∷ xs else xs) ≡ true
+  either_ascends true least x xs from others = ascends_cons least x xs (record { from = from; others = others })
+  either_ascends false least x xs from others = ascends_lower least (key x + 1) xs (omega arith) others
+
+  -- what is left of a list that ascends
+  pub ascends_filter : (p : X → Bool) (least : ℕ) (xs : List X) → ascends_from key least xs ≡ true → ascends_from key least (filter p xs) ≡ true
+  ascends_filter p least [] ascends = refl
+  ascends_filter p least (x ∷ xs) ascends =
+      let first = ascends_first least x xs ascends in
+      either_ascends (p x) least x (filter p xs) first.from (ascends_filter p (key x + 1) xs first.others)
+
+-- what is made of each item ascends as the items do
+pub ascends_map : {X Y : Type 0} (key : Y → ℕ) (f : X → Y) (least : ℕ) (xs : List X) → ascends_from key least (map f xs) ≡ ascends_from (λ x. key (f x)) least xs
+ascends_map key f least [] = refl
+ascends_map key f least (x ∷ xs) = rw (ascends_map key f (key (f x) + 1) xs) refl
+
+-- places ascend
+pub ascends_places : {X : Type 0} (p : X → Bool) (k : ℕ) (xs : List X) → ascends_from (λ place. place) k (places_from p k xs) ≡ true
+ascends_places p k [] = refl
+ascends_places p k (x ∷ xs) = either_ascends (λ place. place) (p x) k k (places_from p (k + 1) xs) (omega arith) (ascends_places p (k + 1) xs)
+
+-- and so do the cells of a region
+pub ascends_cells : (dims : List Dimension) (region : List ℕ) → ascends_from (λ cell. cell) 0 (cells_of dims region) ≡ true
+unfolding cells_of
+ascends_cells dims region = ascends_places (is_inside dims region) 0 (all_cells dims)
