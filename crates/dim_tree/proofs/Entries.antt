@@ -3,7 +3,7 @@ use Rattle.std.proofs.Common.{◌≡◌, ℕ, ◌+◌, List, [], ◌∷◌, leng
 use Rattle.std.proofs.lemmas.Bool.Decides.{nat_tests}
 use Rattle.std.proofs.lemmas.List.{length-map}
 use Rattle.cube_model.specs.declared.tree.NodeLine.{NodeLine}
-use Rattle.cube_model.specs.Tree.{Dimension, IsTree, entry_of, node_lines, numbered, numbered_from}
+use Rattle.cube_model.specs.Tree.{Dimension, entry_of, node_lines, numbered, numbered_from}
 
 pub length-node_lines : (dim : Dimension) → length (node_lines dim) ≡ length dim
 length-node_lines dim = length-map dim _
@@ -16,7 +16,3 @@ entry_of-numbered_from (line ∷ lines) k (suc i) number at = grind (arith, nat_
 
 pub entry_of-numbered : (lines : List NodeLine) (n : ℕ) → entry_of (numbered lines) n ≡ slice_get (numbered lines) n
 entry_of-numbered lines n = entry_of-numbered_from lines 0 n n (omega arith)
-
--- the node of a number is the one at that place
-pub entry_of-place : (dim : Dimension) (n : ℕ) → IsTree dim → entry_of dim n ≡ slice_get dim n
-entry_of-place dim n tree = rw (← tree.places) (entry_of-numbered (node_lines dim) n)

@@ -1,17 +1,18 @@
 -- How judging the lines one after another finds the first fault.
-use Rattle.std.proofs.Common.{◌≡◌, ℕ, ◌+◌, ◌<◌, Bool, true, List, [], ◌∷◌, ◌++◌, length, map, reverse, get_or, take, drop, Option, Some, None, string_bytes, String, ◌||◌, if◌then◌else◌, refl, sym, ap, ◌∙◌, arith}
+use Rattle.std.proofs.Common.{◌≡◌, ℕ, ◌+◌, ◌<◌, Bool, true, List, [], ◌∷◌, ◌++◌, length, map, reverse, get_or, take, drop, Option, Some, None, string_bytes, String, ◌⊎◌, inl, inr, ◌||◌, if◌then◌else◌, refl, sym, ap, ◌∙◌, arith}
 use Rattle.std.specs.List.{list_any, list_all}
+use Rattle.std.specs.Option.{option_or}
 use Rattle.std.specs.Str.{bytes_eq}
 use Rattle.std.proofs.lemmas.Bool.Decides.{same_from_decides, Decides-like}
 use Rattle.std.proofs.lemmas.Slice.Eq.{bytes_eq-Decides}
 use Rattle.std.proofs.lemmas.List.Folds.{list_any-append}
-use Rattle.std.proofs.lemmas.List.{take_more, drop_more, map_push, reverse-append}
+use Rattle.std.proofs.lemmas.List.{get_or-map, take_more, drop_more, map_push, reverse-append}
 use Rattle.std.proofs.lemmas.Grind.{common_steps}
 use Rattle.cube_base.specs.Name.{is_name}
 use Rattle.cube_model.specs.declared.tree.NodeLine.{NodeLine}
 use Rattle.cube_model.specs.declared.tree.DimFault.{DimFault}
 use Rattle.cube_model.specs.declared.tree.DimFault.TheVariants.{Name}
-use Rattle.cube_model.specs.Tree.{line_fault, first_fault}
+use Rattle.cube_model.specs.Tree.{Dimension, Entry, line_fault, first_fault, node_lines}
 use Rattle.dim_tree.specs.Fault.{IsCause}
 use Rattle.dim_tree.specs.Outline.{depth_fault, name_fault}
 
@@ -35,6 +36,10 @@ list_any-reverse p (line ∷ lines) =
 list_any-map_name : (name : List ℕ) (lines : List NodeLine) → list_any (λ earlier. bytes_eq earlier name) (map (λ line. line.name) lines) ≡ list_any (λ line. bytes_eq line.name name) lines
 list_any-map_name name [] = refl
 list_any-map_name name (line ∷ lines) = grind (arith, list_any-map_name name lines)
+
+-- the line of a node
+abbrev pub line_of : Entry → NodeLine
+line_of e = record { depth = e.depth; name = e.name }
 
 -- the depth of the nearest line
 abbrev pub nearest_depth : List NodeLine → Option ℕ
@@ -71,6 +76,15 @@ pub record IsJudged (lines : List NodeLine) (k : ℕ) (before : Option ℕ) (nam
   pub are_names : list_all (λ line. is_name line.name) (take k lines) ≡ true
   pub left : first_fault [] 0 lines ≡ first_fault (reverse (take k lines)) k (drop k lines)
 
+-- the first of two faults
+or_cases : (first second : Option DimFault) (fault : DimFault) → option_or first second ≡ Some fault → (first ≡ Some fault) ⊎ ((first ≡ None) × (second ≡ Some fault))
+or_cases None second fault is = inr (refl, is)
+or_cases (Some other) second fault is = inl is
+
+-- the line of the node that is read at a place
+pub line_read : (dim : Dimension) (k : ℕ) (e : Entry) → k < length dim → e ≡ get_or dim k e → line_of e ≡ get_or (node_lines dim) k (line_of e)
+line_read dim k e within is = ap line_of is ∙ sym (get_or-map line_of dim k e (line_of e) within)
+
 module _ (lines : List NodeLine) (k : ℕ) (line : NodeLine) (before : Option ℕ) (names : List (List ℕ)) (judged : IsJudged lines k before names) (within : k < length lines) (at : line ≡ get_or lines k line) where
   -- the line is judged next
   next : first_fault [] 0 lines ≡ first_fault (reverse (take k lines)) k (line ∷ drop (k + 1) lines)
@@ -99,6 +113,10 @@ module _ (lines : List NodeLine) (k : ℕ) (line : NodeLine) (before : Option �
   -- a fault of its name is, where its depth has none
   pub judged_name : (fault : DimFault) → depth_fault before k line.depth ≡ None → name_fault names k line.name ≡ Some fault → first_fault [] 0 lines ≡ Some fault
   judged_name fault depth name = grind (arith, next, line_fault_name (reverse (take k lines)) k line fault (sym same_depth ∙ depth) (sym same_name ∙ name))
+
+  -- so the first fault of its depth and its name is
+  pub judged_fault : (fault : DimFault) → option_or (depth_fault before k line.depth) (name_fault names k line.name) ≡ Some fault → first_fault [] 0 lines ≡ Some fault
+  judged_fault fault is = elim (or_cases (depth_fault before k line.depth) (name_fault names k line.name) fault is) [ inl depth ↦ judged_depth fault depth | inr name ↦ judged_name fault name.0 name.1 ]
 
   -- and else it is judged too
   pub IsJudged_more : depth_fault before k line.depth ≡ None → name_fault names k line.name ≡ None → is_name line.name ≡ true → IsJudged lines (k + 1) (Some line.depth) (names ++ line.name ∷ [])

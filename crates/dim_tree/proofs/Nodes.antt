@@ -44,7 +44,7 @@ second-meets y (a ∷ []) second = grind arith
 second-meets y (a ∷ b ∷ es) second = grind (arith, nat_tests)
 
 -- stands for a node past the last
-abbrev no_entry : Entry
+abbrev pub no_entry : Entry
 no_entry = record { depth = 0; name = []; number = 0 }
 
 -- a number that is not in an `Option` fails the test on it

@@ -1,6 +1,6 @@
--- A dimension made of a list of depths and a list of names.
-use Rattle.std.proofs.Common.{Bool, false, ◌==◌, ◌≡◌, ℕ, ◌+◌, ◌<◌, ◌≤◌, true, List, [], ◌∷◌, length, map, Some, None, position, string_bytes, String, refl, sym, ap, ◌∙◌, arith}
-use Rattle.std.specs.List.{AllZip, list_all, position_from}
+-- A dimension made of its depths, its names and its numbers.
+use Rattle.std.proofs.Common.{Bool, false, ◌==◌, ◌≡◌, ℕ, ◌+◌, ◌<◌, ◌≤◌, ◌&&◌, List, [], ◌∷◌, length, map, slice_get, option_map, Some, None, position, string_bytes, String, zero, suc, refl, sym, ap, ◌∙◌, arith}
+use Rattle.std.specs.List.{AllZip, find, list_all, position_from, range_with_len}
 use Rattle.std.specs.Str.{bytes_eq}
 use Rattle.std.proofs.lemmas.Bool.Decides.{nat_tests}
 use Rattle.std.proofs.lemmas.Iterator.Adapters.{position_from-zero}
@@ -9,9 +9,12 @@ use Rattle.cube_base.specs.Name.{is_name}
 use Rattle.cube_model.specs.declared.tree.NodeLine.{NodeLine}
 use Rattle.cube_model.specs.declared.tree.DimFault.TheVariants.{Empty, Many}
 use Rattle.cube_model.specs.Limits.{MAX_NODES}
-use Rattle.cube_model.specs.Tree.{IsTree, tree_fault, first_fault, numbered, numbered_from, node_lines, node_named}
-use Rattle.dim_tree.specs.Outline.{IsOutline, lines_of}
+use Rattle.cube_model.specs.Tree.{Dimension, Entry, tree_fault, first_fault, numbers, numbered_from, node_lines, node_named}
+use Rattle.dim_tree.specs.Outline.{entries_of}
+use Rattle.dim_tree.proofs.Climbing.{depths_of}
+use Rattle.dim_tree.proofs.Entries.{length-node_lines}
 use Rattle.dim_tree.proofs.Judging.{bytes_eq_comm}
+use Rattle.dim_tree.proofs.Renaming.{position_from-map}
 
 -- no line
 pub tree_fault_empty : (lines : List NodeLine) → length lines ≡ 0 → tree_fault lines ≡ Some Empty
@@ -24,7 +27,7 @@ unfolding tree_fault
 tree_fault_many lines many = grind (arith, nat_tests)
 
 -- what `is_empty` denies
-pub some_line : (lines : List NodeLine) (empty : Bool) → empty ≡ (length lines == 0) → empty ≡ false → 0 < length lines
+pub some_line : {X : Type 0} (lines : List X) (empty : Bool) → empty ≡ (length lines == 0) → empty ≡ false → 0 < length lines
 some_line lines empty is some = grind (arith, nat_tests)
 
 -- otherwise the first faulty line
@@ -37,41 +40,6 @@ pub tree_fault_none : (lines : List NodeLine) → tree_fault lines ≡ None → 
 unfolding tree_fault
 tree_fault_none lines accepted = grind (arith, nat_tests)
 
--- lines are given back by their depths and names
-pub lines_of_map : (lines : List NodeLine) → lines_of (map (λ line. line.depth) lines) (map (λ line. line.name) lines) ≡ lines
-lines_of_map [] = refl
-lines_of_map (line ∷ lines) = ap (λ ls. line ∷ ls) (lines_of_map lines)
-
--- the two lists that were taken from the lines
-pub lines_of_same : (lines : List NodeLine) (depths : List ℕ) (names : List (List ℕ)) → depths ≡ map (λ line. line.depth) lines → names ≡ map (λ line. line.name) lines → lines_of depths names ≡ lines
-lines_of_same lines depths names depths_are names_are = ap (λ ds. lines_of ds names) depths_are ∙ ap (lines_of (map (λ line. line.depth) lines)) names_are ∙ lines_of_map lines
-
--- the names of lines are names where the lines have names
-all_names : (lines : List NodeLine) → list_all (λ line. is_name line.name) lines ≡ true → list_all is_name (map (λ line. line.name) lines) ≡ true
-all_names [] all = refl
-all_names (line ∷ lines) all = grind (arith, all_names lines)
-
--- copied strings are the same names
-pub names-copied : {A : Type 0} (keys copied : List (String A)) → AllZip (λ s t. string_bytes t ≡ string_bytes s) keys copied → map string_bytes copied ≡ map string_bytes keys
-names-copied [] [] same = refl
-names-copied [] (copy ∷ copied) same = absurd same
-names-copied (key ∷ keys) [] same = absurd same
-names-copied (key ∷ keys) (copy ∷ copied) same = rw (same.0, names-copied keys copied same.1) refl
-
--- they are a dimension where the lines are
-pub IsOutline_of : (lines : List NodeLine) (depths : List ℕ) (names : List (List ℕ)) → depths ≡ map (λ line. line.depth) lines → names ≡ map (λ line. line.name) lines → list_all (λ line. is_name line.name) lines ≡ true → tree_fault lines ≡ None → IsOutline depths names
-IsOutline_of lines depths names depths_are names_are all accepted = record {
-  same_length = ap length depths_are ∙ length-map lines (λ line. line.depth) ∙ sym (length-map lines (λ line. line.name)) ∙ ap length (sym names_are);
-  accepted = ap tree_fault (lines_of_same lines depths names depths_are names_are) ∙ accepted;
-  are_names = ap (list_all is_name) names_are ∙ all_names lines all;
-}
-
--- there are as many lines as depths
-pub length-lines_of : (depths : List ℕ) (names : List (List ℕ)) → length depths ≡ length names → length (lines_of depths names) ≡ length depths
-length-lines_of [] names same = refl
-length-lines_of (depth ∷ depths) [] same = sym same
-length-lines_of (depth ∷ depths) (name ∷ names) same = grind (arith, length-lines_of depths names (omega arith))
-
 -- there are as many nodes as lines
 pub length-numbered_from : (k : ℕ) (lines : List NodeLine) → length (numbered_from k lines) ≡ length lines
 length-numbered_from k [] = refl
@@ -82,37 +50,87 @@ pub node_lines-numbered_from : (k : ℕ) (lines : List NodeLine) → node_lines 
 node_lines-numbered_from k [] = refl
 node_lines-numbered_from k (line ∷ lines) = ap (λ ls. line ∷ ls) (node_lines-numbered_from (k + 1) lines)
 
--- the names of the nodes are names
-are_names-numbered_from : (k : ℕ) (depths : List ℕ) (names : List (List ℕ)) → list_all is_name names ≡ true → list_all (λ e. is_name e.name) (numbered_from k (lines_of depths names)) ≡ true
-are_names-numbered_from k [] names all = refl
-are_names-numbered_from k (depth ∷ depths) [] all = refl
-are_names-numbered_from k (depth ∷ depths) (name ∷ names) all = grind (arith, are_names-numbered_from (k + 1) depths names)
+-- copied strings are the same names
+pub names-copied : {A : Type 0} (keys copied : List (String A)) → AllZip (λ s t. string_bytes t ≡ string_bytes s) keys copied → map string_bytes copied ≡ map string_bytes keys
+names-copied [] [] same = refl
+names-copied [] (copy ∷ copied) same = absurd same
+names-copied (key ∷ keys) [] same = absurd same
+names-copied (key ∷ keys) (copy ∷ copied) same = rw (same.0, names-copied keys copied same.1) refl
 
--- the nodes are a tree
-pub IsTree_of : (depths : List ℕ) (names : List (List ℕ)) → IsOutline depths names → IsTree (numbered (lines_of depths names))
-IsTree_of depths names outline =
-    let same : node_lines (numbered (lines_of depths names)) ≡ lines_of depths names = node_lines-numbered_from 0 (lines_of depths names) in
-    record { accepted = ap tree_fault same ∙ outline.accepted; places = ap numbered same; names = are_names-numbered_from 0 depths names outline.are_names }
+-- nodes are given back by their depths, names and numbers
+pub entries_of_map : (dim : Dimension) → entries_of (map (λ e. e.depth) dim) (map (λ e. e.name) dim) (numbers dim) ≡ dim
+entries_of_map [] = refl
+entries_of_map (e ∷ dim) = ap (λ es. e ∷ es) (entries_of_map dim)
+
+-- with places as numbers they are the numbered lines
+pub entries_of_range : (k : ℕ) (lines : List NodeLine) → entries_of (map (λ line. line.depth) lines) (map (λ line. line.name) lines) (range_with_len k (length lines)) ≡ numbered_from k lines
+entries_of_range k [] = refl
+entries_of_range k (line ∷ lines) = ap (λ es. record { depth = line.depth; name = line.name; number = k } ∷ es) (entries_of_range (k + 1) lines)
+
+-- what they were made of is given back
+pub depths_of-entries_of : (depths : List ℕ) (names : List (List ℕ)) (ns : List ℕ) → length names ≡ length depths → length ns ≡ length depths → depths_of (node_lines (entries_of depths names ns)) ≡ depths
+depths_of-entries_of [] names ns same_names same_numbers = refl
+depths_of-entries_of (depth ∷ depths) [] ns same_names same_numbers = absurd (omega arith)
+depths_of-entries_of (depth ∷ depths) (name ∷ names) [] same_names same_numbers = absurd (omega arith)
+depths_of-entries_of (depth ∷ depths) (name ∷ names) (n ∷ ns) same_names same_numbers = ap (λ ds. depth ∷ ds) (depths_of-entries_of depths names ns (omega arith) (omega arith))
+
+pub numbers-entries_of : (depths : List ℕ) (names : List (List ℕ)) (ns : List ℕ) → length names ≡ length depths → length ns ≡ length depths → numbers (entries_of depths names ns) ≡ ns
+numbers-entries_of [] names [] same_names same_numbers = refl
+numbers-entries_of [] names (n ∷ ns) same_names same_numbers = absurd (omega arith)
+numbers-entries_of (depth ∷ depths) [] ns same_names same_numbers = absurd (omega arith)
+numbers-entries_of (depth ∷ depths) (name ∷ names) [] same_names same_numbers = absurd (omega arith)
+numbers-entries_of (depth ∷ depths) (name ∷ names) (n ∷ ns) same_names same_numbers = ap (λ ms. n ∷ ms) (numbers-entries_of depths names ns (omega arith) (omega arith))
+
+pub names-entries_of : (depths : List ℕ) (names : List (List ℕ)) (ns : List ℕ) → length names ≡ length depths → length ns ≡ length depths → map (λ e. e.name) (entries_of depths names ns) ≡ names
+names-entries_of [] [] ns same_names same_numbers = refl
+names-entries_of [] (name ∷ names) ns same_names same_numbers = absurd (omega arith)
+names-entries_of (depth ∷ depths) [] ns same_names same_numbers = absurd (omega arith)
+names-entries_of (depth ∷ depths) (name ∷ names) [] same_names same_numbers = absurd (omega arith)
+names-entries_of (depth ∷ depths) (name ∷ names) (n ∷ ns) same_names same_numbers = ap (λ ms. name ∷ ms) (names-entries_of depths names ns (omega arith) (omega arith))
 
 -- as many nodes as depths
-pub length-numbered : (depths : List ℕ) (names : List (List ℕ)) → IsOutline depths names → length (numbered (lines_of depths names)) ≡ length depths
-length-numbered depths names outline = length-numbered_from 0 (lines_of depths names) ∙ length-lines_of depths names outline.same_length
+pub length-entries_of : (depths : List ℕ) (names : List (List ℕ)) (ns : List ℕ) → length names ≡ length depths → length ns ≡ length depths → length (entries_of depths names ns) ≡ length depths
+length-entries_of depths names ns same_names same_numbers = sym (length-node_lines (entries_of depths names ns)) ∙ sym (length-map (node_lines (entries_of depths names ns)) (λ (line : NodeLine). line.depth)) ∙ ap length (depths_of-entries_of depths names ns same_names same_numbers)
 
--- and 1 to 65,536 of them
-pub few_nodes : (depths : List ℕ) (names : List (List ℕ)) → IsOutline depths names → (0 < length depths) × (length depths ≤ MAX_NODES)
-few_nodes depths names outline = grind (arith, tree_fault_none (lines_of depths names) outline.accepted, length-lines_of depths names outline.same_length)
+-- whether the names of numbered lines are names
+pub all_names-numbered_from : (k : ℕ) (lines : List NodeLine) → list_all (λ e. is_name e.name) (numbered_from k lines) ≡ list_all (λ line. is_name line.name) lines
+all_names-numbered_from k [] = refl
+all_names-numbered_from k (line ∷ lines) = ap (λ b. is_name line.name && b) (all_names-numbered_from (k + 1) lines)
+
+-- and those of nodes
+pub all_names-node_lines : (dim : Dimension) → list_all (λ line. is_name line.name) (node_lines dim) ≡ list_all (λ e. is_name e.name) dim
+all_names-node_lines [] = refl
+all_names-node_lines (e ∷ dim) = ap (λ b. is_name e.name && b) (all_names-node_lines dim)
+
+-- what is found at no place is not found
+position_from-least : {X : Type 0} (p : X → Bool) (k i : ℕ) (xs : List X) → position_from p k xs ≡ Some i → k ≤ i
+position_from-least p k i [] found = absurd (cc found)
+position_from-least p k i (x ∷ xs) found = grind (arith, λ (h : position_from p (k + 1) xs ≡ Some i). position_from-least p (k + 1) i xs h)
+
+-- what is found stands where it is found
+find-at_from : {X : Type 0} (p : X → Bool) (k i j : ℕ) (xs : List X) → position_from p k xs ≡ Some j → j ≡ k + i → find p xs ≡ slice_get xs i
+find-at_from p k i j [] found at = refl
+find-at_from p k zero j (x ∷ xs) found at = grind (arith, λ (h : position_from p (k + 1) xs ≡ Some j). position_from-least p (k + 1) j xs h)
+find-at_from p k (suc i) j (x ∷ xs) found at = grind (arith, λ (h : position_from p (k + 1) xs ≡ Some j). find-at_from p (k + 1) i j xs h (omega arith))
+
+find-none_from : {X : Type 0} (p : X → Bool) (k : ℕ) (xs : List X) → position_from p k xs ≡ None → find p xs ≡ None
+find-none_from p k [] none = refl
+find-none_from p k (x ∷ xs) none = grind (arith, find-none_from p (k + 1) xs)
+
+-- strings are searched as their bytes
+position_from-keys : {A : Type 0} (name : List ℕ) (k : ℕ) (keys : List (String A)) → position_from (λ key. bytes_eq name (string_bytes key)) k keys ≡ position_from (λ n. bytes_eq n name) k (map string_bytes keys)
+position_from-keys name k [] = refl
+position_from-keys name k (key ∷ keys) = grind (arith, bytes_eq_comm (string_bytes key) name, position_from-keys name (k + 1) keys)
+
+-- nodes are searched by their names
+position-named : {A : Type 0} (dim : Dimension) (keys : List (String A)) (name : List ℕ) → map (λ e. e.name) dim ≡ map string_bytes keys → position (λ key. bytes_eq name (string_bytes key)) keys ≡ position_from (λ e. bytes_eq e.name name) 0 dim
+position-named dim keys name same =
+    position_from-zero (λ key. bytes_eq name (string_bytes key)) keys ∙ position_from-keys name 0 keys ∙ ap (position_from (λ n. bytes_eq n name) 0) (sym same) ∙ position_from-map (λ n. bytes_eq n name) (λ (e : Entry). e.name) 0 dim
 
 -- a node is found where its name is among the strings
-node_named_from : {A : Type 0} (name : List ℕ) (k : ℕ) (depths : List ℕ) (keys : List (String A)) → length depths ≡ length (map string_bytes keys) → node_named (numbered_from k (lines_of depths (map string_bytes keys))) name ≡ position_from (λ key. bytes_eq name (string_bytes key)) k keys
-node_named_from name k [] [] same = refl
-node_named_from name k [] (key ∷ keys) same = absurd (omega arith)
-node_named_from name k (depth ∷ depths) [] same = absurd (omega arith)
-node_named_from name k (depth ∷ depths) (key ∷ keys) same = grind (arith, bytes_eq_comm (string_bytes key) name, node_named_from name (k + 1) depths keys (omega arith))
+pub node_named-at : {A : Type 0} (dim : Dimension) (keys : List (String A)) (name : List ℕ) (i : ℕ) → map (λ e. e.name) dim ≡ map string_bytes keys → position (λ key. bytes_eq name (string_bytes key)) keys ≡ Some i → node_named dim name ≡ option_map (λ e. e.number) (slice_get dim i)
+node_named-at dim keys name i same found = ap (option_map (λ e. e.number)) (find-at_from (λ e. bytes_eq e.name name) 0 i i dim (sym (position-named dim keys name same) ∙ found) (omega arith))
 
--- the same from place 0
-pub node_named_at : {A : Type 0} (name : List ℕ) (depths : List ℕ) (keys : List (String A)) → IsOutline depths (map string_bytes keys) → node_named (numbered (lines_of depths (map string_bytes keys))) name ≡ position (λ key. bytes_eq name (string_bytes key)) keys
-node_named_at name depths keys outline = node_named_from name 0 depths keys outline.same_length ∙ sym (position_from-zero (λ key. bytes_eq name (string_bytes key)) keys)
-
--- as many nodes as strings, and few of them
-pub length-keys : {A : Type 0} (depths : List ℕ) (keys : List (String A)) → IsOutline depths (map string_bytes keys) → (length (numbered (lines_of depths (map string_bytes keys))) ≡ length keys) × (length keys ≤ MAX_NODES)
-length-keys depths keys outline = grind (arith, length-map keys string_bytes, outline.same_length, length-numbered depths (map string_bytes keys) outline, few_nodes depths (map string_bytes keys) outline)
+-- and none is where it is not
+pub node_named-none : {A : Type 0} (dim : Dimension) (keys : List (String A)) (name : List ℕ) → map (λ e. e.name) dim ≡ map string_bytes keys → position (λ key. bytes_eq name (string_bytes key)) keys ≡ None → node_named dim name ≡ None
+node_named-none dim keys name same none = ap (option_map (λ e. e.number)) (find-none_from (λ e. bytes_eq e.name name) 0 dim (sym (position-named dim keys name same) ∙ none))

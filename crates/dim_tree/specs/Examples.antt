@@ -2,7 +2,7 @@
 use Rattle.std.specs.Prelude.{ℕ, ◌+◌, List, [], ◌∷◌, map}
 use Rattle.std.specs.List.{range_with_len}
 use Rattle.cube_model.specs.declared.tree.NodeLine.{NodeLine}
-use Rattle.cube_model.specs.Tree.{Dimension, numbered}
+use Rattle.cube_model.specs.Tree.{Dimension, Entry, numbered}
 
 abbrev pub line : ℕ → ℕ → NodeLine
 line depth letter = record { depth = depth; name = letter ∷ [] }
@@ -17,3 +17,10 @@ family = numbered family_lines
 -- so many nodes, each under the one before
 abbrev pub chain : ℕ → List NodeLine
 chain n = map (λ depth. line depth (97 + depth)) (range_with_len 0 n)
+
+abbrev pub node : ℕ → ℕ → ℕ → Entry
+node depth letter number = record { depth = depth; name = letter ∷ []; number = number }
+
+-- the same family, of which e was made before b, and d before c
+abbrev pub made_in_turn : Dimension
+made_in_turn = node 0 97 0 ∷ node 1 98 2 ∷ node 2 99 4 ∷ node 2 100 3 ∷ node 1 101 1 ∷ node 2 102 5 ∷ node 1 103 6 ∷ []

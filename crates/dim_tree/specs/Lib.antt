@@ -1,4 +1,5 @@
 pub mod Examples
 pub mod Fault
+pub mod Nodes
 pub mod Outline
 pub mod Places

@@ -1,34 +1,24 @@
--- The lines of a dimension as two lists, the depths and the names.
-use Rattle.std.specs.Prelude.{◌≡◌, ℕ, true, List, [], ◌∷◌, ◌||◌, length, nat_lt, ◌+◌, ◌==◌, if◌then◌else◌, Option, Some, None}
-use Rattle.std.specs.List.{list_all, list_any}
+-- A dimension as three lists, the depths, the names and the numbers of its nodes, and why a line may not follow others.
+use Rattle.std.specs.Prelude.{◌≡◌, ℕ, List, [], ◌∷◌, ◌||◌, length, nat_lt, ◌+◌, ◌==◌, if◌then◌else◌, Option, Some, None}
+use Rattle.std.specs.List.{list_any}
 use Rattle.std.specs.Str.{bytes_eq}
-use Rattle.cube_base.specs.Name.{is_name}
-use Rattle.cube_model.specs.declared.tree.NodeLine.{NodeLine}
 use Rattle.cube_model.specs.declared.tree.DimFault.{DimFault}
 use Rattle.cube_model.specs.declared.tree.DimFault.TheVariants.{Root, Depth, Name}
 use Rattle.cube_model.specs.Limits.{MAX_DEPTH}
-use Rattle.cube_model.specs.Tree.{tree_fault}
-use Rattle.dim_tree.specs.Places.{parents_from, ends_from, leaf_counts_from, leaves_from}
+use Rattle.cube_model.specs.Tree.{Dimension, IsTree}
 
--- the lines with these depths and names
-abbrev pub lines_of : List ℕ → List (List ℕ) → List NodeLine
-lines_of [] names = []
-lines_of (depth ∷ depths) [] = []
-lines_of (depth ∷ depths) (name ∷ names) = record { depth = depth; name = name } ∷ lines_of depths names
+-- the nodes with these depths, names and numbers
+abbrev pub entries_of : List ℕ → List (List ℕ) → List ℕ → Dimension
+entries_of [] names numbers = []
+entries_of (depth ∷ depths) [] numbers = []
+entries_of (depth ∷ depths) (name ∷ names) [] = []
+entries_of (depth ∷ depths) (name ∷ names) (number ∷ numbers) = record { depth = depth; name = name; number = number } ∷ entries_of depths names numbers
 
--- as many depths as names, and together they are a tree
-pub record IsOutline (depths : List ℕ) (names : List (List ℕ)) : Type 0 where
-  pub same_length : length depths ≡ length names
-  pub accepted : tree_fault (lines_of depths names) ≡ None
-  pub are_names : list_all is_name names ≡ true
-
--- together with what is kept beside the depths and the names
-pub record IsIndexed (depths : List ℕ) (names : List (List ℕ)) (parents ends leaves_before leaves : List ℕ) : Type 0 where
-  pub outline : IsOutline depths names
-  pub of_parents : parents ≡ parents_from [] depths
-  pub of_ends : ends ≡ ends_from 0 depths
-  pub of_leaves_before : leaves_before ≡ leaf_counts_from 0 depths
-  pub of_leaves : leaves ≡ leaves_from 0 depths
+-- as many depths as names and as numbers, and together they are a tree
+pub record IsOutline (depths : List ℕ) (names : List (List ℕ)) (numbers : List ℕ) : Type 0 where
+  pub same_names : length names ≡ length depths
+  pub same_numbers : length numbers ≡ length depths
+  pub tree : IsTree (entries_of depths names numbers)
 
 -- why a line of this depth may not stand at place k, behind a line of the depth `before`
 abbrev pub depth_fault : Option ℕ → ℕ → ℕ → Option DimFault

@@ -1,63 +1,68 @@
 //! A dimension: its nodes in preorder, with what answers questions about them in a few steps.
-ghost use Rattle.std.specs.Prelude.{◌≡◌, ◌↔◌, ◌+◌, ◌-◌, ◌<◌, ◌≤◌, length, slice_get, true, Some, None, IsNone, IfOk, OnOk, IfErr, IfSome};
+ghost use Rattle.std.specs.Prelude.{◌≡◌, ◌↔◌, ◌+◌, ◌-◌, ◌<◌, ◌≤◌, ℕ, [], length, map, slice_get, string_bytes, true, Some, None, Err, IsNone, IfOk, OnOk, IfErr, IfSome};
 ghost use Rattle.std.specs.Option.{option_map};
 ghost use Rattle.std.specs.List.{range_with_len};
-ghost use Rattle.cube_model.specs.Tree.{IsTree, entry_of, is_leaf, is_under, leaves, node_named, numbered, parent, tree_fault};
+ghost use Rattle.cube_model.specs.Tree.{IsTree, dim_fault, entry_of, is_leaf, is_under, leaves, node_named, numbered, parent, place_of, tree_fault};
+ghost use Rattle.cube_model.specs.declared.tree.DimFault.TheVariants.{Empty, Many};
 ghost use Rattle.cube_model.specs.Cells.{leaf_places};
 ghost use Rattle.cube_model.specs.Cut.{first_child, in_cut, next_sibling};
 ghost use Rattle.cube_model.specs.Limits.{MAX_DEPTH, MAX_NODES};
 ghost use Rattle.dim_tree.specs.Fault.{IsCause};
+ghost use Rattle.dim_tree.specs.Nodes.{ArePlaces, IsNode};
+ghost use Rattle.dim_tree.specs.Outline.{IsOutline, entries_of};
 
 #[cfg(test)]
 mod tests;
 
-use crate::outline::{depths_of, judged_names};
-use crate::places::{ends_of, leaves_of, parents_of};
+use crate::node::{Node, kept_nodes};
+use crate::numbering::{count_up, judged_places};
+use crate::outline::{depths_of, depths_of_numbered, judged_names, judged_numbered, numbers_of};
+use crate::places::leaves_of;
 use cube_base::Memory;
-use cube_model::{DimFault, MAX_NODES, NodeLine};
+use cube_model::{DimFault, MAX_NODES, NodeLine, NumberedLine};
 use indexmap::IndexSet;
-use std::alloc::Global;
+use std::alloc::{AllocError, Global};
 use std::marker::Model;
 
-/// A dimension. A node's number is its place in preorder, from 0; a leaf's index is its place among the leaves.
+/// A dimension. A node goes by its number, which tells the order in which the nodes were made, from 0 for the root;
+/// its place is its index in preorder; a leaf's index is its place among the leaves.
 /// Contracts see the list of the nodes' depths, names and numbers.
 #[derive(Drop)]
 pub struct Dim {
     /// The names in preorder, found by hash.
     names: IndexSet<String>,
-    /// For each node its depth.
-    depths: Vec<u8>,
-    /// For each node but the root its parent; 0 for the root.
-    parents: Vec<u32>,
-    /// For each node the place behind the last node under it.
-    ends: Vec<u32>,
-    /// For each node, and behind the last, the number of leaves before it.
-    leaves_before: Vec<u32>,
-    /// The nodes that are leaves.
+    /// The nodes in preorder.
+    nodes: Vec<Node>,
+    /// For each number the place of its node.
+    places: Vec<u32>,
+    /// The places of the leaves.
     leaves: Vec<u32>,
 }
 
 impl Model for Dim {
     ghost use Rattle.std.specs.Prelude.{map, string_bytes};
-    ghost use Rattle.cube_model.specs.Tree.{Dimension, numbered};
-    ghost use Rattle.dim_tree.specs.Outline.{IsIndexed, lines_of};
+    ghost use Rattle.cube_model.specs.Tree.{Dimension};
+    ghost use Rattle.dim_tree.specs.Nodes.{IsIndexed, depths_kept, numbers_kept};
+    ghost use Rattle.dim_tree.specs.Outline.{entries_of};
 
     ghost Value = { Dimension };
 
-    ghost view = { λ d. numbered (lines_of d.depths.items (map string_bytes d.names.keys)) };
+    ghost view = { λ d. entries_of (depths_kept d.nodes.items) (map string_bytes d.names.keys) (numbers_kept d.nodes.items) };
 
-    ghost invariant = { λ d. IsIndexed d.depths.items (map string_bytes d.names.keys) d.parents.items d.ends.items d.leaves_before.items d.leaves.items };
+    ghost invariant = { λ d. IsIndexed d.nodes.items (map string_bytes d.names.keys) d.places.items d.leaves.items };
 }
 
 impl Dim {
-    /// The dimension of these lines. The first of these that holds is answered: `Empty`, there is no line;
-    /// `Many`, there are more than 65,536; then, at the first faulty line, `Root`, the first line's depth is not 0,
-    /// `Depth`, a later line's depth is 0, above 8 or above the line before by more than 1, or `Name`, an earlier
-    /// line has the name; `Memory`.
+    /// The dimension of these lines, with their places as numbers. The first of these that holds is answered:
+    /// `Empty`, there is no line; `Many`, there are more than 65,536; then, at the first faulty line, `Root`, the first
+    /// line's depth is not 0, `Depth`, a later line's depth is 0, above 8 or above the line before by more than 1, or
+    /// `Name`, an earlier line has the name; `Memory`.
     pub fn build(alloc: Global, lines: &[NodeLine]) -> Result<Self, DimFault>
         ensures built { IfOk result (λ dim. dim ≡ numbered lines.now) }
         ensures accepted { OnOk result (tree_fault lines.now ≡ None) }
         ensures refused { IfErr result (IsCause (tree_fault lines.now)) }
+        ensures empty { tree_fault lines.now ≡ Some Empty → result ≡ Err Empty }
+        ensures many { tree_fault lines.now ≡ Some Many → result ≡ Err Many }
     {
         if lines.is_empty() {
             return Err(DimFault::Empty);
@@ -65,17 +70,78 @@ impl Dim {
         if lines.len() > MAX_NODES {
             return Err(DimFault::Many);
         }
+        Self::of_lines(alloc, lines)
+    }
+
+    /// The dimension of these nodes with numbers of their own. The first of these that holds is answered: what `build`
+    /// refuses; `Number`, the numbers are not distinct, not below their count, or that of a node is not above that of
+    /// its parent; `Memory`.
+    pub fn build_numbered(alloc: Global, lines: &[NumberedLine]) -> Result<Self, DimFault>
+        ensures built { IfOk result (λ dim. dim ≡ lines.now) }
+        ensures accepted { OnOk result (dim_fault lines.now ≡ None) }
+        ensures refused { IfErr result (IsCause (dim_fault lines.now)) }
+        ensures empty { dim_fault lines.now ≡ Some Empty → result ≡ Err Empty }
+        ensures many { dim_fault lines.now ≡ Some Many → result ≡ Err Many }
+    {
+        if lines.is_empty() {
+            return Err(DimFault::Empty);
+        }
+        if lines.len() > MAX_NODES {
+            return Err(DimFault::Many);
+        }
+        Self::of_numbered(alloc, lines)
+    }
+
+    /// `build` of 1 to 65,536 lines.
+    fn of_lines(alloc: Global, lines: &[NodeLine]) -> Result<Self, DimFault>
+        requires some { 1 ≤ length lines.now }
+        requires few { length lines.now ≤ MAX_NODES }
+        ensures built { IfOk result (λ dim. dim ≡ numbered lines.now) }
+        ensures accepted { OnOk result (tree_fault lines.now ≡ None) }
+        ensures refused { IfErr result (IsCause (tree_fault lines.now)) }
+    {
         let names = judged_names(alloc, lines)?;
         let depths = depths_of(alloc, lines)?;
-        let parents = parents_of(alloc, &depths)?;
-        let ends = ends_of(alloc, &depths)?;
-        let (leaves_before, leaves) = leaves_of(alloc, &depths)?;
+        let numbers = count_up(alloc, lines.len() as u32)?;
+        let places = count_up(alloc, lines.len() as u32)?;
+        let dim = Self::indexed(alloc, names, places, &depths, &numbers)?;
+        Ok(dim)
+    }
+
+    /// `build_numbered` of 1 to 65,536 lines.
+    fn of_numbered(alloc: Global, lines: &[NumberedLine]) -> Result<Self, DimFault>
+        requires some { 1 ≤ length lines.now }
+        requires few { length lines.now ≤ MAX_NODES }
+        ensures built { IfOk result (λ dim. dim ≡ lines.now) }
+        ensures accepted { OnOk result (dim_fault lines.now ≡ None) }
+        ensures refused { IfErr result (IsCause (dim_fault lines.now)) }
+    {
+        let names = judged_numbered(alloc, lines)?;
+        let depths = depths_of_numbered(alloc, lines)?;
+        let numbers = numbers_of(alloc, lines)?;
+        let places = judged_places(alloc, &depths, &numbers)?;
+        let dim = Self::indexed(alloc, names, places, &depths, &numbers)?;
+        Ok(dim)
+    }
+
+    /// The dimension of these depths, names and numbers, from the places of the numbers.
+    fn indexed(
+        alloc: Global,
+        names: IndexSet<String>,
+        places: Vec<u32>,
+        depths: &[u8],
+        numbers: &[u32],
+    ) -> Result<Self, AllocError>
+        requires outline { IsOutline depths.now (map string_bytes names.keys) numbers.now }
+        requires places { ArePlaces numbers.now places.items }
+        ensures { IfOk result (λ dim. dim ≡ entries_of depths.now (map string_bytes names.keys) numbers.now) }
+    {
+        let (leaves_before, leaves) = leaves_of(alloc, depths)?;
+        let nodes = kept_nodes(alloc, depths, numbers, &leaves_before)?;
         Ok(Dim {
             names,
-            depths,
-            parents,
-            ends,
-            leaves_before,
+            nodes,
+            places,
             leaves,
         })
     }
@@ -86,12 +152,36 @@ impl Dim {
     {
         Ok(Dim {
             names: self.names.clone()?,
-            depths: self.depths.clone()?,
-            parents: self.parents.clone()?,
-            ends: self.ends.clone()?,
-            leaves_before: self.leaves_before.clone()?,
+            nodes: self.nodes.clone()?,
+            places: self.places.clone()?,
             leaves: self.leaves.clone()?,
         })
+    }
+
+    /// The place in preorder of a node.
+    pub fn place(&self, n: u32) -> u32
+        requires { n < length self.now }
+        ensures place { place_of self.now n ≡ Some result }
+        ensures within { result < length self.now }
+    {
+        self.places[n as usize]
+    }
+
+    /// The node at a place in preorder.
+    pub fn at(&self, place: u32) -> u32
+        requires { place < length self.now }
+        ensures number { option_map (λ e. e.number) (slice_get self.now place) ≡ Some result }
+        ensures within { result < length self.now }
+    {
+        self.nodes[place as usize].number
+    }
+
+    /// What is kept for the node at a place.
+    fn node(&self, place: u32) -> &Node
+        requires { place < length self.now }
+        ensures { (n : ℕ) → place_of self.now n ≡ Some place → IsNode self.now n place result.now }
+    {
+        &self.nodes[place as usize]
     }
 
     /// The number of nodes, from 1 to 65,536.
@@ -101,7 +191,7 @@ impl Dim {
         ensures most { result ≤ MAX_NODES }
         ensures tree { IsTree self.now }
     {
-        self.depths.len() as u32
+        self.nodes.len() as u32
     }
 
     /// The number of leaves, at least 1.
@@ -120,11 +210,8 @@ impl Dim {
         ensures root { IsNone result ↔ (n ≡ 0) }
         ensures before { IfSome result (λ p. p < n) }
     {
-        if n == 0 {
-            None
-        } else {
-            Some(self.parents[n as usize])
-        }
+        let node = self.node(self.place(n));
+        if n == 0 { None } else { Some(node.parent) }
     }
 
     /// The depth of a node, from 0 to 8.
@@ -133,7 +220,7 @@ impl Dim {
         ensures depth { option_map (λ e. e.depth) (entry_of self.now n) ≡ Some result }
         ensures most { result ≤ MAX_DEPTH }
     {
-        self.depths[n as usize]
+        self.node(self.place(n)).depth
     }
 
     /// Whether a node has no child.
@@ -141,7 +228,8 @@ impl Dim {
         requires { n < length self.now }
         ensures { result ≡ is_leaf self.now n }
     {
-        self.ends[n as usize] == n + 1
+        let place = self.place(n);
+        self.node(place).end == place + 1
     }
 
     /// Whether climbing parents from `x`, `x` included, meets `y`.
@@ -150,7 +238,10 @@ impl Dim {
         requires upper { y < length self.now }
         ensures { result ≡ is_under self.now x y }
     {
-        y <= x && x < self.ends[y as usize]
+        let place = self.place(x);
+        let upper = self.place(y);
+        let node = self.node(upper);
+        upper <= place && place < node.end
     }
 
     /// The first of a node's children: None exactly for a leaf.
@@ -160,9 +251,14 @@ impl Dim {
         ensures leaf { IsNone result ↔ (is_leaf self.now n ≡ true) }
         ensures within { IfSome result (λ c. c < length self.now) }
     {
-        let end = self.ends[n as usize];
-        let next = n + 1;
-        if next < end { Some(next) } else { None }
+        let place = self.place(n);
+        let end = self.node(place).end;
+        let next = place + 1;
+        if next < end {
+            Some(self.at(next))
+        } else {
+            None
+        }
     }
 
     /// The next node with the same parent: None where there is none behind it, as for the root.
@@ -171,10 +267,10 @@ impl Dim {
         ensures sibling { result ≡ next_sibling self.now n }
         ensures within { IfSome result (λ s. s < length self.now) }
     {
-        let parent = self.parents[n as usize];
-        let end = self.ends[n as usize];
-        if end < self.ends[parent as usize] {
-            Some(end)
+        let node = self.node(self.place(n));
+        let above = self.node(self.place(node.parent));
+        if node.end < above.end {
+            Some(self.at(node.end))
         } else {
             None
         }
@@ -185,7 +281,7 @@ impl Dim {
         requires { n < length self.now }
         ensures { option_map (in_cut self.now depth) (entry_of self.now n) ≡ Some result }
     {
-        let own = self.depths[n as usize];
+        let own = self.node(self.place(n)).depth;
         own == depth || (own < depth && self.is_leaf(n))
     }
 
@@ -196,11 +292,8 @@ impl Dim {
         ensures some { result.0 < result.1 }
         ensures within { result.1 ≤ length (leaves self.now) }
     {
-        let end = self.ends[n as usize];
-        (
-            self.leaves_before[n as usize],
-            self.leaves_before[end as usize],
-        )
+        let node = self.node(self.place(n));
+        (node.first_leaf, node.leaves_end)
     }
 
     /// The node of a leaf index.
@@ -209,7 +302,7 @@ impl Dim {
         ensures leaf { slice_get (leaves self.now) i ≡ Some result }
         ensures within { result < length self.now }
     {
-        self.leaves[i as usize]
+        self.at(self.leaves[i as usize])
     }
 
     /// The name of a node.
@@ -217,7 +310,7 @@ impl Dim {
         requires { n < length self.now }
         ensures { option_map (λ e. e.name) (entry_of self.now n) ≡ Some result.now }
     {
-        self.names[n as usize].as_str()
+        self.names[self.place(n) as usize].as_str()
     }
 
     /// The node of a name: None exactly where no node has it.
@@ -225,7 +318,7 @@ impl Dim {
         ensures found { result ≡ node_named self.now name.now }
         ensures within { IfSome result (λ n. n < length self.now) }
     {
-        let node = self.names.get_index_of(name)?;
-        Some(node as u32)
+        let place = self.names.get_index_of(name)?;
+        Some(self.at(place as u32))
     }
 }

@@ -1,11 +1,11 @@
-//! Examples that are computed from the definitions. The function does nothing: the law is its contract.
+//! Examples that are computed from the definitions. A function here does nothing: the law is its contract.
 ghost use Rattle.std.specs.Prelude.{◌≡◌, [], ◌∷◌, None, Some, filter, map};
 ghost use Rattle.std.specs.List.{range_with_len};
-ghost use Rattle.cube_model.specs.declared.tree.DimFault.TheVariants.{Depth, Empty, Name, Root};
+ghost use Rattle.cube_model.specs.declared.tree.DimFault.TheVariants.{Depth, Empty, Name, Number, Root};
 ghost use Rattle.cube_model.specs.Cells.{leaf_places};
 ghost use Rattle.cube_model.specs.Cut.{cut, first_child, next_sibling};
-ghost use Rattle.cube_model.specs.Tree.{is_under, leaves, node_named, parent, tree_fault};
-ghost use Rattle.dim_tree.specs.Examples.{chain, family, family_lines, line};
+ghost use Rattle.cube_model.specs.Tree.{dim_fault, is_under, leaves, node_named, parent, place_of, tree_fault};
+ghost use Rattle.dim_tree.specs.Examples.{chain, family, family_lines, line, made_in_turn, node};
 
 /// Trees that were worked out by hand.
 pub fn worked_trees()
@@ -27,4 +27,23 @@ pub fn worked_trees()
     ensures ten_nodes_deep { tree_fault (chain 10) ≡ Some (Depth 9) }
     ensures repeated_name { tree_fault (line 0 97 ∷ line 1 98 ∷ line 1 98 ∷ line 0 99 ∷ []) ≡ Some (Name 2) }
     ensures depth_before_name { tree_fault (line 0 97 ∷ line 2 97 ∷ []) ≡ Some (Depth 1) }
+{}
+
+/// A tree whose numbers are not its places, and numbers that are refused.
+pub fn worked_numbers()
+    ensures accepted { dim_fault made_in_turn ≡ None }
+    ensures places { map (place_of made_in_turn) (range_with_len 0 8) ≡ Some 0 ∷ Some 4 ∷ Some 1 ∷ Some 3 ∷ Some 2 ∷ Some 5 ∷ Some 6 ∷ None ∷ [] }
+    ensures parents { map (parent made_in_turn) (range_with_len 0 7) ≡ None ∷ Some 0 ∷ Some 0 ∷ Some 2 ∷ Some 2 ∷ Some 1 ∷ Some 0 ∷ [] }
+    ensures under { filter (λ x. is_under made_in_turn x 2) (range_with_len 0 7) ≡ 2 ∷ 3 ∷ 4 ∷ [] }
+    ensures leaves { leaves made_in_turn ≡ 4 ∷ 3 ∷ 5 ∷ 6 ∷ [] }
+    ensures leaf_places { map (leaf_places made_in_turn) (range_with_len 1 3) ≡ (2 ∷ []) ∷ (0 ∷ 1 ∷ []) ∷ (1 ∷ []) ∷ [] }
+    ensures first_children { map (first_child made_in_turn) (range_with_len 0 4) ≡ Some 2 ∷ Some 5 ∷ Some 4 ∷ None ∷ [] }
+    ensures next_siblings { map (next_sibling made_in_turn) (range_with_len 0 5) ≡ None ∷ Some 6 ∷ Some 1 ∷ None ∷ Some 3 ∷ [] }
+    ensures cuts { map (cut made_in_turn) (range_with_len 1 2) ≡ (2 ∷ 1 ∷ 6 ∷ []) ∷ (4 ∷ 3 ∷ 5 ∷ 6 ∷ []) ∷ [] }
+    ensures found { node_named made_in_turn (101 ∷ []) ≡ Some 1 }
+    ensures repeated { dim_fault (node 0 97 0 ∷ node 1 98 1 ∷ node 1 99 1 ∷ []) ≡ Some Number }
+    ensures too_large { dim_fault (node 0 97 0 ∷ node 1 98 2 ∷ []) ≡ Some Number }
+    ensures not_above_parent { dim_fault (node 0 97 0 ∷ node 1 98 2 ∷ node 2 99 1 ∷ []) ≡ Some Number }
+    ensures root_not_first { dim_fault (node 0 97 1 ∷ node 1 98 0 ∷ []) ≡ Some Number }
+    ensures lines_before_numbers { dim_fault (node 0 97 1 ∷ node 2 98 1 ∷ []) ≡ Some (Depth 1) }
 {}

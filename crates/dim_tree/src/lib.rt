@@ -3,9 +3,11 @@
 
 mod dim;
 mod laws;
+mod node;
+mod numbering;
 mod outline;
 mod places;
 
-pub use cube_model::{DimFault, NodeLine};
+pub use cube_model::{DimFault, NodeLine, NumberedLine};
 pub use dim::Dim;
-pub use laws::worked_trees;
+pub use laws::{worked_numbers, worked_trees};

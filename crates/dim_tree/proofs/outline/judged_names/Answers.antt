@@ -1,18 +1,13 @@
 use Rattle.std.proofs.Common.{map, string_bytes}
 use Rattle.std.proofs.lemmas.Result.{err_from_is_err_and}
-use Rattle.dim_tree.proofs.Judging.{IsJudged_more, judged_depth, judged_name, IsCause_of}
+use Rattle.dim_tree.proofs.Judging.{IsJudged_more, judged_fault, IsCause_of}
 use Rattle.dim_tree.proofs.outline.judged_names.Goals as goal
 
 pub loop-place-preserved : goal.loop-place-preserved
 loop-place-preserved c =
-    rw c.in_ok-add_name.ensures.added (IsJudged_more c.args.lines.now c.loop-place.place c.index-lines-place.result c.loop-place.before (map string_bytes c.loop-place.names.keys) c.loop-place.invariant c.loop-place-test.true c.index-lines-place.is c.in_ok-judge_depth.ensures.accepted c.in_ok-add_name.ensures.accepted c.in_ok-add_name.ensures.is_name)
+    rw c.in_ok-judge_line.ensures.added (IsJudged_more c.args.lines.now c.loop-place.place c.index-lines-place.result c.loop-place.before (map string_bytes c.loop-place.names.keys) c.loop-place.invariant c.loop-place-test.true c.index-lines-place.is c.in_ok-judge_line.ensures.depth c.in_ok-judge_line.ensures.name c.in_ok-judge_line.ensures.is_name)
 
-pub returns-in_err-judge_depth-clause-refused : goal.returns-in_err-judge_depth-clause-refused
-returns-in_err-judge_depth-clause-refused c =
-    let given = err_from_is_err_and c.from_residual-in_err-judge_depth.result c.from_residual-in_err-judge_depth.ensures.1 in
-    rw (given.1, given.2) (IsCause_of _ _ (judged_depth c.args.lines.now c.loop-place.place c.index-lines-place.result c.loop-place.before (map string_bytes c.loop-place.names.keys) c.loop-place.invariant c.loop-place-test.true c.index-lines-place.is) _ c.in_err-judge_depth.ensures.refused)
-
-pub returns-in_err-add_name-clause-refused : goal.returns-in_err-add_name-clause-refused
-returns-in_err-add_name-clause-refused c =
-    let given = err_from_is_err_and c.from_residual-in_err-add_name.result c.from_residual-in_err-add_name.ensures.1 in
-    rw (given.1, given.2) (IsCause_of _ _ (λ fault. judged_name c.args.lines.now c.loop-place.place c.index-lines-place.result c.loop-place.before (map string_bytes c.loop-place.names.keys) c.loop-place.invariant c.loop-place-test.true c.index-lines-place.is fault c.in_ok-judge_depth.ensures.accepted) _ c.in_err-add_name.ensures.refused)
+pub returns-in_err-judge_line-clause-refused : goal.returns-in_err-judge_line-clause-refused
+returns-in_err-judge_line-clause-refused c =
+    let given = err_from_is_err_and c.from_residual-in_err-judge_line.result c.from_residual-in_err-judge_line.ensures.1 in
+    rw (given.1, given.2) (IsCause_of _ _ (judged_fault c.args.lines.now c.loop-place.place c.index-lines-place.result c.loop-place.before (map string_bytes c.loop-place.names.keys) c.loop-place.invariant c.loop-place-test.true c.index-lines-place.is) _ c.in_err-judge_line.ensures.refused)

@@ -1,17 +1,23 @@
-use Rattle.std.proofs.Common.{sym, ◌∙◌, arith}
-use Rattle.dim_tree.proofs.Outlines.{length-keys, node_named_at}
+use Rattle.std.proofs.Common.{string_bytes, sym, ◌∙◌, arith}
+use Rattle.std.proofs.lemmas.List.{length-map}
+use Rattle.dim_tree.proofs.Kept.{kept}
+use Rattle.dim_tree.proofs.Outlines.{node_named-at, node_named-none}
 use Rattle.dim_tree.proofs.dim.Dim.find.Goals as goal
 
-pub returns-in_err-node-clause-found : goal.returns-in_err-node-clause-found
-returns-in_err-node-clause-found c =
-    rw (← c.self.view_is) (c.from_residual.ensures ∙ c.in_err-node.ensures.index ∙ sym (node_named_at c.args.name.now _ _ c.self.invariant.outline))
+pub returns-in_err-place-clause-found : goal.returns-in_err-place-clause-found
+returns-in_err-place-clause-found c =
+    c.from_residual.ensures ∙ sym (node_named-none c.args.self.now c.self.inside.names.keys c.args.name.now (kept c.self.invariant c.self.view_is).names_are (sym c.in_err-place.ensures.index))
 
-pub overflow_cast-result : goal.overflow_cast-result
-overflow_cast-result c = grind (arith, length-keys c.self.inside.depths.items c.self.inside.names.keys c.self.invariant.outline, c.in_ok-node.ensures.within)
+pub overflow_cast-place : goal.overflow_cast-place
+overflow_cast-place c =
+    let its = kept c.self.invariant c.self.view_is in
+    grind (arith, length-map c.self.inside.names.keys string_bytes, its.room_names, its.few, c.in_ok-place.ensures.within)
+
+pub at-requires : goal.at-requires
+at-requires c =
+    let its = kept c.self.invariant c.self.view_is in
+    grind (arith, length-map c.self.inside.names.keys string_bytes, its.room_names, c.in_ok-place.ensures.within)
 
 pub returns-clause-found : goal.returns-clause-found
 returns-clause-found c =
-    rw (← c.self.view_is) (c.in_ok-node.ensures.index ∙ sym (node_named_at c.args.name.now _ _ c.self.invariant.outline))
-
-pub returns-clause-within : goal.returns-clause-within
-returns-clause-within c = grind (arith, c.self.view_is, length-keys c.self.inside.depths.items c.self.inside.names.keys c.self.invariant.outline, c.in_ok-node.ensures.within)
+    sym c.at.ensures.number ∙ sym (node_named-at c.args.self.now c.self.inside.names.keys c.args.name.now _ (kept c.self.invariant c.self.view_is).names_are (sym c.in_ok-place.ensures.index))

@@ -1,15 +1,15 @@
 use Rattle.std.proofs.Common.{arith}
-use Rattle.dim_tree.proofs.Queries.{answers}
+use Rattle.dim_tree.proofs.Kept.{kept}
 use Rattle.dim_tree.proofs.dim.Dim.leaf_count.Goals as goal
 
 pub overflow_cast-result : goal.overflow_cast-result
-overflow_cast-result c = let kept = answers c.self.invariant c.self.view_is in grind (arith, kept.leaves_few, kept.few)
+overflow_cast-result c = let its = kept c.self.invariant c.self.view_is in grind (arith, its.leaves_count, its.leaves_few, its.few)
 
 pub returns-clause-count : goal.returns-clause-count
-returns-clause-count c = grind (arith, (answers c.self.invariant c.self.view_is).leaves_are)
+returns-clause-count c = grind (arith, (kept c.self.invariant c.self.view_is).leaves_count)
 
 pub returns-clause-some : goal.returns-clause-some
-returns-clause-some c = let kept = answers c.self.invariant c.self.view_is in grind (arith, kept.range_some 0 kept.some, kept.range_within 0 kept.some)
+returns-clause-some c = let its = kept c.self.invariant c.self.view_is in grind (arith, its.leaves_count, its.leaves_some)
 
 pub returns-clause-most : goal.returns-clause-most
-returns-clause-most c = grind (arith, (answers c.self.invariant c.self.view_is).leaves_few)
+returns-clause-most c = let its = kept c.self.invariant c.self.view_is in grind (arith, its.leaves_count, its.leaves_few)

@@ -1,18 +1,18 @@
 use Rattle.std.proofs.Common.{arith}
-use Rattle.dim_tree.proofs.Queries.{answers}
+use Rattle.dim_tree.proofs.Kept.{kept}
 use Rattle.dim_tree.proofs.dim.Dim.len.Goals as goal
 
 pub overflow_cast-result : goal.overflow_cast-result
-overflow_cast-result c = let kept = answers c.self.invariant c.self.view_is in grind (arith, kept.room_depths, kept.few)
+overflow_cast-result c = let its = kept c.self.invariant c.self.view_is in grind (arith, its.room_nodes, its.few)
 
 pub returns-clause-count : goal.returns-clause-count
-returns-clause-count c = grind (arith, (answers c.self.invariant c.self.view_is).room_depths)
+returns-clause-count c = grind (arith, (kept c.self.invariant c.self.view_is).room_nodes)
 
 pub returns-clause-some : goal.returns-clause-some
-returns-clause-some c = let kept = answers c.self.invariant c.self.view_is in grind (arith, kept.room_depths, kept.some)
+returns-clause-some c = let its = kept c.self.invariant c.self.view_is in grind (arith, its.room_nodes, its.some)
 
 pub returns-clause-most : goal.returns-clause-most
-returns-clause-most c = let kept = answers c.self.invariant c.self.view_is in grind (arith, kept.room_depths, kept.few)
+returns-clause-most c = let its = kept c.self.invariant c.self.view_is in grind (arith, its.room_nodes, its.few)
 
 pub returns-clause-tree : goal.returns-clause-tree
-returns-clause-tree c = (answers c.self.invariant c.self.view_is).tree
+returns-clause-tree c = (kept c.self.invariant c.self.view_is).tree
