@@ -13,8 +13,12 @@ use Rattle.cube_model.specs.Cut.{children}
 use Rattle.dim_tree.specs.Places.{ends_from, parents_from}
 use Rattle.dim_tree.proofs.Climbing.{both, depths_of, meets, node_at, together}
 use Rattle.dim_tree.proofs.Nodes.{is_under-end, parent-place, ends_from-above}
+use Rattle.dim_tree.proofs.Entries.{length-node_lines}
+use Rattle.std.proofs.Math.Path.{fun_ext}
 use Rattle.dim_tree.proofs.Outlines.{tree_fault_none}
 use Rattle.dim_tree.proofs.Parents.{parents_from-below, placed}
+use Rattle.dim_tree.proofs.Renumbering.{are_numbers, number_at, number_at-place_at, place_at, place_at-number_at, place_at-within, plain}
+use Rattle.region_algebra.proofs.Numbers.{children-plain, is_under-plain}
 
 -- the path from a node among these, the nearest first
 abbrev back : List Entry → ℕ → List Entry
@@ -206,10 +210,21 @@ module _ (lines : List NodeLine) (accepted : first_fault [] 0 lines ≡ None) wh
       count_by-filter (is_child n) (is_under dim z) (numbers dim) ∙ count-hits (z + 1) n z (omega arith) within node
       ∙ ap (λ b. if b then 1 else 0) (rw (is_under-end lines accepted z n node) (grind (arith, nat_tests, differs)))
 
+-- a count over renumbered nodes
+count_by-map : (p : ℕ → Bool) (f : ℕ → ℕ) (xs : List ℕ) → count_by p (map f xs) ≡ count_by (λ x. p (f x)) xs
+count_by-map p f [] = refl
+count_by-map p f (x ∷ xs) = count_by-cons p (f x) (map f xs) ∙ ap (λ n. (if p (f x) then 1 else 0) + n) (count_by-map p f xs) ∙ sym (count_by-cons (λ y. p (f y)) x xs)
+
 -- a leaf under a node that is none is under exactly one of its children, and another under none
 pub one_child : (dim : Dimension) (n z : ℕ) → IsTree dim → n < length dim → z < length dim → is_leaf dim n ≡ false → is_leaf dim z ≡ true → count_by (is_under dim z) (children dim n) ≡ (if is_under dim z n then 1 else 0)
 one_child dim n z tree node within inner leaf =
     let sound = tree_fault_none (node_lines dim) tree.accepted in
-    let few : length (node_lines dim) ≡ length dim = length-map {B = NodeLine} dim (λ (e : Entry). record { depth = e.depth; name = e.name }) in
-    let differs : z ≢ n = λ same. true≢false (sym leaf ∙ ap (is_leaf dim) same ∙ inner) in
-    subst (λ d. count_by (is_under d z) (children d n) ≡ (if is_under d z n then 1 else 0)) tree.places (one_child_of (node_lines dim) sound.2 n z (omega (arith, few)) (omega (arith, few)) differs)
+    let few : length (node_lines dim) ≡ length dim = length-node_lines dim in
+    let i = place_at dim n in
+    let j = place_at dim z in
+    let differs : j ≢ i = λ same. true≢false (sym leaf ∙ ap (is_leaf dim) (sym (number_at-place_at dim (are_numbers dim tree) z) ∙ ap (number_at dim) same ∙ number_at-place_at dim (are_numbers dim tree) n) ∙ inner) in
+    let alike : (λ c. is_under dim z (number_at dim c)) ≡ is_under (plain dim) j = fun_ext (λ c. is_under-plain dim tree z (number_at dim c) ∙ ap (is_under (plain dim) j) (place_at-number_at dim (are_numbers dim tree) c)) in
+    ap (count_by (is_under dim z)) (children-plain dim tree n) ∙ count_by-map (is_under dim z) (number_at dim) (children (plain dim) i)
+    ∙ ap (λ p. count_by p (children (plain dim) i)) alike
+    ∙ one_child_of (node_lines dim) sound.2 i j (omega (arith, few, place_at-within dim (are_numbers dim tree) z within)) (omega (arith, few, place_at-within dim (are_numbers dim tree) n node)) differs
+    ∙ ap (λ b. if b then 1 else 0) (sym (is_under-plain dim tree z n))

@@ -1,5 +1,5 @@
 -- In a tree the nodes under a node are those from it up to its end, so two nodes lie one under the other or apart.
-use Rattle.std.proofs.Common.{◌≡◌, ℕ, zero, suc, ◌+◌, ◌<◌, ◌≤◌, ◌⊎◌, Bool, true, false, List, [], ◌∷◌, length, get_or, drop, refl, sym, ap, ◌∙◌, inl, inr, true≢false, arith, subst}
+use Rattle.std.proofs.Common.{◌≡◌, ℕ, zero, suc, ◌+◌, ◌<◌, ◌≤◌, ◌⊎◌, Bool, true, false, List, [], ◌∷◌, length, get_or, drop, refl, sym, ap, ◌∙◌, inl, inr, true≢false, arith}
 use Rattle.std.specs.Prelude.{if◌then◌else◌, ◌&&◌, Some, None, nat_lt, nat_le}
 use Rattle.std.proofs.lemmas.Bool.Decides.{nat_tests}
 use Rattle.std.proofs.lemmas.List.{length-map}
@@ -14,6 +14,8 @@ use Rattle.dim_tree.proofs.Entries.{length-node_lines}
 use Rattle.dim_tree.proofs.Nodes.{is_under-end, ends_from-above}
 use Rattle.dim_tree.proofs.Leaves.{leaf_places-range, leaf_range-some, leaf_range-within}
 use Rattle.dim_tree.proofs.Outlines.{tree_fault_none}
+use Rattle.dim_tree.proofs.Renumbering.{are_numbers, place_at, place_at-within}
+use Rattle.region_algebra.proofs.Numbers.{is_under-plain, leaf_places-plain, length-leaves_plain}
 use Rattle.region_algebra.specs.Space.{lower}
 
 -- those deeper than a deeper node are fewer
@@ -54,10 +56,14 @@ end_of dim y = get_or (ends_from 0 (depths_of (node_lines dim))) y 0
 length-depths : (dim : Dimension) → length (depths_of (node_lines dim)) ≡ length dim
 length-depths dim = length-map (node_lines dim) (λ (line : NodeLine). line.depth) ∙ length-node_lines dim
 
-pub is_under-interval : (dim : Dimension) → IsTree dim → (x y : ℕ) → y < length dim → is_under dim x y ≡ (nat_le y x && nat_lt x (end_of dim y))
+-- whether a place is one of a node and of those under it
+abbrev is_held : Dimension → ℕ → ℕ → Bool
+is_held dim x y = nat_le y x && nat_lt x (end_of dim y)
+
+pub is_under-interval : (dim : Dimension) → IsTree dim → (x y : ℕ) → y < length dim → is_under dim x y ≡ is_held dim (place_at dim x) (place_at dim y)
 is_under-interval dim tree x y within =
     let sound = tree_fault_none (node_lines dim) tree.accepted in
-    ap (λ d. is_under d x y) (sym tree.places) ∙ is_under-end (node_lines dim) sound.2 x y (omega (arith, length-node_lines dim))
+    is_under-plain dim tree x y ∙ is_under-end (node_lines dim) sound.2 (place_at dim x) (place_at dim y) (omega (arith, length-node_lines dim, place_at-within dim (are_numbers dim tree) y within))
 
 pub end_of-above : (dim : Dimension) (y : ℕ) → y < length dim → y < end_of dim y
 end_of-above dim y within = omega (arith, ends_from-above 0 (depths_of (node_lines dim)) y (omega (arith, length-depths dim)))
@@ -73,16 +79,16 @@ pub some_leaf : (dim : Dimension) → IsTree dim → 1 ≤ length (leaves dim)
 some_leaf dim tree =
     let sound = tree_fault_none (node_lines dim) tree.accepted in
     let some : 1 ≤ length (leaves (numbered (node_lines dim))) = omega (arith, leaf_range-some (node_lines dim) sound.2 0 sound.0, leaf_range-within (node_lines dim) sound.2 0 sound.0) in
-    subst (λ d. 1 ≤ length (leaves d)) tree.places some
+    omega (arith, length-leaves_plain dim tree, some)
 
 -- and a leaf is under each node
 pub some_leaf_under : (dim : Dimension) (node : ℕ) → IsTree dim → node < length dim → 1 ≤ length (leaf_places dim node)
 some_leaf_under dim node tree within =
     let lines = node_lines dim in
     let sound = tree_fault_none lines tree.accepted in
-    let inside : node < length lines = omega (arith, length-node_lines dim) in
-    let some : 1 ≤ length (leaf_places (numbered lines) node) = rw (leaf_places-range lines sound.2 node inside) (omega (arith, length-range_with_len, leaf_range-some lines sound.2 node inside)) in
-    subst (λ d. 1 ≤ length (leaf_places d node)) tree.places some
+    let place = place_at dim node in
+    let inside : place < length lines = omega (arith, length-node_lines dim, place_at-within dim (are_numbers dim tree) node within) in
+    rw (leaf_places-plain dim tree node, leaf_places-range lines sound.2 place inside) (omega (arith, length-range_with_len, leaf_range-some lines sound.2 place inside))
 
 -- of two intervals one holds the other, or they are apart
 nested_intervals : (x y ex ey z : ℕ) → x < ex → y ≤ x → x < ey → ex ≤ ey → (nat_le x z && nat_lt z ex) ≡ ((nat_le x z && nat_lt z ex) && (nat_le y z && nat_lt z ey))
@@ -95,11 +101,14 @@ module _ (dim : Dimension) (tree : IsTree dim) (x y : ℕ) (first : x < length d
   -- what is under the lower of two nodes is under both
   under-nested : is_under dim x y ≡ true → (z : ℕ) → is_under dim z x ≡ under_both dim x y z
   under-nested under z =
-      let inside : (nat_le y x && nat_lt x (end_of dim y)) ≡ true = sym (is_under-interval dim tree x y second) ∙ under in
-      let behind : y ≤ x = grind (arith, nat_tests, inside) in
-      let before : x < end_of dim y = grind (arith, nat_tests, inside) in
+      let i = place_at dim x in
+      let j = place_at dim y in
+      let inside : is_held dim i j ≡ true = sym (is_under-interval dim tree x y second) ∙ under in
+      let behind : j ≤ i = grind (arith, nat_tests, inside) in
+      let before : i < end_of dim j = grind (arith, nat_tests, inside) in
+      let first_at : i < length dim = place_at-within dim (are_numbers dim tree) x first in
       rw (is_under-interval dim tree z x first, is_under-interval dim tree z y second)
-      (nested_intervals x y (end_of dim x) (end_of dim y) z (end_of-above dim x first) behind before (end_of-nested dim x y first behind before))
+      (nested_intervals i j (end_of dim i) (end_of dim j) (place_at dim z) (end_of-above dim i first_at) behind before (end_of-nested dim i j first_at behind before))
 
 -- of two nodes of which none is under the other, no node is under both
 apart_intervals : (x y ex ey z : ℕ) → (nat_le y x && nat_lt x ey) ≡ false → (nat_le x y && nat_lt y ex) ≡ false → ((nat_le x z && nat_lt z ex) && (nat_le y z && nat_lt z ey)) ≡ false
@@ -108,7 +117,7 @@ apart_intervals x y ex ey z not_under not_above = grind (arith, nat_tests)
 pub under-apart : (dim : Dimension) → IsTree dim → (x y : ℕ) → x < length dim → y < length dim → is_under dim x y ≡ false → is_under dim y x ≡ false → (z : ℕ) → under_both dim x y z ≡ false
 under-apart dim tree x y first second not_under not_above z =
     rw (is_under-interval dim tree z x first, is_under-interval dim tree z y second)
-    (apart_intervals x y (end_of dim x) (end_of dim y) z (sym (is_under-interval dim tree x y second) ∙ not_under) (sym (is_under-interval dim tree y x first) ∙ not_above))
+    (apart_intervals (place_at dim x) (place_at dim y) (end_of dim (place_at dim x)) (end_of dim (place_at dim y)) (place_at dim z) (sym (is_under-interval dim tree x y second) ∙ not_under) (sym (is_under-interval dim tree y x first) ∙ not_above))
 
 lower_of : (dim : Dimension) (x y m : ℕ) (a b : Bool) → (if a then Some x else (if b then Some y else None)) ≡ Some m → ((a ≡ true) × (m ≡ x)) ⊎ ((b ≡ true) × (m ≡ y))
 lower_of dim x y m true b is = inl (refl, sym (grind arith))

@@ -2,6 +2,7 @@ pub mod Codes
 pub mod Places
 pub mod Intervals
 pub mod Meets
+pub mod Numbers
 pub mod Turns
 pub mod Tuples
 pub mod Spaces

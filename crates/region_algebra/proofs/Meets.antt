@@ -8,16 +8,13 @@ use Rattle.std.proofs.lemmas.List.Elements.{All-head, All-tail}
 use Rattle.cube_model.specs.Tree.{Dimension, IsTree, is_under}
 use Rattle.cube_model.specs.Cells.{all_cells, cells_of, is_among, is_inside, places_from}
 use Rattle.region_algebra.specs.Space.{common_cells, is_region, lower, meet_of}
+use Rattle.dim_tree.proofs.Climbing.{both}
 use Rattle.region_algebra.proofs.Intervals.{under-lower, under-none, lower-within}
-
-pub split_and : (a b : Bool) → (a && b) ≡ true → (a ≡ true) × (b ≡ true)
-split_and true b h = (refl, h)
-split_and false b h = absurd (true≢false (sym h))
 
 -- what a region's first node and its others are
 pub is_region-cons : (dim : Dimension) (dims : List Dimension) (node : ℕ) (nodes : List ℕ) → is_region (dim ∷ dims) (node ∷ nodes) ≡ true → (node < length dim) × (is_region dims nodes ≡ true)
 is_region-cons dim dims node nodes names =
-    let parts = split_and (nat_lt node (length dim)) (is_region dims nodes) names in
+    let parts = both (nat_lt node (length dim)) (is_region dims nodes) names in
     (grind (arith, nat_tests, parts.0), parts.1)
 
 if-same : (b c : Bool) (k : ℕ) (xs ys : List ℕ) → b ≡ c → xs ≡ ys → (if b then k ∷ xs else xs) ≡ (if c then k ∷ ys else ys)

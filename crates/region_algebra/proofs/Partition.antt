@@ -1,21 +1,21 @@
 -- A cell of a region is in exactly one of the regions with a child in the place of a node.
 use Rattle.std.proofs.Common.{◌≡◌, ℕ, zero, suc, ◌+◌, ◌<◌, Bool, true, false, List, [], ◌∷◌, length, map, refl, sym, ap, ◌∙◌, true≢false, arith}
-use Rattle.std.specs.Prelude.{if◌then◌else◌, filter, All, IfSome, Option, Some, None, ◌&&◌, nat_lt, slice_get, slice_set}
+use Rattle.std.specs.Prelude.{if◌then◌else◌, All, IfSome, Option, Some, None, ◌&&◌, nat_lt, slice_get, slice_set}
 use Rattle.std.specs.List.{count_by, list_all}
 use Rattle.std.specs.Option.{option_map_or}
 use Rattle.std.proofs.lemmas.Bool.Decides.{nat_tests}
 use Rattle.std.proofs.lemmas.List.Folds.{list_all-append}
-use Rattle.std.proofs.lemmas.List.{length-map}
 use Rattle.std.proofs.lemmas.List.Elements.{All-head, All-tail}
 use Rattle.std.proofs.Math.Bool.{and_comm}
-use Rattle.cube_model.specs.declared.tree.NodeLine.{NodeLine}
-use Rattle.cube_model.specs.Tree.{Dimension, Entry, IsTree, is_leaf, is_under, leaves, node_lines, numbered_from}
+use Rattle.cube_model.specs.Tree.{Dimension, IsTree, is_leaf, is_under, leaves, numbers}
 use Rattle.cube_model.specs.Cells.{all_cells, cells_of, is_among, is_inside, places_from}
 use Rattle.cube_model.specs.Cut.{children}
 use Rattle.region_algebra.specs.Space.{is_region}
 use Rattle.region_algebra.proofs.Children.{count_by-cons, one_child}
 use Rattle.region_algebra.proofs.Codes.{blocks}
-use Rattle.region_algebra.proofs.Meets.{among-here, is_region-cons, not_among, split_and}
+use Rattle.region_algebra.proofs.Meets.{among-here, is_region-cons, not_among}
+use Rattle.region_algebra.proofs.Numbers.{all-filter, found-passes, is_below, numbers-below}
+use Rattle.dim_tree.proofs.Climbing.{both}
 
 -- every cell is a tuple of leaves
 
@@ -28,46 +28,26 @@ are_leaves [] (z ∷ cell) = false
 are_leaves (dim ∷ dims) [] = false
 are_leaves (dim ∷ dims) (z ∷ cell) = is_node_leaf dim z && are_leaves dims cell
 
--- a number that may stand before others that pass
-all_if : (b c : Bool) (p : ℕ → Bool) (x : ℕ) (xs : List ℕ) → p x ≡ (b && c) → c ≡ true → list_all p xs ≡ true → list_all p (if b then x ∷ xs else xs) ≡ true
-all_if true c p x xs is holds rest = ap (λ a. a && list_all p xs) (is ∙ holds) ∙ rest
-all_if false c p x xs is holds rest = rest
-
--- what passes among the numbers of nodes is a number of a node
-leaves-within : (f : ℕ → Bool) (n k : ℕ) (lines : List NodeLine) → k + length lines ≡ n → list_all (λ z. f z && nat_lt z n) (filter f (map (λ e. e.number) (numbered_from k lines))) ≡ true
-leaves-within f n k [] end = refl
-leaves-within f n k (line ∷ lines) end = all_if (f k) (nat_lt k n) (λ z. f z && nat_lt z n) k (filter f (map (λ e. e.number) (numbered_from (k + 1) lines))) refl (grind (arith, nat_tests)) (leaves-within f n (k + 1) lines (omega arith))
-
 leaves-are : (dim : Dimension) → IsTree dim → list_all (is_node_leaf dim) (leaves dim) ≡ true
 unfolding leaves
-leaves-are dim tree =
-    let few : length (node_lines dim) ≡ length dim = length-map {B = NodeLine} dim (λ (e : Entry). record { depth = e.depth; name = e.name }) in
-    ap (λ (d : Dimension). list_all (is_node_leaf dim) (filter (is_leaf dim) (map (λ e. e.number) d))) (sym tree.places) ∙ leaves-within (is_leaf dim) (length dim) 0 (node_lines dim) (omega (arith, few))
+leaves-are dim tree = all-filter (is_leaf dim) (is_below (length dim)) (numbers dim) (numbers-below dim tree)
 
 block-are : (dim : Dimension) (dims : List Dimension) (x : ℕ) (ts : List (List ℕ)) → is_node_leaf dim x ≡ true → list_all (are_leaves dims) ts ≡ true → list_all (are_leaves (dim ∷ dims)) (map (λ t. x ∷ t) ts) ≡ true
 block-are dim dims x [] leaf each = refl
 block-are dim dims x (t ∷ ts) leaf each =
-    let parts = split_and (are_leaves dims t) (list_all (are_leaves dims) ts) each in
+    let parts = both (are_leaves dims t) (list_all (are_leaves dims) ts) each in
     rw (leaf, parts.0) (block-are dim dims x ts leaf parts.1)
 
 blocks-are : (dim : Dimension) (dims : List Dimension) (xs : List ℕ) (ts : List (List ℕ)) → list_all (is_node_leaf dim) xs ≡ true → list_all (are_leaves dims) ts ≡ true → list_all (are_leaves (dim ∷ dims)) (blocks xs ts) ≡ true
 blocks-are dim dims [] ts firsts each = refl
 blocks-are dim dims (x ∷ xs) ts firsts each =
-    let parts = split_and (is_node_leaf dim x) (list_all (is_node_leaf dim) xs) firsts in
+    let parts = both (is_node_leaf dim x) (list_all (is_node_leaf dim) xs) firsts in
     list_all-append (are_leaves (dim ∷ dims)) (map (λ t. x ∷ t) ts) (blocks xs ts) ∙ rw (block-are dim dims x ts parts.0 each) (blocks-are dim dims xs ts parts.1 each)
 
 cells-are : (dims : List Dimension) → All IsTree dims → list_all (are_leaves dims) (all_cells dims) ≡ true
 unfolding all_cells
 cells-are [] trees = refl
 cells-are (dim ∷ dims) trees = blocks-are dim dims (leaves dim) (all_cells dims) (leaves-are dim (All-head IsTree dim dims trees)) (cells-are dims (All-tail IsTree dim dims trees))
-
--- what is found among items that pass, passes
-found-is : {X : Type 0} (p : X → Bool) (xs : List X) (i : ℕ) (x : X) → list_all p xs ≡ true → slice_get xs i ≡ Some x → p x ≡ true
-found-is p [] i x each is = absurd (grind arith)
-found-is p (y ∷ ys) zero x each is =
-    let same : y ≡ x = grind arith in
-    ap p (sym same) ∙ (split_and (p y) (list_all p ys) each).0
-found-is p (y ∷ ys) (suc i) x each is = found-is p ys i x (split_and (p y) (list_all p ys) each).1 is
 
 -- a code is among the places where what is at it passes
 
@@ -115,12 +95,12 @@ one_inside (e ∷ dims) (m ∷ nodes) zero dim node (z ∷ cell) trees names is 
     let same : e ≡ dim = grind arith in
     let named : m ≡ node = grind arith in
     let within = (is_region-cons e dims m nodes names).0 in
-    let first = split_and (is_leaf e z) (nat_lt z (length e)) (split_and (is_node_leaf e z) (are_leaves dims cell) are).0 in
+    let first = both (is_leaf e z) (nat_lt z (length e)) (both (is_node_leaf e z) (are_leaves dims cell) are).0 in
     let inner_here : is_leaf e m ≡ false = rw (same, named) inner in
     rw (← same, ← named) (count-back (is_inside dims nodes cell) (is_under e z m) (is_under e z) (children e m) (one_child e m z (All-head IsTree e dims trees) within (grind (arith, nat_tests, first.1)) inner_here first.0))
 one_inside (e ∷ dims) (m ∷ nodes) (suc d) dim node (z ∷ cell) trees names is has inner are =
     count-front (is_under e z m) (is_inside dims nodes cell) (λ child. is_inside dims (slice_set nodes d child) cell) (children dim node)
-    (one_inside dims nodes d dim node cell (All-tail IsTree e dims trees) (is_region-cons e dims m nodes names).1 is has inner (split_and (is_node_leaf e z) (are_leaves dims cell) are).1)
+    (one_inside dims nodes d dim node cell (All-tail IsTree e dims trees) (is_region-cons e dims m nodes names).1 is has inner (both (is_node_leaf e z) (are_leaves dims cell) are).1)
 
 one_inside-at : (dims : List Dimension) (region : List ℕ) (d : ℕ) (dim : Dimension) (node : ℕ) (found : Option (List ℕ)) → All IsTree dims → is_region dims region ≡ true → slice_get dims d ≡ Some dim → slice_get region d ≡ Some node → is_leaf dim node ≡ false → ((cell : List ℕ) → found ≡ Some cell → are_leaves dims cell ≡ true)
     → count_by (λ child. option_map_or (is_inside dims (slice_set region d child)) found false) (children dim node) ≡ (if option_map_or (is_inside dims region) found false then 1 else 0)
@@ -132,7 +112,7 @@ one_region : (dims : List Dimension) (region : List ℕ) (d : ℕ) (dim : Dimens
 one_region dims region d dim node trees names is has inner cell =
     let found = slice_get (all_cells dims) cell in
     count-alike (λ child. is_among (cells_of dims (slice_set region d child)) cell) (λ child. option_map_or (is_inside dims (slice_set region d child)) found false) (children dim node) (λ child. is_among-inside dims (slice_set region d child) cell)
-    ∙ one_inside-at dims region d dim node found trees names is has inner (λ t at. found-is (are_leaves dims) (all_cells dims) cell t (cells-are dims trees) at)
+    ∙ one_inside-at dims region d dim node found trees names is has inner (λ t at. found-passes (are_leaves dims) (all_cells dims) cell t (cells-are dims trees) at)
     ∙ ap (λ b. if b then 1 else 0) (sym (is_among-inside dims region cell))
 
 if_some : {X : Type 0} (o : Option X) (P : X → Type 0) → ((x : X) → o ≡ Some x → P x) → IfSome o P

@@ -1,12 +1,12 @@
 -- What holds of accepted dimensions, and of what is kept beside them.
-use Rattle.std.proofs.Common.{◌≡◌, ℕ, zero, suc, ◌+◌, ◌/◌, ◌%◌, ◌<◌, ◌≤◌, ◌↔◌, Bool, true, false, List, [], ◌∷◌, length, map, drop, refl, sym, ap, ◌∙◌, true≢false, arith}
-use Rattle.std.specs.Prelude.{All, Option, Some, None, IfSome, IsNone, IsSome, slice_get, slice_set, nat_lt}
+use Rattle.std.proofs.Common.{◌≡◌, ℕ, zero, suc, ◌+◌, ◌/◌, ◌%◌, ◌<◌, ◌≤◌, ◌↔◌, true, List, [], ◌∷◌, length, map, drop, refl, sym, ap, ◌∙◌, true≢false, arith}
+use Rattle.std.specs.Prelude.{All, Option, Some, None, IfSome, IsNone, IsSome, slice_get, slice_set}
 use Rattle.std.specs.Option.{option_map}
 use Rattle.std.proofs.lemmas.Bool.Decides.{nat_tests}
 use Rattle.std.proofs.lemmas.List.{drop-map, length-map}
 use Rattle.std.proofs.lemmas.Option.{slice_get_within}
 use Rattle.std.proofs.lemmas.List.Elements.{All-head, All-tail}
-use Rattle.cube_model.specs.Tree.{Dimension, IsTree, leaves, parent}
+use Rattle.cube_model.specs.Tree.{Dimension, IsTree, leaves, numbers, parent}
 use Rattle.cube_model.specs.Cells.{all_cells, cells_of}
 use Rattle.cube_model.specs.Limits.{SPACE_LIMIT, MAX_DIMS}
 use Rattle.region_algebra.specs.Fault.{space_fault}
@@ -14,7 +14,8 @@ use Rattle.region_algebra.specs.Space.{all_regions, cell_total, common_cells, is
 use Rattle.region_algebra.specs.Stepped.{AreSteps, IsStepped, IsSteppedSpace}
 use Rattle.region_algebra.proofs.Codes.{length-all_cells, length-all_regions}
 use Rattle.region_algebra.proofs.Intervals.{some_leaf, some_node}
-use Rattle.region_algebra.proofs.Tuples.{all_regions-found, all_regions-past}
+use Rattle.region_algebra.proofs.Tuples.{all_regions-found, all_regions-turn}
+use Rattle.region_algebra.proofs.Numbers.{number-within}
 use Rattle.region_algebra.proofs.Turns.{cells-below, cells-some, region_total-some}
 use Rattle.region_algebra.proofs.Meets.{cells_of-meet, common_cells-none, is_region-cons, is_region-meet}
 
@@ -23,6 +24,16 @@ accepted-few dims accepted = grind (arith, nat_tests)
 
 pub accepted-from : (dims : List Dimension) → 1 ≤ length dims → length dims ≤ MAX_DIMS → cell_total dims < SPACE_LIMIT → region_total dims < SPACE_LIMIT → space_fault dims ≡ None
 accepted-from dims some few cells regions = grind (arith, nat_tests)
+
+-- the limits of an accepted space
+pub record IsLimited (dims : List Dimension) : Type 0 where
+  pub some : 1 ≤ length dims
+  pub few : length dims ≤ MAX_DIMS
+  pub cells : cell_total dims < SPACE_LIMIT
+  pub regions : region_total dims < SPACE_LIMIT
+
+pub accepted-limits : (dims : List Dimension) → space_fault dims ≡ None → IsLimited dims
+accepted-limits dims accepted = record { some = grind (arith, nat_tests); few = grind (arith, nat_tests); cells = grind (arith, nat_tests); regions = grind (arith, nat_tests) }
 
 some-map : (f : Dimension → ℕ) (dims : List Dimension) → All IsTree dims → ((dim : Dimension) → IsTree dim → 1 ≤ f dim) → All (λ n. 1 ≤ n) (map f dims)
 some-map f [] trees each k d within = absurd (omega arith)
@@ -102,14 +113,12 @@ region-cons dim dims node (Some t) (n ∷ rest) within names is =
     let named : is_region dims rest ≡ true = names rest (ap Some others) in
     grind (arith, nat_tests, named, within, first)
 
-region-turn : (b : Bool) (dim : Dimension) (dims : List Dimension) (step code : ℕ) (region : List ℕ) → nat_lt (code / step) (length dim) ≡ b → IsTree dim → step ≡ region_total dims → 0 < step
+region-turn : (dim : Dimension) (dims : List Dimension) (step code : ℕ) (found : Option ℕ) (region : List ℕ) → IsTree dim → step ≡ region_total dims → 0 < step → slice_get (numbers dim) (code / step) ≡ found
     → ((t : List ℕ) → slice_get (all_regions dims) (code % step) ≡ Some t → is_region dims t ≡ true) → slice_get (all_regions (dim ∷ dims)) code ≡ Some region → is_region (dim ∷ dims) region ≡ true
-region-turn true dim dims step code region within tree steps positive names is =
-    let room : code / step < length dim = grind (arith, nat_tests) in
-    region-cons dim dims (code / step) (slice_get (all_regions dims) (code % step)) region room names (sym (all_regions-found (dim ∷ dims) 0 1 step code dim refl tree steps positive room) ∙ is)
-region-turn false dim dims step code region within tree steps positive names is =
-    let room : length dim ≤ code / step = grind (arith, nat_tests) in
-    let none : slice_get (all_regions (dim ∷ dims)) code ≡ None = all_regions-past (dim ∷ dims) 0 1 step code dim refl tree steps positive room in
+region-turn dim dims step code (Some node) region tree steps positive at names is =
+    region-cons dim dims node (slice_get (all_regions dims) (code % step)) region (number-within dim (code / step) node tree at) names (sym (all_regions-found (dim ∷ dims) 0 1 step code node dim refl steps positive at) ∙ is)
+region-turn dim dims step code None region tree steps positive at names is =
+    let none : slice_get (all_regions (dim ∷ dims)) code ≡ None = all_regions-turn (dim ∷ dims) 0 1 step code dim refl steps positive ∙ rw at refl in
     absurd (grind (arith, none, is))
 
 -- what stands in the list of all regions is one
@@ -120,7 +129,7 @@ region-named [] zero (n ∷ region) trees is = absurd (grind arith)
 region-named [] (suc code) region trees is = absurd (grind arith)
 region-named (dim ∷ dims) code region trees is =
     let behind = All-tail IsTree dim dims trees in
-    region-turn (nat_lt (code / region_total dims) (length dim)) dim dims (region_total dims) code region refl (All-head IsTree dim dims trees) refl (region_total-some dims behind)
+    region-turn dim dims (region_total dims) code (slice_get (numbers dim) (code / region_total dims)) region (All-head IsTree dim dims trees) refl (region_total-some dims behind) refl
     (λ t found. region-named dims (code % region_total dims) t behind found) is
 
 pub uncode-region : (dims : List Dimension) (code : ℕ) (found : Option (List ℕ)) → All IsTree dims → found ≡ slice_get (all_regions dims) code → IfSome found (λ region. is_region dims region ≡ true)

@@ -4,19 +4,20 @@ use Rattle.std.specs.Prelude.{◌&&◌, ◌||◌, ◌==◌, All, Option, Some, N
 use Rattle.std.specs.Option.{option_map, option_and_then}
 use Rattle.std.specs.List.{flat_map, range_with_len}
 use Rattle.std.proofs.lemmas.Bool.Decides.{nat_tests}
-use Rattle.std.proofs.lemmas.List.{append-nil, drop_all, get_or_default, length-set, take_all, take_more, take_more_set}
+use Rattle.std.proofs.lemmas.List.{append-nil, drop_all, length-set, take_all, take_more, take_more_set}
 use Rattle.std.proofs.lemmas.List.Folds.{list_any-append}
 use Rattle.std.proofs.lemmas.Nat.{div-add-mod', div_below, mod_below, same_from_place}
-use Rattle.std.proofs.lemmas.Option.{slice_get-map, slice_get_within, slice_get-get_or, slice_get_read, slice_get_past}
-use Rattle.cube_model.specs.Tree.{Dimension, Entry, IsTree, is_leaf, leaves, node_lines, numbered}
+use Rattle.std.proofs.lemmas.Option.{same_Some, slice_get_within, slice_get_read, slice_get_past}
+use Rattle.cube_model.specs.Tree.{Dimension, Entry, IsTree, is_leaf, leaves, node_lines, numbers, place_of}
 use Rattle.cube_model.specs.Cells.{all_cells, cells_of, is_among, leaf_places}
 use Rattle.cube_model.specs.Limits.{SPACE_LIMIT, MAX_DIMS}
 use Rattle.cube_model.specs.declared.tree.NodeLine.{NodeLine}
-use Rattle.dim_tree.proofs.Nodes.{number-numbered_from}
 use Rattle.std.proofs.lemmas.List.{length-map}
-use Rattle.region_algebra.specs.Space.{all_regions, cell_total, is_region, lower, meet_of, region_total}
+use Rattle.dim_tree.proofs.Renumbering.{are_numbers, place_at, place_of-place_at}
+use Rattle.region_algebra.specs.Space.{all_regions, cell_total, code_of, is_region, lower, meet_of, region_total}
 use Rattle.region_algebra.specs.Stepped.{IsStepped}
 use Rattle.region_algebra.proofs.Codes.{shifted, cells_of-cons, length-all_cells, length-all_regions, slice_get-blocks}
+use Rattle.region_algebra.proofs.Numbers.{place_of-number}
 use Rattle.region_algebra.proofs.Meets.{is_region-cons}
 use Rattle.dim_tree.proofs.Outlines.{tree_fault_none}
 use Rattle.std.proofs.lemmas.List.Sums.{count_by-le-length, length-filter}
@@ -83,34 +84,25 @@ all_cells-turn dims d e step rest leaf dim dims_are steps positive found =
     rw dims_are (slice_get-blocks (leaves dim) (all_cells (drop e dims)) (rest / step) (rest % step) rest apart (omega (arith, room, mod_below rest step positive))
     ∙ ap (option_and_then (λ x. option_map (λ t. x ∷ t) (slice_get (all_cells (drop e dims)) (rest % step)))) found)
 
--- a node's number is its place
-pub number_at : (dim : Dimension) (i : ℕ) → IsTree dim → i < length dim → slice_get (map (λ e. e.number) dim) i ≡ Some i
-number_at dim i tree within =
-    let few : length (node_lines dim) ≡ length dim = length-map {B = NodeLine} dim (λ (e : Entry). record { depth = e.depth; name = e.name }) in
-    let entry : Entry = record { depth = 0; name = []; number = 0 } in
-    let numbered_at : (get_or (numbered (node_lines dim)) i entry).number ≡ i = number-numbered_from 0 (node_lines dim) i entry (omega (arith, few)) ∙ omega arith in
-    let at : (get_or dim i entry).number ≡ i = ap (λ (d : Dimension). (get_or d i entry).number) (sym tree.places) ∙ numbered_at in
-    slice_get-map (λ (e : Entry). e.number) dim i ∙ ap (option_map (λ (e : Entry). e.number)) (slice_get-get_or dim i entry within) ∙ ap Some at
-
-pub all_regions-turn : (dims : List Dimension) (d e step rest : ℕ) (dim : Dimension) → drop d dims ≡ dim ∷ drop e dims → IsTree dim → step ≡ region_total (drop e dims) → 0 < step
-    → slice_get (all_regions (drop d dims)) rest ≡ option_and_then (λ x. option_map (λ t. x ∷ t) (slice_get (all_regions (drop e dims)) (rest % step))) (slice_get (map (λ e. e.number) dim) (rest / step))
+pub all_regions-turn : (dims : List Dimension) (d e step rest : ℕ) (dim : Dimension) → drop d dims ≡ dim ∷ drop e dims → step ≡ region_total (drop e dims) → 0 < step
+    → slice_get (all_regions (drop d dims)) rest ≡ option_and_then (λ x. option_map (λ t. x ∷ t) (slice_get (all_regions (drop e dims)) (rest % step))) (slice_get (numbers dim) (rest / step))
 unfolding all_regions
-all_regions-turn dims d e step rest dim dims_are tree steps positive =
+all_regions-turn dims d e step rest dim dims_are steps positive =
     let room : length (all_regions (drop e dims)) ≡ step = length-all_regions (drop e dims) ∙ sym steps in
     let apart : rest ≡ rest / step * length (all_regions (drop e dims)) + rest % step = rw room (sym (div-add-mod' rest step)) in
-    rw dims_are (slice_get-blocks (map (λ (e : Entry). e.number) dim) (all_regions (drop e dims)) (rest / step) (rest % step) rest apart (omega (arith, room, mod_below rest step positive)))
+    rw dims_are (slice_get-blocks (numbers dim) (all_regions (drop e dims)) (rest / step) (rest % step) rest apart (omega (arith, room, mod_below rest step positive)))
 
-pub all_regions-found : (dims : List Dimension) (d e step rest : ℕ) (dim : Dimension) → drop d dims ≡ dim ∷ drop e dims → IsTree dim → step ≡ region_total (drop e dims) → 0 < step → rest / step < length dim
-    → slice_get (all_regions (drop d dims)) rest ≡ option_map (λ t. (rest / step) ∷ t) (slice_get (all_regions (drop e dims)) (rest % step))
-all_regions-found dims d e step rest dim dims_are tree steps positive within =
-    all_regions-turn dims d e step rest dim dims_are tree steps positive
-    ∙ ap (option_and_then (λ x. option_map (λ t. x ∷ t) (slice_get (all_regions (drop e dims)) (rest % step)))) (number_at dim (rest / step) tree within)
+pub all_regions-found : (dims : List Dimension) (d e step rest node : ℕ) (dim : Dimension) → drop d dims ≡ dim ∷ drop e dims → step ≡ region_total (drop e dims) → 0 < step → slice_get (numbers dim) (rest / step) ≡ Some node
+    → slice_get (all_regions (drop d dims)) rest ≡ option_map (λ t. node ∷ t) (slice_get (all_regions (drop e dims)) (rest % step))
+all_regions-found dims d e step rest node dim dims_are steps positive found =
+    all_regions-turn dims d e step rest dim dims_are steps positive
+    ∙ ap (option_and_then (λ x. option_map (λ t. x ∷ t) (slice_get (all_regions (drop e dims)) (rest % step)))) found
 
-pub all_regions-past : (dims : List Dimension) (d e step rest : ℕ) (dim : Dimension) → drop d dims ≡ dim ∷ drop e dims → IsTree dim → step ≡ region_total (drop e dims) → 0 < step → length dim ≤ rest / step
+pub all_regions-past : (dims : List Dimension) (d e step rest : ℕ) (dim : Dimension) → drop d dims ≡ dim ∷ drop e dims → step ≡ region_total (drop e dims) → 0 < step → length dim ≤ rest / step
     → slice_get (all_regions (drop d dims)) rest ≡ None
-all_regions-past dims d e step rest dim dims_are tree steps positive past =
-    all_regions-turn dims d e step rest dim dims_are tree steps positive
-    ∙ ap (option_and_then (λ x. option_map (λ t. x ∷ t) (slice_get (all_regions (drop e dims)) (rest % step)))) (slice_get_past (map (λ (e : Entry). e.number) dim) (rest / step) (omega (arith, length-map dim (λ (e : Entry). e.number))))
+all_regions-past dims d e step rest dim dims_are steps positive past =
+    all_regions-turn dims d e step rest dim dims_are steps positive
+    ∙ ap (option_and_then (λ x. option_map (λ t. x ∷ t) (slice_get (all_regions (drop e dims)) (rest % step)))) (slice_get_past (numbers dim) (rest / step) (omega (arith, length-map dim (λ (e : Entry). e.number))))
 
 -- The tuple looked for is the front that was found, with a tuple over the dimensions behind.
 abbrev pub IsBehind : List ℕ → Option (List ℕ) → Option (List ℕ) → Type 0
@@ -164,14 +156,21 @@ is_region-next dims nodes d dim node names inside room read within =
 
 -- the codes of regions
 
-pub code_turn : (dims : List Dimension) (nodes : List ℕ) (d e step code : ℕ) (dim : Dimension) (node : ℕ) → Here dims nodes d e dim node → IsTree dim → step ≡ region_total (drop e dims) → code < step → slice_get (all_regions (drop e dims)) code ≡ Some (drop e nodes)
-    → slice_get (all_regions (drop d dims)) (code + node * step) ≡ Some (drop d nodes)
+-- the code with one dimension more is that of the places
+code_of-turn : (dims : List Dimension) (nodes : List ℕ) (d e step code place : ℕ) (dim : Dimension) (node : ℕ) → Here dims nodes d e dim node → step ≡ region_total (drop e dims) → place_of dim node ≡ Some place → code ≡ code_of (drop e dims) (drop e nodes)
+    → code + place * step ≡ code_of (drop d dims) (drop d nodes)
+code_of-turn dims nodes d e step code place dim node at steps placed is =
+    let turned : code + place * step ≡ place * region_total (drop e dims) + code_of (drop e dims) (drop e nodes) = rw (← is, ← steps) (omega arith) in
+    rw (at.dims_are, at.nodes_are, placed) turned
+
+pub code_turn : (dims : List Dimension) (nodes : List ℕ) (d e step code place : ℕ) (dim : Dimension) (node : ℕ) → Here dims nodes d e dim node → step ≡ region_total (drop e dims) → place_of dim node ≡ Some place → code < step → slice_get (all_regions (drop e dims)) code ≡ Some (drop e nodes)
+    → slice_get (all_regions (drop d dims)) (code + place * step) ≡ Some (drop d nodes)
 unfolding all_regions
-code_turn dims nodes d e step code dim node at tree steps below is =
+code_turn dims nodes d e step code place dim node at steps placed below is =
     let room : length (all_regions (drop e dims)) ≡ step = length-all_regions (drop e dims) ∙ sym steps in
-    let apart : code + node * step ≡ node * length (all_regions (drop e dims)) + code = rw room (omega arith) in
-    rw (at.dims_are, at.nodes_are) (slice_get-blocks (map (λ (e : Entry). e.number) dim) (all_regions (drop e dims)) node code (code + node * step) apart (omega (arith, room))
-    ∙ rw (number_at dim node tree at.within, is) refl)
+    let apart : code + place * step ≡ place * length (all_regions (drop e dims)) + code = rw room (omega arith) in
+    rw (at.dims_are, at.nodes_are) (slice_get-blocks (numbers dim) (all_regions (drop e dims)) place code (code + place * step) apart (omega (arith, room))
+    ∙ rw ((place_of-number dim node place placed).1, is) refl)
 
 pub region-below : (dims : List Dimension) (code : ℕ) (region : List ℕ) → slice_get (all_regions dims) code ≡ Some region → code < region_total dims
 region-below dims code region is = omega (arith, slice_get_within (all_regions dims) code region is, length-all_regions dims)
@@ -258,16 +257,16 @@ module _ (dims : List Dimension) (steps nodes : List ℕ) (d rest code : ℕ) (d
   nodes_none past =
       let step = step-at region_total region_total-some dims steps d stepped within in
       behind_none (take d nodes) (slice_get (all_regions (drop d dims)) rest) (slice_get (all_regions dims) code) has.behind
-      (all_regions-past dims d (d + 1) (get_or steps d 0) rest dim (dims-at dims d dim within read) (tree-at dims d dim stepped.trees within read) step.0 step.1 past)
+      (all_regions-past dims d (d + 1) (get_or steps d 0) rest dim (dims-at dims d dim within read) step.0 step.1 past)
 
-  pub nodes_next : rest / get_or steps d 0 < length dim → HasNodes dims (slice_set nodes d (rest / get_or steps d 0)) (d + 1) (rest % get_or steps d 0) code
-  nodes_next inside =
+  pub nodes_next : (node : ℕ) → slice_get (numbers dim) (rest / get_or steps d 0) ≡ Some node → HasNodes dims (slice_set nodes d node) (d + 1) (rest % get_or steps d 0) code
+  nodes_next node found =
       let step = step-at region_total region_total-some dims steps d stepped within in
       record {
-        room = length-set nodes d (rest / get_or steps d 0) ∙ has.room;
+        room = length-set nodes d node ∙ has.room;
         below = λ _. omega (arith, mod_below rest (get_or steps d 0) step.1, step.0);
-        behind = behind_next nodes d (rest / get_or steps d 0) (slice_get (all_regions (drop d dims)) rest) (slice_get (all_regions (drop (d + 1) dims)) (rest % get_or steps d 0)) (slice_get (all_regions dims) code) (omega (arith, has.room)) has.behind
-            (all_regions-found dims d (d + 1) (get_or steps d 0) rest dim (dims-at dims d dim within read) (tree-at dims d dim stepped.trees within read) step.0 step.1 inside);
+        behind = behind_next nodes d node (slice_get (all_regions (drop d dims)) rest) (slice_get (all_regions (drop (d + 1) dims)) (rest % get_or steps d 0)) (slice_get (all_regions dims) code) (omega (arith, has.room)) has.behind
+            (all_regions-found dims d (d + 1) (get_or steps d 0) rest node dim (dims-at dims d dim within read) step.0 step.1 found);
       }
 
 pub nodes_done : (dims : List Dimension) (nodes : List ℕ) (d n rest code : ℕ) → 1 ≤ length dims → length dims ≤ d → d ≤ length dims → n ≡ length dims → HasNodes dims nodes d rest code → Some (take n nodes) ≡ slice_get (all_regions dims) code
@@ -277,6 +276,7 @@ nodes_done dims nodes d n rest code some all most many has =
 
 -- The code of a region's nodes from dimension d on.
 pub record HasCode (dims : List Dimension) (nodes : List ℕ) (d code : ℕ) : Type 0 where
+  pub coded : code ≡ code_of (drop d dims) (drop d nodes)
   pub is : slice_get (all_regions (drop d dims)) code ≡ Some (drop d nodes)
   pub below : code < region_total (drop d dims)
 
@@ -285,18 +285,37 @@ unfolding all_regions
 code_start dims nodes d names all =
     let none_dims : drop d dims ≡ [] = drop_all d dims (omega (arith, all)) in
     let none_nodes : drop d nodes ≡ [] = drop_all d nodes (omega (arith, all, is_region-length dims nodes names)) in
-    record { is = rw (none_dims, none_nodes) refl; below = rw none_dims (omega arith) }
+    record { coded = rw none_dims refl; is = rw (none_dims, none_nodes) refl; below = rw none_dims (omega arith) }
 
-pub code_next : (dims : List Dimension) (steps nodes : List ℕ) (d e code node : ℕ) → IsStepped region_total dims steps → is_region dims nodes ≡ true → e ≤ length dims → 0 < e → d ≡ e - 1 → slice_get nodes d ≡ Some node → HasCode dims nodes e code
-    → HasCode dims nodes d (code + node * get_or steps d 0) × (code + node * get_or steps d 0 < SPACE_LIMIT)
-code_next dims steps nodes d e code node stepped names within some next has_node has =
-    let dim = get_or dims d [] in
-    let at = before dims nodes d e dim node names within some next (get_or_default dims d [] dim (omega (arith, within))) has_node in
-    let tree : IsTree dim = stepped.trees d [] (omega (arith, within)) in
+pub code_next : (dims : List Dimension) (steps nodes : List ℕ) (d e code node place : ℕ) (dim : Dimension) → IsStepped region_total dims steps → Here dims nodes d e dim node → e ≤ length dims → 0 < e → d ≡ e - 1 → place_of dim node ≡ Some place → HasCode dims nodes e code
+    → HasCode dims nodes d (code + place * get_or steps d 0) × (code + place * get_or steps d 0 < SPACE_LIMIT)
+code_next dims steps nodes d e code node place dim stepped at within some next placed has =
     let step = step-before region_total dims steps d e stepped within some next in
-    let turned = code_turn dims nodes d e (get_or steps d 0) code dim node at tree step (omega (arith, step, has.below)) has.is in
-    let small = region-below (drop d dims) (code + node * get_or steps d 0) (drop d nodes) turned in
-    (record { is = turned; below = small }, omega (arith, small, region_total-drop dims d stepped.trees, stepped.limit))
+    let turned = code_turn dims nodes d e (get_or steps d 0) code place dim node at step placed (omega (arith, step, has.below)) has.is in
+    let small = region-below (drop d dims) (code + place * get_or steps d 0) (drop d nodes) turned in
+    (record { coded = code_of-turn dims nodes d e (get_or steps d 0) code place dim node at step placed has.coded; is = turned; below = small }, omega (arith, small, region_total-drop dims d stepped.trees, stepped.limit))
+
+-- the region at a code has the code
+pub region-at_code : (dims : List Dimension) (nodes : List ℕ) → All IsTree dims → is_region dims nodes ≡ true → slice_get (all_regions dims) (code_of dims nodes) ≡ Some nodes
+unfolding all_regions
+region-at_code [] [] trees names = refl
+region-at_code [] (node ∷ nodes) trees names = absurd (true≢false (sym names))
+region-at_code (dim ∷ dims) [] trees names = absurd (true≢false (sym names))
+region-at_code (dim ∷ dims) (node ∷ nodes) trees names =
+    let parts = is_region-cons dim dims node nodes names in
+    let place = place_at dim node in
+    let placed : place_of dim node ≡ Some place = place_of-place_at dim (are_numbers dim (All-head IsTree dim dims trees)) node parts.0 in
+    let rest = region-at_code dims nodes (All-tail IsTree dim dims trees) parts.1 in
+    let room : length (all_regions dims) ≡ region_total dims = length-all_regions dims in
+    let inside : code_of dims nodes < length (all_regions dims) = slice_get_within (all_regions dims) (code_of dims nodes) nodes rest in
+    rw placed (slice_get-blocks (numbers dim) (all_regions dims) place (code_of dims nodes) (place * region_total dims + code_of dims nodes) (rw room refl) inside
+    ∙ rw ((place_of-number dim node place placed).1, rest) refl)
+
+-- so regions of one code are one
+pub code_of-same : (dims : List Dimension) (a b : List ℕ) → All IsTree dims → is_region dims a ≡ true → is_region dims b ≡ true → code_of dims a ≡ code_of dims b → a ≡ b
+code_of-same dims a b trees first second same =
+    let found : Some a ≡ Some b = sym (region-at_code dims a trees first) ∙ ap (slice_get (all_regions dims)) same ∙ region-at_code dims b trees second in
+    same_Some a b found
 
 -- a cell outside in one dimension is outside, and one inside there is inside where the rest is
 pub outside-here : (whole here rest inside within : Bool) → whole ≡ here → here ≡ (within && rest) → inside ≡ within → inside ≡ false → false ≡ whole

@@ -1,8 +1,8 @@
 -- Regions of a space over several dimensions: which there are, their codes, and what two of them share.
-use Rattle.std.specs.Prelude.{ℕ, ◌*◌, Bool, true, false, List, [], ◌∷◌, length, map, filter, nat_lt, ◌&&◌, if◌then◌else◌, Option, Some, None}
-use Rattle.std.specs.Option.{option_map, option_and_then}
+use Rattle.std.specs.Prelude.{◌≡◌, ℕ, ◌+◌, ◌*◌, Bool, true, false, List, [], ◌∷◌, length, map, filter, nat_lt, ◌&&◌, if◌then◌else◌, Option, Some, None}
+use Rattle.std.specs.Option.{option_map, option_map_or, option_and_then}
 use Rattle.std.specs.List.{flat_map}
-use Rattle.cube_model.specs.Tree.{Dimension, leaves, is_under}
+use Rattle.cube_model.specs.Tree.{Dimension, leaves, is_under, place_of}
 use Rattle.cube_model.specs.Cells.{cells_of, is_among, leaf_places}
 
 -- the product of numbers
@@ -24,10 +24,18 @@ is_region [] (node ∷ nodes) = false
 is_region (dim ∷ dims) [] = false
 is_region (dim ∷ dims) (node ∷ nodes) = nat_lt node (length dim) && is_region dims nodes
 
+abbrev pub IsRegion : List Dimension → List ℕ → Type 0
+IsRegion dims region = is_region dims region ≡ true
+
 -- All regions, the first dimension slowest. A region's code is its place in this list.
 unfoldable pub all_regions : List Dimension → List (List ℕ)
 all_regions [] = [] ∷ []
 all_regions (dim ∷ dims) = flat_map (λ node. map (λ region. node ∷ region) (all_regions dims)) (map (λ e. e.number) dim)
+
+-- The code of a region: the places of its nodes in mixed radix, the first dimension slowest.
+abbrev pub code_of : List Dimension → List ℕ → ℕ
+code_of (dim ∷ dims) (node ∷ nodes) = option_map_or (λ place. place) (place_of dim node) 0 * region_total dims + code_of dims nodes
+code_of dims nodes = 0
 
 -- the cells that two regions share, ascending
 abbrev pub common_cells : List Dimension → List ℕ → List ℕ → List ℕ

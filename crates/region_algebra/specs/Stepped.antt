@@ -1,9 +1,9 @@
 -- What a space keeps beside its dimensions.
-use Rattle.std.specs.Prelude.{◌≡◌, ℕ, ◌+◌, ◌<◌, ◌≤◌, true, List, None, Some, All, length, drop, get_or, slice_get}
+use Rattle.std.specs.Prelude.{◌≡◌, ℕ, ◌+◌, ◌<◌, ◌≤◌, List, None, Some, All, length, drop, get_or, slice_get}
 use Rattle.cube_model.specs.Tree.{Dimension, IsTree}
 use Rattle.cube_model.specs.Cells.{cells_of}
 use Rattle.cube_model.specs.Limits.{SPACE_LIMIT}
-use Rattle.region_algebra.specs.Space.{cell_total, is_region, product, region_total}
+use Rattle.region_algebra.specs.Space.{IsRegion, cell_total, product, region_total}
 use Rattle.region_algebra.specs.Fault.{space_fault}
 
 -- for each number the product of those behind it, the product of all being below the limit
@@ -30,7 +30,7 @@ pub record IsRun (cells : List ℕ) (place cell left : ℕ) : Type 0 where
 -- A walk through a region's cells: its place among them, or behind the last of them, and how many of those before it
 -- have the codes that follow the cell that it gave last.
 pub record IsWalk (dims : List Dimension) (region : List ℕ) (place count cell left : ℕ) : Type 0 where
-  pub named : is_region dims region ≡ true
+  pub named : IsRegion dims region
   pub whole : count ≡ length (cells_of dims region)
   pub within : place ≤ count
   pub run : IsRun (cells_of dims region) place cell left

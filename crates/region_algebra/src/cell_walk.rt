@@ -1,7 +1,7 @@
 //! A walk through the cells of a region.
 ghost use Rattle.std.specs.Prelude.{◌≡◌, true};
 ghost use Rattle.std.specs.Iterator.{YieldsFirst, item_count};
-ghost use Rattle.region_algebra.specs.Space.{cells_left, is_region};
+ghost use Rattle.region_algebra.specs.Space.{IsRegion, cells_left};
 ghost use Rattle.cube_model.specs.Cells.{cells_of};
 
 use crate::Space;
@@ -37,7 +37,7 @@ impl<'a> Model for CellWalk<'a> {
 impl<'a> CellWalk<'a> {
     /// The walk through the cells of a region.
     pub(crate) fn new(space: &'a Space, region: Region) -> Self
-        requires { is_region space.now region ≡ true }
+        requires { IsRegion space.now region }
         ensures { cells_left result ≡ cells_of space.now region }
     {
         CellWalk {

@@ -3,7 +3,7 @@ ghost use Rattle.std.specs.Prelude.{◌≡◌, ◌+◌, ◌/◌, ◌%◌, ◌<�
 ghost use Rattle.cube_model.specs.Cells.{all_cells, cells_of, is_among};
 ghost use Rattle.cube_model.specs.Limits.{MAX_DIMS, SPACE_LIMIT};
 ghost use Rattle.cube_model.specs.Tree.{IsTree};
-ghost use Rattle.region_algebra.specs.Space.{cell_total, is_region};
+ghost use Rattle.region_algebra.specs.Space.{IsRegion, cell_total};
 ghost use Rattle.region_algebra.specs.Stepped.{IsRun, IsStepped};
 
 use cube_model::{MAX_DIMS, Region};
@@ -14,7 +14,7 @@ pub fn count(dims: &[Dim], r: Region) -> u64
     requires trees { All IsTree dims.now }
     requires total { cell_total dims.now < SPACE_LIMIT }
     requires few { length dims.now ≤ MAX_DIMS }
-    requires region { is_region dims.now r ≡ true }
+    requires region { IsRegion dims.now r }
     ensures count { result ≡ length (cells_of dims.now r) }
     ensures some { 1 ≤ result }
 {
@@ -26,9 +26,9 @@ pub fn count(dims: &[Dim], r: Region) -> u64
     count
 }
 
-/// A number divided by another, and what is left over. A division takes long: it is spared where the number is the
+/// Divides a number by another, and says what is left over. A division takes long: it is spared where the number is the
 /// smaller one, and where the other is 1, as it is where a region has one leaf in a dimension.
-fn divided(n: u64, by: u64) -> (u64, u64)
+fn divide(n: u64, by: u64) -> (u64, u64)
     requires { 0 < by }
     ensures quotient { result.0 ≡ n / by }
     ensures rest { result.1 ≡ n % by }
@@ -46,7 +46,7 @@ fn divided(n: u64, by: u64) -> (u64, u64)
 pub fn nth(dims: &[Dim], steps: &[u64; MAX_DIMS], r: Region, place: u64) -> u64
     requires steps { IsStepped cell_total dims.now steps.now }
     requires few { length dims.now ≤ MAX_DIMS }
-    requires region { is_region dims.now r ≡ true }
+    requires region { IsRegion dims.now r }
     requires place { place < length (cells_of dims.now r) }
     ensures { slice_get (cells_of dims.now r) place ≡ Some result }
 {
@@ -55,7 +55,7 @@ pub fn nth(dims: &[Dim], steps: &[u64; MAX_DIMS], r: Region, place: u64) -> u64
     for d in (0..dims.len()).rev() {
         let (first, end) = dims[d].leaf_range(r.node(d as u32));
         let count = u64::from(end - first);
-        let (quotient, rest) = divided(left, count);
+        let (quotient, rest) = divide(left, count);
         code += (u64::from(first) + rest) * steps[d];
         left = quotient;
     }
@@ -68,7 +68,7 @@ pub fn run_at(dims: &[Dim], steps: &[u64; MAX_DIMS], r: Region, place: u64) -> (
     requires steps { IsStepped cell_total dims.now steps.now }
     requires some { 1 ≤ length dims.now }
     requires few { length dims.now ≤ MAX_DIMS }
-    requires region { is_region dims.now r ≡ true }
+    requires region { IsRegion dims.now r }
     requires place { place < length (cells_of dims.now r) }
     ensures cell { slice_get (cells_of dims.now r) place ≡ Some result.0 }
     ensures run { IsRun (cells_of dims.now r) (place + 1) result.0 result.1 }
@@ -78,7 +78,7 @@ pub fn run_at(dims: &[Dim], steps: &[u64; MAX_DIMS], r: Region, place: u64) -> (
     let (first, end) = dims[last].leaf_range(r.node(last as u32));
     let width = u64::from(end - first);
     let cell = nth(dims, steps, r, place);
-    (cell, width - 1 - divided(place, width).1)
+    (cell, width - 1 - divide(place, width).1)
 }
 
 /// Whether a leaf lies in a range.
@@ -92,7 +92,7 @@ fn is_within(leaf: u64, first: u32, end: u32) -> bool
 pub fn contains(dims: &[Dim], steps: &[u64; MAX_DIMS], r: Region, cell: u64) -> bool
     requires steps { IsStepped cell_total dims.now steps.now }
     requires few { length dims.now ≤ MAX_DIMS }
-    requires region { is_region dims.now r ≡ true }
+    requires region { IsRegion dims.now r }
     ensures { result ≡ is_among (cells_of dims.now r) cell }
 {
     let mut rest = cell;
@@ -112,7 +112,7 @@ pub fn cell_at(dims: &[Dim], steps: &[u64; MAX_DIMS], cell: u64) -> Region
     requires few { length dims.now ≤ MAX_DIMS }
     requires cell { cell < length (all_cells dims.now) }
     ensures cell { slice_get (all_cells dims.now) cell ≡ Some result }
-    ensures region { is_region dims.now result ≡ true }
+    ensures region { IsRegion dims.now result }
 {
     let mut nodes = [0; MAX_DIMS];
     let mut rest = cell;

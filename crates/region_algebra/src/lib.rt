@@ -4,6 +4,7 @@
 mod cell_walk;
 mod cells;
 mod copies;
+mod growth;
 mod laws;
 mod regions;
 mod space;
@@ -11,7 +12,9 @@ mod steps;
 
 pub use cell_walk::CellWalk;
 pub use cube_model::{MAX_DIMS, Region};
+pub use growth::{Grow, GrowFault};
 pub use laws::{
-    cells_are_a_product, cells_are_those_of_the_children, nested_or_apart, worked_regions,
+    cells_are_a_product, cells_are_those_of_the_children, codes_tell_regions_apart,
+    nested_or_apart, worked_growth, worked_regions,
 };
 pub use space::{Space, SpaceFault};

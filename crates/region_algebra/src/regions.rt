@@ -1,7 +1,7 @@
 //! Regions, each by its nodes and by its code.
 ghost use Rattle.std.specs.Prelude.{◌≡◌, ◌<◌, ◌≤◌, Some, true, length, slice_get, slice_set};
 ghost use Rattle.cube_model.specs.Limits.{MAX_DIMS};
-ghost use Rattle.region_algebra.specs.Space.{all_regions, is_region, lower, meet_of, region_total};
+ghost use Rattle.region_algebra.specs.Space.{IsRegion, all_regions, code_of, is_region, lower, meet_of, region_total};
 ghost use Rattle.region_algebra.specs.Stepped.{IsStepped};
 
 use crate::cells::first_nodes;
@@ -23,17 +23,19 @@ pub fn is_region(dims: &[Dim], nodes: &[u32]) -> bool
     true
 }
 
-/// A region's code.
+/// A region's code: the places of its nodes in mixed radix.
 pub fn code(dims: &[Dim], steps: &[u64; MAX_DIMS], r: Region) -> u64
     requires steps { IsStepped region_total dims.now steps.now }
     requires few { length dims.now ≤ MAX_DIMS }
-    requires region { is_region dims.now r ≡ true }
+    requires region { IsRegion dims.now r }
+    ensures code { result ≡ code_of dims.now r }
     ensures place { slice_get (all_regions dims.now) result ≡ Some r }
     ensures within { result < region_total dims.now }
 {
     let mut code = 0;
     for d in (0..dims.len()).rev() {
-        code += u64::from(r.node(d as u32)) * steps[d];
+        let place = dims[d].place(r.node(d as u32));
+        code += u64::from(place) * steps[d];
     }
     code
 }
@@ -48,11 +50,12 @@ pub fn uncode(dims: &[Dim], steps: &[u64; MAX_DIMS], code: u64) -> Option<Region
     let mut nodes = [0; MAX_DIMS];
     let mut rest = code;
     for d in 0..dims.len() {
-        let node = rest / steps[d];
-        if node >= u64::from(dims[d].len()) {
+        let dim = &dims[d];
+        let place = rest / steps[d];
+        if place >= u64::from(dim.len()) {
             return None;
         }
-        nodes[d] = node as u32;
+        nodes[d] = dim.at(place as u32);
         rest %= steps[d];
     }
     Some(first_nodes(&nodes, dims.len()))
@@ -76,8 +79,8 @@ fn lower(dim: &Dim, x: u32, y: u32) -> Option<u32>
 /// The region that has the lower node in each dimension.
 pub fn meet(dims: &[Dim], a: Region, b: Region) -> Option<Region>
     requires few { length dims.now ≤ MAX_DIMS }
-    requires first { is_region dims.now a ≡ true }
-    requires second { is_region dims.now b ≡ true }
+    requires first { IsRegion dims.now a }
+    requires second { IsRegion dims.now b }
     ensures { result ≡ meet_of dims.now a b }
 {
     let mut nodes = [0; MAX_DIMS];

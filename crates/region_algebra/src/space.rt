@@ -4,7 +4,7 @@ ghost use Rattle.cube_model.specs.Tree.{Dimension, IsTree, parent};
 ghost use Rattle.cube_model.specs.Cells.{all_cells, cells_of, is_among};
 ghost use Rattle.cube_model.specs.Limits.{SPACE_LIMIT};
 ghost use Rattle.region_algebra.specs.Fault.{space_fault};
-ghost use Rattle.region_algebra.specs.Space.{all_regions, cells_left, common_cells, is_region, meet_of, only_cell, cell_total, region_total};
+ghost use Rattle.region_algebra.specs.Space.{IsRegion, all_regions, cells_left, code_of, common_cells, meet_of, only_cell, cell_total, region_total};
 ghost use Rattle.region_algebra.specs.Stepped.{IsRun};
 
 #[cfg(test)]
@@ -102,7 +102,7 @@ impl Space {
 
     /// The region of these nodes: None exactly where their number is not that of the dimensions or a node is none.
     pub fn region(&self, nodes: &[u32]) -> Option<Region>
-        ensures regions { IsSome result ↔ (is_region self.now nodes.now ≡ true) }
+        ensures regions { IsSome result ↔ (IsRegion self.now nodes.now) }
         ensures held { IfSome result (λ region. region ≡ nodes.now) }
     {
         if regions::is_region(&self.dims, nodes) {
@@ -114,7 +114,7 @@ impl Space {
 
     /// The number of cells of a region, at least 1.
     pub fn cell_count(&self, r: Region) -> u64
-        requires { is_region self.now r ≡ true }
+        requires { IsRegion self.now r }
         ensures count { result ≡ length (cells_of self.now r) }
         ensures some { 1 ≤ result }
     {
@@ -123,7 +123,7 @@ impl Space {
 
     /// Whether a cell is one of a region's.
     pub fn contains(&self, r: Region, cell: u64) -> bool
-        requires region { is_region self.now r ≡ true }
+        requires region { IsRegion self.now r }
         requires cell { cell < length (all_cells self.now) }
         ensures { result ≡ is_among (cells_of self.now r) cell }
     {
@@ -132,8 +132,8 @@ impl Space {
 
     /// The number of cells that two regions share.
     pub fn overlap_count(&self, a: Region, b: Region) -> u64
-        requires first { is_region self.now a ≡ true }
-        requires second { is_region self.now b ≡ true }
+        requires first { IsRegion self.now a }
+        requires second { IsRegion self.now b }
         ensures { result ≡ length (common_cells self.now a b) }
     {
         self.meet(a, b).map_or(0, |r| self.cell_count(r))
@@ -142,11 +142,11 @@ impl Space {
     /// The region of the cells that two regions share, which has the lower node in each dimension: None exactly where
     /// no cell is shared, which is where in some dimension neither node is under the other.
     pub fn meet(&self, a: Region, b: Region) -> Option<Region>
-        requires first { is_region self.now a ≡ true }
-        requires second { is_region self.now b ≡ true }
+        requires first { IsRegion self.now a }
+        requires second { IsRegion self.now b }
         ensures meet { result ≡ meet_of self.now a b }
         ensures common { IfSome result (λ region. cells_of self.now region ≡ common_cells self.now a b) }
-        ensures some { IfSome result (λ region. is_region self.now region ≡ true) }
+        ensures some { IfSome result (λ region. IsRegion self.now region) }
         ensures none { IsNone result ↔ (common_cells self.now a b ≡ []) }
     {
         regions::meet(&self.dims, a, b)
@@ -154,18 +154,20 @@ impl Space {
 
     /// A region with a child of its node in a dimension.
     pub fn child(&self, r: Region, d: u32, node: u32) -> Region
-        requires region { is_region self.now r ≡ true }
+        requires region { IsRegion self.now r }
         requires dim { d < length self.now }
         requires child { IfSome (slice_get self.now d) (λ dim. (node < length dim) × (parent dim node ≡ slice_get r d)) }
         ensures child { result ≡ slice_set r d node }
-        ensures region { is_region self.now result ≡ true }
+        ensures region { IsRegion self.now result }
     {
         regions::child(r, self.dims.len(), d as usize, node)
     }
 
-    /// A region's code: its place among all regions, the first dimension slowest.
+    /// A region's code, which is its place among all regions: the places of its nodes in mixed radix, the first dimension
+    /// slowest.
     pub fn code(&self, r: Region) -> u64
-        requires { is_region self.now r ≡ true }
+        requires { IsRegion self.now r }
+        ensures code { result ≡ code_of self.now r }
         ensures place { slice_get (all_regions self.now) result ≡ Some r }
         ensures within { result < region_total self.now }
     {
@@ -176,14 +178,14 @@ impl Space {
     pub fn uncode(&self, code: u64) -> Option<Region>
         ensures region { result ≡ slice_get (all_regions self.now) code }
         ensures none { IsSome result ↔ (code < region_total self.now) }
-        ensures some { IfSome result (λ region. is_region self.now region ≡ true) }
+        ensures some { IfSome result (λ region. IsRegion self.now region) }
     {
         regions::uncode(&self.dims, &self.region_steps, code)
     }
 
     /// The code of a region's cell: None exactly where it has more than one.
     pub fn cell_code(&self, r: Region) -> Option<u64>
-        requires { is_region self.now r ≡ true }
+        requires { IsRegion self.now r }
         ensures only { result ≡ only_cell (cells_of self.now r) }
         ensures within { IfSome result (λ cell. cell < length (all_cells self.now)) }
     {
@@ -198,14 +200,14 @@ impl Space {
     pub fn cell_at(&self, cell: u64) -> Region
         requires { cell < length (all_cells self.now) }
         ensures cell { slice_get (all_cells self.now) cell ≡ Some result }
-        ensures region { is_region self.now result ≡ true }
+        ensures region { IsRegion self.now result }
     {
         cells::cell_at(&self.dims, &self.cell_steps, cell)
     }
 
     /// The codes of a region's cells, ascending, each once.
     pub fn cells(&self, r: Region) -> CellWalk<'_>
-        requires { is_region self.now r ≡ true }
+        requires { IsRegion self.now r }
         ensures cells { cells_left result ≡ cells_of self.now r }
         ensures within { All (λ cell. cell < length (all_cells self.now)) (cells_left result) }
     {
@@ -225,7 +227,7 @@ impl Space {
 
     /// The cell at a place among a region's cells.
     pub(crate) fn cell_of(&self, r: Region, place: u64) -> u64
-        requires region { is_region self.now r ≡ true }
+        requires region { IsRegion self.now r }
         requires place { place < length (cells_of self.now r) }
         ensures { slice_get (cells_of self.now r) place ≡ Some result }
     {
@@ -234,7 +236,7 @@ impl Space {
 
     /// The cell at a place among a region's cells, and how many behind it have the codes that follow.
     pub(crate) fn run_at(&self, r: Region, place: u64) -> (u64, u64)
-        requires region { is_region self.now r ≡ true }
+        requires region { IsRegion self.now r }
         requires place { place < length (cells_of self.now r) }
         ensures cell { slice_get (cells_of self.now r) place ≡ Some result.0 }
         ensures run { IsRun (cells_of self.now r) (place + 1) result.0 result.1 }
