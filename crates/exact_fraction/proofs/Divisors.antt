@@ -1,5 +1,5 @@
 -- Greatest common divisors and least common multiples.
-use Rattle.std.proofs.Common.{◌≡◌, ℕ, zero, suc, ◌-◌, ◌*◌, ◌/◌, ◌%◌, ◌<◌, ◌≤◌, Bool, true, false, ◌&&◌, refl, sym, ap, ◌∙◌, inl, inr, arith}
+use Rattle.std.proofs.Common.{◌≡◌, ℕ, zero, suc, ◌-◌, ◌*◌, ◌/◌, ◌%◌, ◌<◌, ◌≤◌, Bool, true, false, Option, Some, None, ◌&&◌, refl, sym, ap, ◌∙◌, inl, inr, arith}
 use Rattle.std.specs.Int.{IsGcd, ◌∣◌}
 use Rattle.std.proofs.lemmas.Bool.{cases_lt}
 use Rattle.std.proofs.lemmas.Bool.Decides.{nat_tests}
@@ -73,6 +73,22 @@ gcd_unique a b g some is =
     let above : 0 < g = pos_of_dvd_of_pos is.1 (omega arith) in
     greatest_is (λ d. divides d a && divides d b) b g (omega arith) (le_of_dvd (omega arith) is.1) (test_of a b g is.0 is.1)
     (λ d both. let parts = both_divide a b d both in le_from_IsGcd a b g d is above parts.0 parts.1)
+
+-- Euclid's steps, at most so many: they compute where the search is too long
+unfoldable pub by_steps : ℕ → ℕ → ℕ → Option ℕ
+by_steps zero a b = None
+by_steps (suc most) a zero = Some a
+by_steps (suc most) a (suc b) = by_steps most (suc b) (a % suc b)
+
+by_steps-is : (most a b g : ℕ) → by_steps most a b ≡ Some g → IsGcd a b g
+unfolding by_steps
+by_steps-is zero a b g found = absurd (cc)
+by_steps-is (suc most) a zero g found = let same : a ≡ g = cc in rw (← same) (IsGcd-from_zero a zero refl)
+by_steps-is (suc most) a (suc b) g found = IsGcd-from_mod a (suc b) g (by_steps-is most (suc b) (a % suc b) g found)
+
+-- where they end, they find the greatest common divisor
+pub gcd_by : (a b g : ℕ) → 1 ≤ b → by_steps 200 a b ≡ Some g → gcd a b ≡ g
+gcd_by a b g some found = gcd_unique a b g some (by_steps-is 200 a b g found)
 
 pub gcd-is : (a b : ℕ) → 1 ≤ b → IsGcd a b (gcd a b)
 gcd-is a b some =

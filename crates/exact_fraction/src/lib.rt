@@ -11,6 +11,6 @@ mod sums;
 mod tests;
 
 pub use group_sum::Terms;
-pub use laws::worked_examples;
+pub use laws::{worked_examples, worked_wide_quotients, worked_wide_sums};
 pub use quotients::{MAX_SCALE, Quotient, ratio};
 pub use sums::{Value, one};

@@ -37,7 +37,7 @@ module _ (terms : List Term) (d k : ℕ) where
   pub numerator_there : (term : Term) → term_of terms d ≡ Some term → numerator_of terms d (k + 1) ≡ get_or term.sums k (pos 0)
   numerator_there term found = ap (λ o. option_map_or (λ (t : Term). get_or (pos t.count ∷ t.sums) (k + 1) (pos 0)) o (pos 0)) found ∙ (rw add-one refl)
 
-  numerator_absent : term_of terms d ≡ None → numerator_of terms d (k + 1) ≡ pos 0
+  pub numerator_absent : term_of terms d ≡ None → numerator_of terms d (k + 1) ≡ pos 0
   numerator_absent none = ap (λ o. option_map_or (λ (t : Term). get_or (pos t.count ∷ t.sums) (k + 1) (pos 0)) o (pos 0)) none
 
 -- a share that fits, at a term that stands for its denominator

@@ -7,5 +7,7 @@ pub mod Written
 pub mod Fronts
 pub mod Walk
 pub mod Merging
+pub mod Merged
+pub mod MergeLaws
 pub mod Subtracting
 pub mod SmallTerms

@@ -1,8 +1,7 @@
 -- What a walk over two lists of terms keeps while it merges them.
-use Rattle.std.proofs.Common.{◌≡◌, ℕ, ◌+◌, ◌-◌, ◌<◌, ◌≤◌, true, List, [], ◌∷◌, ◌++◌, length, Option, Some, None, IfSome, get_or, ℤ, pos, ◌+ℤ◌, nat_abs, inl, inr, refl, ap, ◌∙◌, add-one, le-leb, arith}
+use Rattle.std.proofs.Common.{◌≡◌, ℕ, ◌+◌, ◌-◌, ◌<◌, ◌≤◌, true, List, [], ◌∷◌, ◌++◌, length, Option, Some, None, IfSome, get_or, ℤ, pos, ◌+ℤ◌, nat_abs, refl, ◌∙◌, add-one, le-leb, arith}
 use Rattle.std.specs.Prelude.{nat_le}
 use Rattle.std.specs.Option.{option_map_or, option_to_list}
-use Rattle.std.proofs.lemmas.Bool.{cases_eq}
 use Rattle.std.proofs.lemmas.Bool.Decides.{nat_tests}
 use Rattle.std.proofs.lemmas.Int.{ints}
 use Rattle.cube_model.specs.declared.term.Term.{Term}
@@ -12,7 +11,7 @@ use Rattle.group_sum.specs.Terms.{are_terms_from}
 use Rattle.group_sum.specs.Heads.{least_head, head_at, rest_at, count_in, sum_in, columns_in, total_in, AreWithin, IsTermOf, IsTotal}
 use Rattle.group_sum.specs.Merge.{FitsMerge, Merges}
 use Rattle.group_sum.proofs.Adding.{list_all_passes}
-use Rattle.group_sum.proofs.Walk.{IsWalk, IsAtDen, WalksOn, walks_on, head_left_whole, head_right_whole, some_ahead, ends}
+use Rattle.group_sum.proofs.Walk.{IsWalk, IsAtDen, walk_first, walk_next, good_everywhere, head_left, head_right, left_whole, right_whole, some_ahead}
 
 -- a column's numerator of the term of a denominator
 abbrev pub sum_of : List Term → ℕ → ℕ → ℤ
@@ -74,96 +73,72 @@ some_terms None (Some y) some = omega arith
 some_terms (Some x) None some = omega arith
 some_terms (Some x) (Some y) some = omega arith
 
--- what is done and what is left add up to both lists
-pub record IsMerging (columns : ℕ) (left right done left_ahead right_ahead : List Term) : Type 0 where
-  pub walk : IsWalk columns done left_ahead right_ahead
-  pub counts : (d : ℕ) → count_of done d + (count_of left_ahead d + count_of right_ahead d) ≡ count_of left d + count_of right d
-  pub sums : (d k : ℕ) → k + 1 < columns → sum_of done d k +ℤ (sum_of left_ahead d k +ℤ sum_of right_ahead d k) ≡ sum_of left d k +ℤ sum_of right d k
+-- the numerators of a term are those of both lists at the denominator added up
+pub record IsSum (columns : ℕ) (left right : List Term) (d : ℕ) (found : Option Term) : Type 0 where
+  pub count : count_in found ≡ count_of left d + count_of right d
+  pub sums : (k : ℕ) → k + 1 < columns → sum_in found k ≡ sum_of left d k +ℤ sum_of right d k
 
--- before the first denominator nothing is done
-pub merging_first : (columns : ℕ) (left right : List Term) → are_terms_from columns 1 left ≡ true → are_terms_from columns 1 right ≡ true → IsMerging columns left right [] left right
-merging_first columns left right left_ok right_ok = record {
-  walk = record { done_ascends = refl; left_behind = left_ok; right_behind = right_ok };
-  counts = λ d. omega arith;
-  sums = λ d k lt. omega (arith, ints);
-}
+-- both lists are merged up to where the walk is
+abbrev pub IsMerging : ℕ → List Term → List Term → List Term → List Term → List Term → Type 0
+IsMerging columns left right done left_ahead right_ahead = IsWalk columns (IsSum columns left right) left right done left_ahead right_ahead
 
-module _ (columns : ℕ) (left right done left_ahead right_ahead : List Term) (merging : IsMerging columns left right done left_ahead right_ahead) where
-  module _ (some_columns : 1 ≤ columns) (fits : FitsMerge (record { columns = columns; terms = left }) (record { columns = columns; terms = right })) (den : ℕ) (is : least_head left_ahead right_ahead ≡ Some den) where
-    on : WalksOn columns den None done left_ahead right_ahead
-    on = walks_on columns done left_ahead right_ahead merging.walk den is None tt
+module _ (columns : ℕ) (left right : List Term) where
+  -- where neither list has a term there is none
+  sum_of_none : (d : ℕ) → term_of left d ≡ None → term_of right d ≡ None → IsSum columns left right d None
+  sum_of_none d none_left none_right = record { count = rw (none_left, none_right) refl; sums = λ k lt. rw (none_left, none_right) refl }
 
-    -- the numerators of both terms in front fit
-    pub count_fits : count_in (head_at left_ahead den) + count_in (head_at right_ahead den) ≤ WIDE
-    count_fits = rw (on.head_left, on.head_right) (omega (arith, merging.counts den, fits.counts den))
+  pub merging_first : are_terms_from columns 1 left ≡ true → are_terms_from columns 1 right ≡ true → IsMerging columns left right [] left right
+  merging_first = walk_first columns (IsSum columns left right) left right sum_of_none
 
-    all_sums_fit : AreWithin (columns - 1) (total_in (head_at left_ahead den) (head_at right_ahead den))
-    all_sums_fit = record {
-      each = λ k lt.
-          let within : k + 1 < columns = omega arith in
-          let whole : nat_abs (sum_of left den k +ℤ sum_of right den k) ≤ WIDE = rw (← numerator_is left den k, ← numerator_is right den k) (fits.sums den k within) in
-          let none : sum_of done den k ≡ pos 0 = ap (λ found. sum_in found k) on.before in
-          let same : sum_of left_ahead den k +ℤ sum_of right_ahead den k ≡ sum_of left den k +ℤ sum_of right den k = omega (arith, ints, none, merging.sums den k within) in
-          rw (on.head_left, on.head_right, same) whole;
-    }
+  module _ (done left_ahead right_ahead : List Term) (merging : IsMerging columns left right done left_ahead right_ahead) where
+    module _ (some_columns : 1 ≤ columns) (fits : FitsMerge (record { columns = columns; terms = left }) (record { columns = columns; terms = right })) (den : ℕ) (is : least_head left_ahead right_ahead ≡ Some den) where
+      is_left : head_at left_ahead den ≡ term_of left den
+      is_left = head_left columns (IsSum columns left right) left right sum_of_none done left_ahead right_ahead merging den is
 
-    left_whole : IfSome (head_at left_ahead den) (IsAtDen columns den)
-    left_whole = head_left_whole columns done left_ahead right_ahead merging.walk den is
+      is_right : head_at right_ahead den ≡ term_of right den
+      is_right = head_right columns (IsSum columns left right) left right sum_of_none done left_ahead right_ahead merging den is
 
-    right_whole : IfSome (head_at right_ahead den) (IsAtDen columns den)
-    right_whole = head_right_whole columns done left_ahead right_ahead merging.walk den is
+      whole_left : IfSome (term_of left den) (IsAtDen columns den)
+      whole_left = left_whole columns (IsSum columns left right) left right sum_of_none done left_ahead right_ahead merging den is
 
-    pub sums_fit : AreWithin (columns_in (head_at left_ahead den)) (total_in (head_at left_ahead den) (head_at right_ahead den))
-    sums_fit = columns_within columns den (head_at left_ahead den) left_whole _ all_sums_fit
+      whole_right : IfSome (term_of right den) (IsAtDen columns den)
+      whole_right = right_whole columns (IsSum columns left right) left right sum_of_none done left_ahead right_ahead merging den is
 
-    pub some_count : 1 ≤ count_in (head_at left_ahead den) + count_in (head_at right_ahead den)
-    some_count = some_ahead columns done left_ahead right_ahead merging.walk den is
+      some_here : 1 ≤ count_of left den + count_of right den
+      some_here = some_ahead columns (IsSum columns left right) left right sum_of_none done left_ahead right_ahead merging den is
 
-    pub some_in_front : 1 ≤ length (option_to_list (head_at left_ahead den)) + length (option_to_list (head_at right_ahead den))
-    some_in_front = some_terms _ _ some_count
+      -- one of both terms in front is there at least, and their numerators fit
+      pub some_count : 1 ≤ count_in (head_at left_ahead den) + count_in (head_at right_ahead den)
+      some_count = rw (is_left, is_right) some_here
 
-    module _ (term : Term) (is_total : IsTotal (head_at left_ahead den) (head_at right_ahead den) term) where
-      total : IsTermOf den (columns - 1) (count_in (head_at left_ahead den) + count_in (head_at right_ahead den)) (total_in (head_at left_ahead den) (head_at right_ahead den)) term
-      total = is_total_of columns den (head_at left_ahead den) (head_at right_ahead den) left_whole right_whole some_count term is_total
+      pub some_in_front : 1 ≤ length (option_to_list (head_at left_ahead den)) + length (option_to_list (head_at right_ahead den))
+      some_in_front = some_terms _ _ some_count
 
-      at_den : IsAtDen columns den term
-      at_den = is_term_of columns den _ _ term some_columns some_count count_fits all_sums_fit total
+      pub count_fits : count_in (head_at left_ahead den) + count_in (head_at right_ahead den) ≤ WIDE
+      count_fits = rw (is_left, is_right) (fits.counts den)
 
-      on_with : WalksOn columns den (Some term) done left_ahead right_ahead
-      on_with = walks_on columns done left_ahead right_ahead merging.walk den is (Some term) at_den
+      all_sums_fit : AreWithin (columns - 1) (total_in (term_of left den) (term_of right den))
+      all_sums_fit = record { each = λ k lt. rw (← numerator_is left den k, ← numerator_is right den k) (fits.sums den k (omega arith)) }
 
-      -- at the denominator
-      sums_here : (k : ℕ) → k + 1 < columns → sum_of (done ++ term ∷ []) den k +ℤ (sum_of (rest_at left_ahead den) den k +ℤ sum_of (rest_at right_ahead den) den k) ≡ sum_of left den k +ℤ sum_of right den k
-      sums_here k lt =
-          let none : sum_of done den k ≡ pos 0 = ap (λ found. sum_in found k) on.before in
-          let here : get_or term.sums k (pos 0) ≡ sum_of left_ahead den k +ℤ sum_of right_ahead den k = rw (on.head_left, on.head_right) at (total.sums.each k (omega (arith, total.columns))) in
-          rw (on_with.now_done, on_with.now_left, on_with.now_right) (omega (arith, ints, none, here, merging.sums den k lt))
+      pub sums_fit : AreWithin (columns_in (head_at left_ahead den)) (total_in (head_at left_ahead den) (head_at right_ahead den))
+      sums_fit = rw (is_left, is_right) (columns_within columns den (term_of left den) whole_left _ all_sums_fit)
 
-      counts_here : count_of (done ++ term ∷ []) den + (count_of (rest_at left_ahead den) den + count_of (rest_at right_ahead den) den) ≡ count_of left den + count_of right den
-      counts_here =
-          let none : count_of done den ≡ 0 = ap count_in on.before in
-          let here : term.count ≡ count_of left_ahead den + count_of right_ahead den = rw (on.head_left, on.head_right) at total.count in
-          rw (on_with.now_done, on_with.now_left, on_with.now_right) (omega (arith, none, here, merging.counts den))
+      -- with their total both lists are merged further
+      module _ (term : Term) (is_total : IsTotal (head_at left_ahead den) (head_at right_ahead den) term) where
+        total : IsTermOf den (columns - 1) (count_of left den + count_of right den) (total_in (term_of left den) (term_of right den)) term
+        total = is_total_of columns den (term_of left den) (term_of right den) whole_left whole_right some_here term (rw (is_left, is_right) at is_total)
 
-      pub merging_next : IsMerging columns left right (done ++ term ∷ []) (rest_at left_ahead den) (rest_at right_ahead den)
-      merging_next = record {
-        walk = on_with.walk;
-        counts = λ d. elim (cases_eq d den) [
-          | inl same ↦ rw same counts_here
-          | inr other ↦ rw (on_with.same_done d other, on_with.same_left d other, on_with.same_right d other) (merging.counts d)
-        ];
-        sums = λ d k lt. elim (cases_eq d den) [
-          | inl same ↦ rw same (sums_here k lt)
-          | inr other ↦ rw (on_with.same_done d other, on_with.same_left d other, on_with.same_right d other) (merging.sums d k lt)
-        ];
-      }
+        pub merging_next : IsMerging columns left right (done ++ term ∷ []) (rest_at left_ahead den) (rest_at right_ahead den)
+        merging_next = walk_next columns (IsSum columns left right) left right sum_of_none done left_ahead right_ahead merging den is (Some term)
+            (is_term_of columns den _ _ term some_columns some_here (fits.counts den) all_sums_fit total)
+            (record { count = total.count; sums = λ k lt. total.sums.each k (omega (arith, total.columns)) })
 
-  -- behind the last denominator both lists are merged
-  pub merged_all : least_head left_ahead right_ahead ≡ None → Merges (record { columns = columns; terms = left }) (record { columns = columns; terms = right }) (record { columns = columns; terms = done })
-  merged_all none =
-      let end = ends left_ahead right_ahead none in
-      record {
-        columns = refl;
-        counts = λ d. omega (arith, (rw (end.of_left, end.of_right) at (merging.counts d)));
-        sums = λ d k lt. rw (numerator_is done d k, numerator_is left d k, numerator_is right d k) (omega (arith, ints, (rw (end.of_left, end.of_right) at (merging.sums d k lt))));
-      }
+    -- behind the last denominator both lists are merged
+    pub merged_all : least_head left_ahead right_ahead ≡ None → Merges (record { columns = columns; terms = left }) (record { columns = columns; terms = right }) (record { columns = columns; terms = done })
+    merged_all none =
+        let good : (d : ℕ) → IsSum columns left right d (term_of done d) = good_everywhere columns (IsSum columns left right) left right sum_of_none done left_ahead right_ahead merging none in
+        record {
+          columns = refl;
+          counts = λ d. (good d).count;
+          sums = λ d k lt. rw (numerator_is done d k, numerator_is left d k, numerator_is right d k) ((good d).sums k lt);
+        }

@@ -4,7 +4,7 @@ use Rattle.std.proofs.lemmas.Int.{ints}
 use Rattle.cube_model.specs.Answer.{numerator_of}
 use Rattle.cube_model.specs.Limits.{WIDE}
 use Rattle.group_sum.specs.Terms.{TermList, Fits, AddsShare}
-use Rattle.group_sum.specs.Merge.{FitsMerge, Merges, FitsDifference}
+use Rattle.group_sum.specs.Merge.{FitsMerge, FitsDifference}
 use Rattle.group_sum.specs.Small.{AreSmall}
 
 -- a sum with a value added, or with nothing
@@ -37,16 +37,6 @@ fits_merge m n old other few_m few_n small_old small_other = record {
   sums = λ d k lt.
       let first : k < 1 = omega (arith, small_old.columns) in
       omega (arith, ints, small_old.sums d k first, small_other.sums d k first);
-}
-
--- to terms that are not much larger
-pub small_merged : (m n : ℕ) (old other new : TermList) → AreSmall m old → AreSmall n other → Merges old other new → AreSmall (m + n) new
-small_merged m n old other new small_old small_other merges = record {
-  columns = merges.columns ∙ small_old.columns;
-  counts = λ d. omega (arith, merges.counts d, small_old.counts d, small_other.counts d);
-  sums = λ d k lt.
-      let within : k + 1 < old.columns = omega (arith, small_old.columns) in
-      omega (arith, ints, merges.sums d k within, small_old.sums d k lt, small_other.sums d k lt);
 }
 
 -- and have differences

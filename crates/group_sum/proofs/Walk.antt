@@ -1,10 +1,10 @@
 -- Two lists of terms walked together by their denominators, and a third one that grows behind them.
-use Rattle.std.proofs.Common.{◌≡◌, ℕ, ◌+◌, ◌<◌, ◌≤◌, true, false, List, [], ◌∷◌, ◌++◌, Option, Some, None, IfSome, min, ◌==◌, ◌≢◌, if◌then◌else◌, inl, inr, refl, ap, ◌∙◌, append-nil, arith}
+use Rattle.std.proofs.Common.{◌≡◌, ℕ, ◌+◌, ◌<◌, ◌≤◌, true, false, List, [], ◌∷◌, ◌++◌, Option, Some, None, IfSome, min, ◌==◌, if◌then◌else◌, inl, inr, refl, sym, ap, ◌∙◌, append-nil, arith}
 use Rattle.std.specs.Option.{option_to_list}
-use Rattle.std.proofs.lemmas.Bool.{cases_eq}
+use Rattle.std.proofs.lemmas.Bool.{cases_eq, cases_lt}
 use Rattle.std.proofs.lemmas.Bool.Decides.{nat_tests}
 use Rattle.cube_model.specs.declared.term.Term.{Term}
-use Rattle.cube_model.specs.Answer.{term_of}
+use Rattle.cube_model.specs.Answer.{count_of, term_of}
 use Rattle.group_sum.specs.Terms.{are_terms_from, is_term}
 use Rattle.group_sum.specs.Heads.{least_head, head_at, rest_at, count_in}
 use Rattle.group_sum.proofs.Ascending.{FindsAfter, first_is, first_then, term_of_below}
@@ -49,13 +49,6 @@ module _ (columns : ℕ) where
       first_then columns least term (terms ++ new ∷ [])
       (record { from = first.from; whole = first.whole; others = are_terms-push (term.den + 1) terms first.others new le whole })
 
-  -- terms from a denominator on are terms from a smaller one on
-  pub are_terms_from_less : (least less : ℕ) (terms : List Term) → less ≤ least → are_terms_from columns least terms ≡ true → are_terms_from columns less terms ≡ true
-  are_terms_from_less least less [] le ok = refl
-  are_terms_from_less least less (term ∷ terms) le ok =
-      let first = first_is columns least term terms ok in
-      first_then columns less term terms (record { from = omega (arith, first.from); whole = first.whole; others = first.others })
-
   -- the first term of a denominator is the one that is found, where none is smaller
   pub head_at_is : (den : ℕ) (terms : List Term) → are_terms_from columns den terms ≡ true → head_at terms den ≡ term_of terms den
   head_at_is den [] ok = refl
@@ -95,12 +88,6 @@ module _ (columns : ℕ) where
 pub next_from-push : (least : ℕ) (terms : List Term) (new : Term) → next_from least (terms ++ new ∷ []) ≡ new.den + 1
 next_from-push least [] new = refl
 next_from-push least (term ∷ terms) new = next_from-push (term.den + 1) terms new
-
--- the third list ascends, and what is left of both lists is behind it
-pub record IsWalk (columns : ℕ) (done left right : List Term) : Type 0 where
-  pub done_ascends : are_terms_from columns 1 done ≡ true
-  pub left_behind : are_terms_from columns (next_from 1 done) left ≡ true
-  pub right_behind : are_terms_from columns (next_from 1 done) right ≡ true
 
 -- no denominator of what is left of both lists is below this one
 pub record IsLeast (columns : ℕ) (least den : ℕ) (left right : List Term) : Type 0 where
@@ -151,78 +138,123 @@ ends [] (y ∷ ys) none = absurd (cc)
 ends (x ∷ xs) [] none = absurd (cc)
 ends (x ∷ xs) (y ∷ ys) none = absurd (cc)
 
--- One denominator is done, which both lists have in front if at all: the third list has this term of it, or none.
-pub record WalksOn (columns den : ℕ) (term : Option Term) (done left right : List Term) : Type 0 where
-  pub walk : IsWalk columns (done ++ option_to_list term) (rest_at left den) (rest_at right den)
-  pub before : term_of done den ≡ None
-  pub head_left : head_at left den ≡ term_of left den
-  pub head_right : head_at right den ≡ term_of right den
-  pub now_done : term_of (done ++ option_to_list term) den ≡ term
-  pub now_left : term_of (rest_at left den) den ≡ None
-  pub now_right : term_of (rest_at right den) den ≡ None
-  pub same_done : (d : ℕ) → d ≢ den → term_of (done ++ option_to_list term) d ≡ term_of done d
-  pub same_left : (d : ℕ) → d ≢ den → term_of (rest_at left den) d ≡ term_of left d
-  pub same_right : (d : ℕ) → d ≢ den → term_of (rest_at right den) d ≡ term_of right d
+-- Two lists are walked up to a denominator. What is left of both is from it on, as both lists have it, a third
+-- list has only smaller ones, and at each smaller one what the third list has there is good.
+pub record IsWalk (columns : ℕ) (Good : ℕ → Option Term → Type 0) (left right done left_ahead right_ahead : List Term) : Type 0 where
+  pub bound : ℕ
+  pub done_ascends : are_terms_from columns 1 done ≡ true
+  pub done_before : next_from 1 done ≤ bound
+  pub left_from : are_terms_from columns bound left_ahead ≡ true
+  pub right_from : are_terms_from columns bound right_ahead ≡ true
+  pub left_same : (d : ℕ) → bound ≤ d → term_of left_ahead d ≡ term_of left d
+  pub right_same : (d : ℕ) → bound ≤ d → term_of right_ahead d ≡ term_of right d
+  pub each : (d : ℕ) → d < bound → Good d (term_of done d)
 
-module _ (columns : ℕ) (done left right : List Term) (walk : IsWalk columns done left right) (den : ℕ) (is : least_head left right ≡ Some den) where
-  -- the denominator is the least of what is left
-  abbrev least : IsLeast columns (next_from 1 done) den left right
-  least = least_is columns (next_from 1 done) left right walk.left_behind walk.right_behind den is
+-- The third list goes on with a term of a denominator that is behind it, or without: then it has only those up to it.
+record IsDoneWith (columns den : ℕ) (done : List Term) (term : Option Term) : Type 0 where
+  ascends : are_terms_from columns 1 (done ++ option_to_list term) ≡ true
+  before : next_from 1 (done ++ option_to_list term) ≤ den + 1
+  finds : (d : ℕ) → term_of (done ++ option_to_list term) d ≡ (if d == den then term else term_of done d)
 
-  -- the terms in front of it have the columns
-  pub head_left_whole : IfSome (head_at left den) (IsAtDen columns den)
-  head_left_whole = head_at_whole columns den left least.of_left
+module _ (columns : ℕ) (Good : ℕ → Option Term → Type 0) (left right : List Term)
+    (skips : (d : ℕ) → term_of left d ≡ None → term_of right d ≡ None → Good d None) where
+  -- before the first denominator nothing is done
+  pub walk_first : are_terms_from columns 1 left ≡ true → are_terms_from columns 1 right ≡ true → IsWalk columns Good left right [] left right
+  walk_first left_ok right_ok = record {
+    bound = 1;
+    done_ascends = refl;
+    done_before = omega arith;
+    left_from = left_ok;
+    right_from = right_ok;
+    left_same = λ d le. refl;
+    right_same = λ d le. refl;
+    each = λ d lt. skips d (term_of_below columns 1 left left_ok d lt) (term_of_below columns 1 right right_ok d lt);
+  }
 
-  pub head_right_whole : IfSome (head_at right den) (IsAtDen columns den)
-  head_right_whole = head_at_whole columns den right least.of_right
+  module _ (done left_ahead right_ahead : List Term) (walk : IsWalk columns Good left right done left_ahead right_ahead) where
+    -- from the bound on the third list has nothing
+    none_done : (d : ℕ) → walk.bound ≤ d → term_of done d ≡ None
+    none_done d le = term_of_beyond columns 1 done walk.done_ascends d (omega (arith, walk.done_before))
 
-  -- there is one at least
-  pub some_ahead : 1 ≤ count_in (head_at left den) + count_in (head_at right den)
-  some_ahead = least.some
+    -- which is good where nothing is left of either list
+    good_behind : (d : ℕ) → walk.bound ≤ d → term_of left_ahead d ≡ None → term_of right_ahead d ≡ None → Good d (term_of done d)
+    good_behind d le none_left none_right = rw (none_done d le) (skips d (sym (walk.left_same d le) ∙ none_left) (sym (walk.right_same d le) ∙ none_right))
 
-  -- it is behind all that is done
-  pub none_done : term_of done den ≡ None
-  none_done = term_of_beyond columns 1 done walk.done_ascends den least.from
+    -- so all is good below a denominator that is not above what is left
+    pub good_below : (den : ℕ) → are_terms_from columns den left_ahead ≡ true → are_terms_from columns den right_ahead ≡ true → (d : ℕ) → d < den → Good d (term_of done d)
+    good_below den of_left of_right d lt = elim (cases_lt d walk.bound) [
+      | inl before ↦ walk.each d before
+      | inr behind ↦ good_behind d behind (term_of_below columns den left_ahead of_left d lt) (term_of_below columns den right_ahead of_right d lt)
+    ]
 
-  -- the third list with a term of it or without
-  walk_past : (term : Option Term) → IfSome term (IsAtDen columns den) → IsWalk columns (done ++ option_to_list term) (rest_at left den) (rest_at right den)
-  walk_past None fits =
-      let less : next_from 1 done ≤ den + 1 = omega (arith, least.from) in
-      rw append-nil (record {
-        done_ascends = walk.done_ascends;
-        left_behind = are_terms_from_less columns (den + 1) (next_from 1 done) (rest_at left den) less (are_terms-rest_at columns den left least.of_left);
-        right_behind = are_terms_from_less columns (den + 1) (next_from 1 done) (rest_at right den) less (are_terms-rest_at columns den right least.of_right);
-      })
-  walk_past (Some term) fits =
-      let next : next_from 1 (done ++ term ∷ []) ≡ den + 1 = next_from-push 1 done term ∙ ap (λ n. n + 1) fits.has_den in
-      record {
-        done_ascends = are_terms-push columns 1 done walk.done_ascends term (omega (arith, least.from, fits.has_den)) fits.whole;
-        left_behind = rw next (are_terms-rest_at columns den left least.of_left);
-        right_behind = rw next (are_terms-rest_at columns den right least.of_right);
+    -- and everywhere where nothing is left
+    pub good_everywhere : least_head left_ahead right_ahead ≡ None → (d : ℕ) → Good d (term_of done d)
+    good_everywhere none d =
+        let end = ends left_ahead right_ahead none in
+        elim (cases_lt d walk.bound) [
+          | inl before ↦ walk.each d before
+          | inr behind ↦ good_behind d behind (ap (λ ts. term_of ts d) end.of_left) (ap (λ ts. term_of ts d) end.of_right)
+        ]
+
+    module _ (den : ℕ) (is : least_head left_ahead right_ahead ≡ Some den) where
+      -- the denominator is the least of what is left
+      least : IsLeast columns walk.bound den left_ahead right_ahead
+      least = least_is columns walk.bound left_ahead right_ahead walk.left_from walk.right_from den is
+
+      -- the terms in front of it are those of both lists
+      pub head_left : head_at left_ahead den ≡ term_of left den
+      head_left = head_at_is columns den left_ahead least.of_left ∙ walk.left_same den least.from
+
+      pub head_right : head_at right_ahead den ≡ term_of right den
+      head_right = head_at_is columns den right_ahead least.of_right ∙ walk.right_same den least.from
+
+      -- they have the columns
+      pub left_whole : IfSome (term_of left den) (IsAtDen columns den)
+      left_whole = rw head_left at (head_at_whole columns den left_ahead least.of_left)
+
+      pub right_whole : IfSome (term_of right den) (IsAtDen columns den)
+      right_whole = rw head_right at (head_at_whole columns den right_ahead least.of_right)
+
+      -- there is one at least
+      pub some_ahead : 1 ≤ count_of left den + count_of right den
+      some_ahead = rw (head_left, head_right) at least.some
+
+      -- at smaller ones all is good
+      pub good_before : (d : ℕ) → d < den → Good d (term_of done d)
+      good_before = good_below den least.of_left least.of_right
+
+      -- the third list with a term of it, or without
+      done_with : (term : Option Term) → IfSome term (IsAtDen columns den) → IsDoneWith columns den done term
+      done_with None at_den = record {
+        ascends = rw append-nil walk.done_ascends;
+        before = rw append-nil (omega (arith, walk.done_before, least.from));
+        finds = λ d. rw append-nil (grind (arith, nat_tests, none_done den least.from));
+      }
+      done_with (Some term) at_den = record {
+        ascends = are_terms-push columns 1 done walk.done_ascends term (omega (arith, walk.done_before, least.from, at_den.has_den)) at_den.whole;
+        before = omega (arith, next_from-push 1 done term, at_den.has_den);
+        finds = λ d. rw (← at_den.has_den) (term_of-push columns 1 done walk.done_ascends term (omega (arith, walk.done_before, least.from, at_den.has_den)) d);
       }
 
-  finds_past : (term : Option Term) → IfSome term (IsAtDen columns den) → (d : ℕ) → term_of (done ++ option_to_list term) d ≡ (if d == den then term else term_of done d)
-  finds_past None fits d = rw append-nil (grind (arith, nat_tests, none_done))
-  finds_past (Some term) fits d = rw (← fits.has_den) (term_of-push columns 1 done walk.done_ascends term (omega (arith, least.from, fits.has_den)) d)
-
-  -- smaller denominators are done
-  pub none_left_below : (d : ℕ) → d < den → term_of left d ≡ None
-  none_left_below d lt = term_of_below columns den left least.of_left d lt
-
-  pub none_right_below : (d : ℕ) → d < den → term_of right d ≡ None
-  none_right_below d lt = term_of_below columns den right least.of_right d lt
-
-  -- the walk goes on past it
-  pub walks_on : (term : Option Term) → IfSome term (IsAtDen columns den) → WalksOn columns den term done left right
-  walks_on term fits = record {
-    walk = walk_past term fits;
-    before = none_done;
-    head_left = head_at_is columns den left least.of_left;
-    head_right = head_at_is columns den right least.of_right;
-    now_done = grind (arith, nat_tests, finds_past term fits den);
-    now_left = grind (arith, nat_tests, term_of-rest_at columns den left least.of_left den);
-    now_right = grind (arith, nat_tests, term_of-rest_at columns den right least.of_right den);
-    same_done = λ d other. grind (arith, nat_tests, finds_past term fits d);
-    same_left = λ d other. grind (arith, nat_tests, term_of-rest_at columns den left least.of_left d);
-    same_right = λ d other. grind (arith, nat_tests, term_of-rest_at columns den right least.of_right d);
-  }
+      -- the walk goes on past it where that is good
+      pub walk_next : (term : Option Term) → IfSome term (IsAtDen columns den) → Good den term
+          → IsWalk columns Good left right (done ++ option_to_list term) (rest_at left_ahead den) (rest_at right_ahead den)
+      walk_next term at_den good =
+          let with = done_with term at_den in
+          record {
+            bound = den + 1;
+            done_ascends = with.ascends;
+            done_before = with.before;
+            left_from = are_terms-rest_at columns den left_ahead least.of_left;
+            right_from = are_terms-rest_at columns den right_ahead least.of_right;
+            left_same = λ d le. grind (arith, nat_tests, term_of-rest_at columns den left_ahead least.of_left d, walk.left_same d, least.from);
+            right_same = λ d le. grind (arith, nat_tests, term_of-rest_at columns den right_ahead least.of_right d, walk.right_same d, least.from);
+            each = λ d lt. elim (cases_eq d den) [
+              | inl same ↦
+                  let now : term_of (done ++ option_to_list term) d ≡ term = grind (arith, nat_tests, with.finds d) in
+                  rw (now, same) good
+              | inr other ↦
+                  let now : term_of (done ++ option_to_list term) d ≡ term_of done d = grind (arith, nat_tests, with.finds d) in
+                  rw now (good_before d (omega arith))
+            ];
+          }

@@ -3,8 +3,6 @@ use Rattle.std.specs.Prelude.{◌≡◌, ◌≢◌, ℕ, ◌+◌, ◌-◌, ◌<�
 use Rattle.std.specs.Option.{option_map_or}
 use Rattle.cube_model.specs.declared.term.Term.{Term}
 use Rattle.cube_model.specs.Limits.{WIDE}
-use Rattle.group_sum.specs.declared.difference.SubFault.{SubFault}
-use Rattle.group_sum.specs.declared.difference.SubFault.TheVariants.{Less, Memory}
 
 -- the smaller of two denominators, if there is a term
 abbrev pub least_of : Option Term → Option Term → Option ℕ
@@ -87,7 +85,10 @@ IsRemainder den values whole part None = (count_in whole ≡ count_in part) × H
 IsRemainder den values whole part (Some term) = (count_in part < count_in whole) × IsTermOf den values (count_in whole - count_in part) (remainder_in whole part) term
 
 -- nothing can be left: the count would be below 0, or 0 beside another numerator
-abbrev pub HasNoRemainder : ℕ → ℕ → Option Term → Option Term → SubFault → Type 0
-HasNoRemainder den values whole part (Less least) =
-    (least ≡ den) × ((count_in whole < count_in part) ⊎ ((count_in whole ≡ count_in part) × HasOtherSums values whole part))
-HasNoRemainder den values whole part Memory = ⊤
+abbrev pub HasNoRemainder : ℕ → Option Term → Option Term → Type 0
+HasNoRemainder values whole part = (count_in whole < count_in part) ⊎ ((count_in whole ≡ count_in part) × HasOtherSums values whole part)
+
+-- something can be left, or nothing of all numerators
+pub record HasRemainder (values : ℕ) (whole part : Option Term) : Type 0 where
+  pub less : count_in part ≤ count_in whole
+  pub same : count_in whole ≡ count_in part → HasSameSums values whole part

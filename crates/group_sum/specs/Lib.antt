@@ -4,3 +4,5 @@ pub mod Place
 pub mod Merge
 pub mod Heads
 pub mod Small
+pub mod Examples
+pub mod MergeLaws

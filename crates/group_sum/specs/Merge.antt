@@ -1,10 +1,11 @@
 -- The terms of two answers merged, and what is left of one without those of the other.
-use Rattle.std.specs.Prelude.{◌≡◌, ◌≢◌, ℕ, ◌+◌, ◌<◌, ◌≤◌, ◌⊎◌, ◌+ℤ◌, ◌-ℤ◌, nat_abs, ⊤}
-use Rattle.cube_model.specs.Answer.{count_of, numerator_of}
+use Rattle.std.specs.Prelude.{◌≡◌, ◌≢◌, ℕ, ◌+◌, ◌<◌, ◌≤◌, ◌⊎◌, ◌-◌, ◌+ℤ◌, ◌-ℤ◌, nat_abs}
+use Rattle.cube_model.specs.Answer.{count_of, merge, numerator_of, term_of}
 use Rattle.cube_model.specs.Limits.{WIDE}
 use Rattle.group_sum.specs.declared.difference.SubFault.{SubFault}
 use Rattle.group_sum.specs.declared.difference.SubFault.TheVariants.{Less, Memory}
 use Rattle.group_sum.specs.Terms.{TermList}
+use Rattle.group_sum.specs.Heads.{HasRemainder}
 
 -- with the numerators of both added up, none passes WIDE
 pub record FitsMerge (old other : TermList) : Type 0 where
@@ -27,6 +28,11 @@ pub record Subtracts (whole part difference : TermList) : Type 0 where
   pub counts : (d : ℕ) → count_of difference.terms d + count_of part.terms d ≡ count_of whole.terms d
   pub sums : (d k : ℕ) → k + 1 < whole.columns → numerator_of difference.terms d (k + 1) ≡ numerator_of whole.terms d (k + 1) -ℤ numerator_of part.terms d (k + 1)
 
+-- merged with the part it gives the whole
+pub record IsDifference (whole part difference : TermList) : Type 0 where
+  pub columns : difference.columns ≡ whole.columns
+  pub merges : merge (whole.columns - 1) difference.terms part.terms ≡ whole.terms
+
 -- another numerator than the count's is not the same in both
 abbrev pub Differs : TermList → TermList → ℕ → Type 0
 Differs whole part d = (k : ℕ) × (k + 1 < whole.columns) × (numerator_of whole.terms d (k + 1) ≢ numerator_of part.terms d (k + 1))
@@ -35,16 +41,20 @@ Differs whole part d = (k : ℕ) × (k + 1 < whole.columns) × (numerator_of who
 abbrev pub IsBad : TermList → TermList → ℕ → Type 0
 IsBad whole part d = (count_of whole.terms d < count_of part.terms d) ⊎ ((count_of whole.terms d ≡ count_of part.terms d) × Differs whole part d)
 
--- no denominator is bad
-abbrev pub IsLawful : TermList → TermList → Type 0
-IsLawful whole part = (d : ℕ) → ¬ IsBad whole part d
+-- there is a difference, since no denominator is bad
+abbrev pub HasDifference : TermList → TermList → Type 0
+HasDifference whole part = (d : ℕ) → ¬ IsBad whole part d
+
+-- at each denominator something can be left
+pub record HasRemainders (whole part : TermList) : Type 0 where
+  pub each : (d : ℕ) → HasRemainder (whole.columns - 1) (term_of whole.terms d) (term_of part.terms d)
 
 -- the denominator is bad, and no smaller one is
 pub record IsFirstBad (whole part : TermList) (den : ℕ) : Type 0 where
   pub bad : IsBad whole part den
   pub first : (d : ℕ) → d < den → ¬ IsBad whole part d
 
--- what a fault says
+-- what a fault says: where memory is wanting, no denominator is bad
 abbrev pub Faults : TermList → TermList → SubFault → Type 0
 Faults whole part (Less den) = IsFirstBad whole part den
-Faults whole part Memory = ⊤
+Faults whole part Memory = HasDifference whole part

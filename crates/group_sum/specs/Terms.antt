@@ -1,8 +1,8 @@
 -- Lists of terms, and what adding a share to them does.
-use Rattle.std.specs.Prelude.{◌≡◌, ℕ, ◌+◌, ◌<◌, ◌≤◌, Bool, true, List, [], ◌∷◌, length, nat_le, ◌==◌, ◌&&◌, if◌then◌else◌, slice_index_or, ℤ, pos, ◌+ℤ◌, ◌*ℤ◌, nat_abs}
+use Rattle.std.specs.Prelude.{◌≡◌, ℕ, ◌+◌, ◌<◌, ◌≤◌, Bool, true, List, [], ◌∷◌, length, nat_le, ◌==◌, ◌&&◌, if◌then◌else◌, slice_index_or, ℤ, pos, ◌+ℤ◌, ◌*ℤ◌, nat_abs, None}
 use Rattle.std.specs.List.{list_all}
 use Rattle.cube_model.specs.declared.term.Term.{Term}
-use Rattle.cube_model.specs.Answer.{count_of, numerator_of}
+use Rattle.cube_model.specs.Answer.{count_of, numerator_of, term_of}
 use Rattle.cube_model.specs.Limits.{MAX_COLS, WIDE}
 
 -- terms over a number of columns, the count included
@@ -30,6 +30,11 @@ pub record AreTerms (list : TermList) : Type 0 where
 pub record Fits (terms : List Term) (den weight : ℕ) (values : List ℤ) : Type 0 where
   pub count : count_of terms den + weight ≤ WIDE
   pub sums : (k : ℕ) → k < length values → nat_abs (numerator_of terms den (k + 1) +ℤ pos weight *ℤ slice_index_or values k (pos 0)) ≤ WIDE
+
+-- a share of the weight makes a term, since its denominator has none
+pub record NeedsTerm (terms : List Term) (den weight : ℕ) : Type 0 where
+  pub some : 1 ≤ weight
+  pub absent : term_of terms den ≡ None
 
 -- A share was added at a denominator: its weight to the count, and its weight times each value to the other
 -- columns. At every other denominator all numerators stay.

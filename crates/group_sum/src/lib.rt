@@ -3,6 +3,7 @@
 
 mod difference;
 mod heads;
+mod laws;
 mod merge;
 mod share;
 mod terms;
@@ -11,4 +12,5 @@ mod tests;
 
 pub use cube_model::Term;
 pub use difference::SubFault;
+pub use laws::{merge_laws, worked_merges};
 pub use terms::{MAX_COLUMNS, Terms};

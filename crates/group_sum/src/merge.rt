@@ -13,9 +13,9 @@ use cube_model::Term;
 use std::alloc::Global;
 use std::collections::VecDeque;
 
-/// The terms of both lists, numerators of equal denominators added up. They are moved to a list that has room for
+/// Merges the terms of both lists, numerators of equal denominators added up. They are moved to a list that has room for
 /// them, which takes no memory. The number of columns stands here for the contract.
-pub fn merged(_columns: u32, room: Vec<Term>, left: Vec<Term>, right: Vec<Term>) -> Vec<Term>
+pub fn merge(_columns: u32, room: Vec<Term>, left: Vec<Term>, right: Vec<Term>) -> Vec<Term>
     requires empty { room.items ≡ [] }
     requires room { vec_len room + vec_len left + vec_len right ≤ vec_capacity room }
     requires left { AreTerms (record { columns = _columns; terms = left.items }) }
@@ -29,13 +29,13 @@ pub fn merged(_columns: u32, room: Vec<Term>, left: Vec<Term>, right: Vec<Term>)
     let mut left_ahead = VecDeque::from(left);
     let mut right_ahead = VecDeque::from(right);
     'denominators: while let Some(den) = least_den(left_ahead.front(), right_ahead.front()) {
-        let term = total(take(&mut left_ahead, den), take(&mut right_ahead, den));
+        let term = add_up(take(&mut left_ahead, den), take(&mut right_ahead, den));
         put(&mut all, term);
     }
     all
 }
 
-// The first term, if it has the denominator, which leaves the others.
+// Takes the first term, if it has the denominator, which leaves the others.
 fn take(terms: &mut VecDeque<Term>, den: u64) -> Option<Term>
     ensures taken { result ≡ head_at terms.old.items den }
     ensures others { terms.new.items ≡ rest_at terms.old.items den }
@@ -47,23 +47,23 @@ fn take(terms: &mut VecDeque<Term>, den: u64) -> Option<Term>
     }
 }
 
-// One term for two of a denominator, of which one may not be there.
-fn total(left: Option<Term>, right: Option<Term>) -> Term
+// Makes one term of two of a denominator, of which one may not be there.
+fn add_up(left: Option<Term>, right: Option<Term>) -> Term
     requires some { 1 ≤ count_in left + count_in right }
     requires count { count_in left + count_in right ≤ WIDE }
     requires sums { AreWithin (columns_in left) (total_in left right) }
     ensures { IsTotal left right result }
 {
     match (left, right) {
-        (Some(term), Some(other)) => raised(term, &other),
+        (Some(term), Some(other)) => raise_by(term, &other),
         (Some(term), None) => term,
         (None, Some(term)) => term,
         (None, None) => unreachable!(),
     }
 }
 
-// A term with the numerators of another one added.
-fn raised(term: Term, other: &Term) -> Term
+// Adds the numerators of another term.
+fn raise_by(term: Term, other: &Term) -> Term
     requires count { term.count + other.now.count ≤ WIDE }
     requires sums { AreWithin (length term.sums) (total_in (Some term) (Some other.now)) }
     ensures { IsTotal (Some term) (Some other.now) result }
@@ -106,8 +106,8 @@ fn put(all: &mut Vec<Term>, term: Term)
     let _ = all.push(term);
 }
 
-/// A copy of the terms.
-pub fn copied(alloc: Global, terms: &[Term]) -> Result<Vec<Term>, Memory>
+/// Copies the terms.
+pub fn copy_terms(alloc: Global, terms: &[Term]) -> Result<Vec<Term>, Memory>
     ensures { IfOk result (λ all. all.items ≡ terms.now) }
 {
     let mut all = Vec::with_capacity(alloc, terms.len())?;

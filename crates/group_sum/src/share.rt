@@ -8,8 +8,8 @@ use cube_model::Term;
 use std::alloc::Global;
 use std::mem;
 
-/// A new term of one share.
-pub fn share(alloc: Global, den: u64, weight: u64, cols: Cols) -> Result<Term, Memory>
+/// Makes a term of one share.
+pub fn make_term(alloc: Global, den: u64, weight: u64, cols: Cols) -> Result<Term, Memory>
     requires { TermFits (bare_term den (length cols)) weight cols }
     ensures { IfOk result (λ term. RaisesTerm (bare_term den (length cols)) term weight cols) }
 {

@@ -1,15 +1,15 @@
 //! Sums grouped by denominator.
-ghost use Rattle.std.specs.Prelude.{◌≡◌, ◌+◌, ◌<◌, ◌≤◌, [], length, slice_get, Some, OnOk, OnErr, IfOk, IfErr, IfSome, ◌∷◌, true, slice_index_or, pos};
+ghost use Rattle.std.specs.Prelude.{◌≡◌, ◌+◌, ◌-◌, ◌<◌, ◌≤◌, [], length, slice_get, Some, OnOk, OnErr, IfOk, IfErr, IfSome, ◌∷◌, true, slice_index_or, pos};
 ghost use Rattle.std.specs.Option.{option_copied, option_map};
-ghost use Rattle.cube_model.specs.Answer.{count_of, numerator_of, term_of};
+ghost use Rattle.cube_model.specs.Answer.{count_of, merge, numerator_of, term_of};
 ghost use Rattle.cube_model.specs.Limits.{WIDE};
-ghost use Rattle.group_sum.specs.Terms.{AddsShare, AreTerms, Fits, is_term};
+ghost use Rattle.group_sum.specs.Terms.{AddsShare, AreTerms, Fits, NeedsTerm, is_term};
 ghost use Rattle.group_sum.specs.Place.{IsAt, IsGapFor};
-ghost use Rattle.group_sum.specs.Merge.{Faults, FitsDifference, FitsMerge, IsLawful, Merges, Subtracts};
+ghost use Rattle.group_sum.specs.Merge.{Faults, FitsDifference, FitsMerge, HasDifference, IsDifference};
 
-use crate::difference::{SubFault, difference};
-use crate::merge::{copied, merged};
-use crate::share::{raise, share};
+use crate::difference::{SubFault, subtract};
+use crate::merge::{copy_terms, merge};
+use crate::share::{make_term, raise};
 use cube_base::{Cols, MAX_COLS, Memory};
 use cube_model::Term;
 use std::alloc::Global;
@@ -108,7 +108,7 @@ impl Terms {
     }
 
     /// Adds a share at a denominator: `weight` to the count, and `weight` times each value to the other columns.
-    /// Weight 0 changes nothing. An error leaves the terms as they were.
+    /// Weight 0 changes nothing. Memory is taken for a new term alone. An error leaves the terms as they were.
     ///
     /// The denominator is at least 1, there is a value for each of the other columns, and with the share added no numerator
     /// at the denominator passes 2^120 in absolute value.
@@ -118,6 +118,7 @@ impl Terms {
         requires within { Fits self.old.terms den weight cols }
         ensures ok { OnOk result (AddsShare self.old self.new den weight cols) }
         ensures err { OnErr result (self.new ≡ self.old) }
+        ensures memory { OnErr result (NeedsTerm self.old.terms den weight) }
         ensures terms { AreTerms self.new }
     {
         let alloc = self.alloc;
@@ -130,42 +131,45 @@ impl Terms {
                 Ok(())
             }
             Err(at) => {
-                let term = share(alloc, den, weight, cols)?;
+                let term = make_term(alloc, den, weight, cols)?;
                 Ok(self.terms.insert(at, term)?)
             }
         }
     }
 
-    /// The terms of both, numerators of equal denominators added up. An error leaves the terms as they were.
+    /// Merges the terms of both, numerators of equal denominators added up. An error leaves the terms as they were.
     ///
     /// Both have the same number of columns, and added up no numerators pass 2^120 in absolute value.
     pub fn add(&mut self, other: &Terms) -> Result<(), Memory>
         requires columns { self.old.columns ≡ other.now.columns }
         requires within { FitsMerge self.old other.now }
-        ensures ok { OnOk result (Merges self.old other.now self.new) }
+        ensures ok { OnOk result (self.new ≡ record {
+          columns = self.old.columns;
+          terms = merge (self.old.columns - 1) self.old.terms other.now.terms;
+        }) }
         ensures err { OnErr result (self.new ≡ self.old) }
         ensures terms { AreTerms self.new }
     {
-        let copies = copied(self.alloc, &other.terms)?;
+        let copies = copy_terms(self.alloc, &other.terms)?;
         let room = Vec::with_capacity(self.alloc, self.terms.len() + copies.len())?;
         let terms = mem::replace(&mut self.terms, Vec::new(self.alloc));
-        self.terms = merged(self.columns, room, terms, copies);
+        self.terms = merge(self.columns, room, terms, copies);
         Ok(())
     }
 
     /// The terms that merged with `other` give these. `Less` names the smallest denominator at which the difference
-    /// has a count below 0, or a count of 0 beside another numerator.
+    /// has a count below 0, or a count of 0 beside another numerator; where there is one no memory is taken.
     ///
     /// Both have the same number of columns, and no numerator of the difference passes 2^120 in absolute value.
     pub fn sub(&self, other: &Terms) -> Result<Terms, SubFault>
         requires columns { self.now.columns ≡ other.now.columns }
         requires within { FitsDifference self.now other.now }
-        ensures difference { IfOk result (λ difference. Subtracts self.now other.now difference) }
-        ensures less { IfErr result (Faults self.now other.now) }
-        ensures lawful { OnOk result (IsLawful self.now other.now) }
+        ensures difference { IfOk result (IsDifference self.now other.now) }
+        ensures possible { OnOk result (HasDifference self.now other.now) }
+        ensures fault { IfErr result (Faults self.now other.now) }
         ensures terms { IfOk result AreTerms }
     {
-        let terms = difference(self.alloc, self.columns, &self.terms, &other.terms)?;
+        let terms = subtract(self.alloc, self.columns, &self.terms, &other.terms)?;
         Ok(Terms {
             alloc: self.alloc,
             columns: self.columns,
@@ -204,88 +208,5 @@ fn numerator(term: &Term, col: u32) -> i128
         term.count as i128
     } else {
         term.sums.as_slice()[col as usize - 1]
-    }
-}
-
-#[cfg(test)]
-mod tests {
-    use super::*;
-    use std::process::Abort;
-    use std::test::Fail;
-
-    // The terms hold exactly the numerators of 1 over 1 (100), 1 over 1 (300) and 2 over 3 (600).
-    fn expect_worked_terms(rt: &impl Abort, terms: &Terms) {
-        assert_eq!(rt; terms.len(), 2);
-        assert_eq!(rt; terms.den_at(0), 1);
-        assert_eq!(rt; terms.den_at(1), 3);
-        assert_eq!(rt; terms.columns(), 2);
-        assert_eq!(rt; terms.num_at(0, 1), 400);
-        assert_eq!(rt; terms.num_at(1, 0), 2);
-        for (den, count, sum) in [(1, 2, 400), (2, 0, 0), (3, 2, 1200)] {
-            assert_eq!(rt; terms.count_num(den), count, "count over {den}");
-            assert_eq!(rt; terms.columns(), 2);
-            assert_eq!(rt; terms.num(den, 0), count, "column 0 over {den}");
-            assert_eq!(rt; terms.num(den, 1), sum, "column 1 over {den}");
-        }
-    }
-
-    fn column(value: i64) -> Result<Cols, Fail>
-        ensures { IfOk result (λ cols. cols ≡ value ∷ []) }
-    {
-        Ok(Cols::new(&[value]).ok_or("one column")?)
-    }
-
-    #[test]
-    fn groups_shares_by_denominator(rt: HostRuntime) -> Result<(), Fail> {
-        let mut terms = Terms::empty(rt.alloc(), 2);
-        terms.add_term(1, 1, column(100)?)?;
-        terms.add_term(1, 1, column(300)?)?;
-        terms.add_term(3, 2, column(600)?)?;
-        expect_worked_terms(&rt, &terms);
-
-        terms.add_term(1, 0, column(5)?)?;
-        terms.add_term(2, 0, column(5)?)?;
-        expect_worked_terms(&rt, &terms);
-        Ok(())
-    }
-
-    #[test]
-    fn groups_shares_in_any_order(rt: HostRuntime) -> Result<(), Fail> {
-        let mut terms = Terms::empty(rt.alloc(), 2);
-        terms.add_term(3, 2, column(600)?)?;
-        terms.add_term(1, 1, column(300)?)?;
-        terms.add_term(1, 1, column(100)?)?;
-        expect_worked_terms(&rt, &terms);
-        Ok(())
-    }
-
-    #[test]
-    fn weighs_negative_values(rt: HostRuntime) -> Result<(), Fail> {
-        let mut terms = Terms::empty(rt.alloc(), 2);
-        terms.add_term(3, 1, column(-1)?)?;
-        assert_eq!(rt; terms.num(3, 1), -1);
-        Ok(())
-    }
-
-    #[test]
-    fn counts_without_values(rt: HostRuntime) -> Result<(), Fail> {
-        let mut terms = Terms::empty(rt.alloc(), 1);
-        terms.add_term(2, 2, Cols::new(&[]).ok_or("no column")?)?;
-        assert_eq!(rt; terms.len(), 1);
-        assert_eq!(rt; terms.den_at(0), 2);
-        assert_eq!(rt; terms.count_num(2), 2);
-        Ok(())
-    }
-
-    #[test]
-    fn weighs_seven_values(rt: HostRuntime) -> Result<(), Fail> {
-        let mut terms = Terms::empty(rt.alloc(), 8);
-        let cols = Cols::new(&[1, -2, 3, -4, 5, -6, 7]).ok_or("seven columns")?;
-        terms.add_term(6, 5, cols)?;
-        for (col, numerator) in [5, 5, -10, 15, -20, 25, -30, 35].iter().enumerate() {
-            assert!(rt; (col as u32) < terms.columns());
-            assert_eq!(rt; terms.num(6, col as u32), *numerator, "column {col}");
-        }
-        Ok(())
     }
 }

@@ -1,5 +1,7 @@
-use Rattle.std.proofs.Common.{◌≤◌, arith, set}
+use Rattle.std.proofs.Common.{◌≤◌, arith, rules, set}
 use Rattle.std.specs.List.{insert}
+use Rattle.group_sum.specs.Terms.{NeedsTerm}
+use Rattle.group_sum.proofs.Ascending.{term_of_gap}
 use Rattle.group_sum.proofs.Adding.{Grows, term_fits_at, grows_at, bare_term_fits, grows_in_gap}
 use Rattle.group_sum.proofs.terms.Terms.add_term.Goals as goal
 
@@ -31,8 +33,8 @@ pub returns-in-Ok-clause-terms : goal.returns-in-Ok-clause-terms
 returns-in-Ok-clause-terms c = (raised c).terms
 
 -- the denominator has none, and a new one goes into its gap
-pub share-requires : goal.share-requires
-share-requires c =
+pub make_term-requires : goal.make_term-requires
+make_term-requires c =
     let columns = rw (← c.self.view_is) at c.requires.columns in
     let within = rw (← c.self.view_is) at c.requires.within in
     let gap = rw (← c.self.view_is) at c.in-Err.ensures.absent in
@@ -56,3 +58,14 @@ returns-in_ok-insert-in-Err-clause-ok c = rw (c.in_ok-insert-in-Err.ensures.item
 
 pub returns-in_ok-insert-in-Err-clause-terms : goal.returns-in_ok-insert-in-Err-clause-terms
 returns-in_ok-insert-in-Err-clause-terms c = rw c.in_ok-insert-in-Err.ensures.items (inserted c).terms
+
+-- it takes memory, since the denominator has none
+pub returns-in_err-term-in-Err-clause-memory : goal.returns-in_err-term-in-Err-clause-memory
+returns-in_err-term-in-Err-clause-memory c =
+    let needs : NeedsTerm c.args.self.now.terms c.args.den c.args.weight = record { some = omega arith; absent = term_of_gap _ _ _ c.in-Err.ensures.absent } in
+    search (rules, needs)
+
+pub returns-in_err-insert-in-Err-clause-memory : goal.returns-in_err-insert-in-Err-clause-memory
+returns-in_err-insert-in-Err-clause-memory c =
+    let needs : NeedsTerm c.args.self.now.terms c.args.den c.args.weight = record { some = omega arith; absent = term_of_gap _ _ _ c.in-Err.ensures.absent } in
+    search (rules, needs)

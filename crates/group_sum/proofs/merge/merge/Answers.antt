@@ -1,21 +1,28 @@
 use Rattle.std.proofs.Common.{arith}
 use Rattle.group_sum.proofs.Fronts.{least_front}
-use Rattle.group_sum.proofs.Merging.{some_count, count_fits, sums_fit, some_in_front, merging_next, merged_all}
-use Rattle.group_sum.proofs.merge.merged.Goals as goal
+use Rattle.group_sum.proofs.Merging.{merging_first, some_count, count_fits, sums_fit, some_in_front, merging_next, merged_all}
+use Rattle.group_sum.proofs.merge.merge.Goals as goal
+
+-- before the first denominator nothing is merged
+pub denominators-init : goal.denominators-init
+denominators-init c = record {
+  merging = rw (c.requires.empty, c.from-left_ahead.ensures.0, c.from-right_ahead.ensures.0) (merging_first _ _ _ c.requires.left.terms c.requires.right.terms);
+  room = omega arith;
+}
 
 -- one of the terms in front has the least denominator at least, and they fit
-pub total-term-requires-clause-some : goal.total-term-requires-clause-some
-total-term-requires-clause-some c =
+pub add_up-term-requires-clause-some : goal.add_up-term-requires-clause-some
+add_up-term-requires-clause-some c =
     let least = least_front _ _ _ _ c.front.ensures.item c.front-in-denominators.ensures.item _ c.in-Some.ensures in
     rw (c.take.ensures.taken, c.take-in-Some.ensures.taken) (some_count _ _ _ _ _ _ c.denominators.invariant.merging c.requires.left.some c.requires.within _ least)
 
-pub total-term-requires-clause-count : goal.total-term-requires-clause-count
-total-term-requires-clause-count c =
+pub add_up-term-requires-clause-count : goal.add_up-term-requires-clause-count
+add_up-term-requires-clause-count c =
     let least = least_front _ _ _ _ c.front.ensures.item c.front-in-denominators.ensures.item _ c.in-Some.ensures in
     rw (c.take.ensures.taken, c.take-in-Some.ensures.taken) (count_fits _ _ _ _ _ _ c.denominators.invariant.merging c.requires.left.some c.requires.within _ least)
 
-pub total-term-requires-clause-sums : goal.total-term-requires-clause-sums
-total-term-requires-clause-sums c =
+pub add_up-term-requires-clause-sums : goal.add_up-term-requires-clause-sums
+add_up-term-requires-clause-sums c =
     let least = least_front _ _ _ _ c.front.ensures.item c.front-in-denominators.ensures.item _ c.in-Some.ensures in
     rw (c.take.ensures.taken, c.take-in-Some.ensures.taken) (sums_fit _ _ _ _ _ _ c.denominators.invariant.merging c.requires.left.some c.requires.within _ least)
 
@@ -30,7 +37,7 @@ denominators-smaller c =
 pub denominators-preserved : goal.denominators-preserved
 denominators-preserved c =
     let least = least_front _ _ _ _ c.front.ensures.item c.front-in-denominators.ensures.item _ c.in-Some.ensures in
-    let total = rw (c.take.ensures.taken, c.take-in-Some.ensures.taken) at c.total-term.ensures in
+    let total = rw (c.take.ensures.taken, c.take-in-Some.ensures.taken) at c.add_up-term.ensures in
     let next = merging_next _ _ _ _ _ _ c.denominators.invariant.merging c.requires.left.some c.requires.within _ least _ total in
     let some = rw (← c.take.ensures.taken, ← c.take-in-Some.ensures.taken) at (some_in_front _ _ _ _ _ _ c.denominators.invariant.merging c.requires.left.some c.requires.within _ least) in
     record {

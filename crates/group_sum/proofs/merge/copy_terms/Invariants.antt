@@ -1,5 +1,5 @@
 use Rattle.std.proofs.Common.{◌≡◌, take}
-use Rattle.group_sum.proofs.merge.copied.Given as goal
+use Rattle.group_sum.proofs.merge.copy_terms.Given as goal
 
 -- the terms so far are copied
 abbrev pub invariant-loop-term : goal.invariant-loop-term

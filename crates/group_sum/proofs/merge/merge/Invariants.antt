@@ -1,7 +1,7 @@
 use Rattle.std.proofs.Common.{◌+◌, ◌≤◌, vec_len, vec_capacity}
 use Rattle.std.specs.VecDeque.{deque_len}
 use Rattle.group_sum.proofs.Merging.{IsMerging}
-use Rattle.group_sum.proofs.merge.merged.Given as goal
+use Rattle.group_sum.proofs.merge.merge.Given as goal
 
 -- what is merged and what is ahead add up to both lists, and there is room for all
 abbrev pub invariant-denominators : goal.invariant-denominators

@@ -1,6 +1,6 @@
 use Rattle.std.proofs.Common.{◌+◌, length}
 use Rattle.group_sum.proofs.Subtracting.{IsSubtracting}
-use Rattle.group_sum.proofs.difference.difference.Given as goal
+use Rattle.group_sum.proofs.difference.subtract_all.Given as goal
 
 -- what is left so far and what is ahead are the difference
 abbrev pub invariant-denominators : goal.invariant-denominators
