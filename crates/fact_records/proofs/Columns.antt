@@ -4,7 +4,7 @@ use Rattle.std.specs.Prelude.{All}
 use Rattle.std.proofs.lemmas.List.Elements.{All-cons, All-head, All-nil, All-tail}
 use Rattle.fact_records.specs.declared.shape.Measure.{Measure}
 use Rattle.cube_model.specs.Limits.{MAX_COLS}
-use Rattle.fact_records.specs.Shape.{AreInOrder, IsShape, IsWithin, width_of, width_of_all}
+use Rattle.fact_records.specs.Shape.{AreInOrder, AreMeasures, IsWithin, width_of, width_of_all}
 
 -- one measure more
 width_of_all-suc : (measures : List Measure) (i : ℕ) (d : Measure) → i < length measures
@@ -38,10 +38,10 @@ within_from len first (m ∷ measures) some order end =
     (record { first = omega arith; last = omega arith })
     (within_from len (first + width_of m.kind) measures (omega arith) order.1 (omega arith))
 
-pub IsShape-within : (len : ℕ) (measures : List Measure) → IsShape measures → len ≡ width_of_all measures → All (IsWithin len) measures
-IsShape-within len measures shape whole = within_from len 1 measures (lit≤ tt) shape.order (omega arith)
+pub AreMeasures-within : (len : ℕ) (measures : List Measure) → AreMeasures measures → len ≡ width_of_all measures → All (IsWithin len) measures
+AreMeasures-within len measures shape whole = within_from len 1 measures (lit≤ tt) shape.order (omega arith)
 
 -- the columns of each measure are among the seven
-pub IsShape-measure : (measures : List Measure) (i : ℕ) (m : Measure) → IsShape measures → i < length measures → m ≡ get_or measures i m → IsWithin MAX_COLS m
-IsShape-measure measures i m shape within at =
+pub AreMeasures-measure : (measures : List Measure) (i : ℕ) (m : Measure) → AreMeasures measures → i < length measures → m ≡ get_or measures i m → IsWithin MAX_COLS m
+AreMeasures-measure measures i m shape within at =
     subst (IsWithin MAX_COLS) (sym at) (within_from MAX_COLS 1 measures (lit≤ tt) shape.order (omega (arith, shape.most)) i m within)

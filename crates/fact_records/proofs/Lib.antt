@@ -1,12 +1,16 @@
+pub mod AcceptedValues
 pub mod Ascending
 pub mod BlockPlaces
 pub mod Columns
-pub mod Digits
 pub mod Edits
 pub mod Filling
 pub mod Flat
 pub mod Fronts
+pub mod GivenValues
+pub mod HasIds
 pub mod Keeping
 pub mod Load
+pub mod NodeFields
 pub mod PartTexts
 pub mod Rooms
+pub mod ValueFields

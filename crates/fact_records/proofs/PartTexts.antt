@@ -6,7 +6,7 @@ use Rattle.std.specs.List.{slice_split}
 use Rattle.std.proofs.lemmas.Bool.Decides.{nat_tests}
 use Rattle.std.proofs.lemmas.List.{map-append, take_all, take_more, take_more_set, length-map, length-set, length-take-le}
 use Rattle.cube_model.specs.Limits.{MAX_COLS}
-use Rattle.cube_model.specs.Text.{number_in}
+use Rattle.text_lines.specs.Text.{number_in}
 use Rattle.fact_records.specs.Values.{all_of, part_in, parts_in, sums_to}
 
 -- what a choice with an item in front was made of

@@ -1,8 +1,12 @@
 pub mod Accepted
 pub mod BlockList
 pub mod Cut
+pub mod Examples
 pub mod FactList
+pub mod Fields
+pub mod Judge
 pub mod Kept
 pub mod Room
 pub mod Shape
+pub mod Valid
 pub mod Values

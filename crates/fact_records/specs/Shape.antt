@@ -1,5 +1,8 @@
 -- The measures of a cube, and which columns hold their values. Column 0 is the count.
-use Rattle.std.specs.Prelude.{◌≡◌, ◌≢◌, ℕ, ◌+◌, ◌-◌, ◌≤◌, List, [], ◌∷◌, length, take, drop, All, AllPairs, position, Option, ℤ}
+use Rattle.std.specs.Prelude.{◌≡◌, ◌≢◌, ℕ, ◌+◌, ◌-◌, ◌≤◌, List, [], ◌∷◌, length, take, drop, All, AllPairs, position, Option, Some, None, slice_get, ⊤, ◌==◌, false, Bool, ℤ}
+use Rattle.std.specs.Option.{option_and_then, option_map, option_map_or}
+use Rattle.cube_model.specs.declared.statistic.CellStat.{CellStat}
+use Rattle.cube_model.specs.Allocation.{Policy, add_column}
 use Rattle.std.specs.Str.{bytes_eq}
 use Rattle.cube_model.specs.Limits.{MAX_COLS}
 use Rattle.fact_records.specs.declared.shape.Kind.{Kind}
@@ -22,11 +25,41 @@ AreInOrder first [] = Unit {0}
 AreInOrder first (measure ∷ measures) = (measure.first_col ≡ first) × AreInOrder (first + width_of measure.kind) measures
 
 -- measures of a cube: no two have one name, each has a column, they have at most seven, and these follow the count
-pub record IsShape (measures : List Measure) : Type 0 where
+pub record AreMeasures (measures : List Measure) : Type 0 where
   pub distinct : AllPairs (λ a b. a.name ≢ b.name) measures
   pub some : All (λ m. 1 ≤ width_of m.kind) measures
   pub most : width_of_all measures ≤ MAX_COLS
   pub order : AreInOrder 1 measures
+
+-- measures, and the place of the one by whose sum cells weigh, if there is one
+pub record ShapeValue : Type 0 where
+  pub measures : List Measure
+  pub weight : Option ℕ
+
+-- cells may weigh by the sum of a number measure alone
+abbrev pub IsWeighable : List Measure → Option ℕ → Type 0
+IsWeighable measures None = ⊤
+IsWeighable measures (Some i) = option_map (λ m. m.kind) (slice_get measures i) ≡ Some Number
+
+pub record IsShape (shape : ShapeValue) : Type 0 where
+  pub measures : AreMeasures shape.measures
+  pub weight : IsWeighable shape.measures shape.weight
+
+-- the measure by whose sum cells weigh, if there is one
+abbrev pub weight_measure : ShapeValue → Option Measure
+weight_measure shape = option_and_then (λ i. slice_get shape.measures i) shape.weight
+
+-- a measure is that one: its column is
+abbrev pub is_weight : ShapeValue → Measure → Bool
+is_weight shape measure = option_map_or (λ m. m.first_col == measure.first_col) (weight_measure shape) false
+
+-- what a fact of these values adds to the sum of its cell
+abbrev pub adds_of : ShapeValue → List ℤ → ℕ
+adds_of shape values = option_map_or (λ m. add_column m.first_col values) (weight_measure shape) 0
+
+-- a policy that weighs so, over these measures
+abbrev pub policy_over : (CellStat → ℕ) → ShapeValue → Policy
+policy_over weigh shape = record { weigh = weigh; adds = adds_of shape }
 
 -- the place of the measure of a name
 abbrev pub measure_named : List Measure → List ℕ → Option ℕ

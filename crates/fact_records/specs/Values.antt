@@ -1,14 +1,16 @@
 -- How a field spells the values of a measure.
-use Rattle.std.specs.Prelude.{ℕ, Bool, List, [], ◌∷◌, length, map, fold, ◌==◌, ◌&&◌, if◌then◌else◌, Option, Some, None, ℤ, pos, ◌+ℤ◌, neg_ℤ}
+use Rattle.std.specs.Prelude.{ℕ, Bool, List, [], ◌∷◌, length, map, fold, ◌==◌, ◌&&◌, if◌then◌else◌, Option, Some, None, ℤ, pos, ◌+ℤ◌, neg_ℤ, int_lt}
 use Rattle.std.specs.Option.{option_map, option_and_then}
-use Rattle.std.specs.List.{slice_split}
+use Rattle.std.specs.List.{list_any, slice_split}
 use Rattle.std.specs.Ordering.{int_eq}
 use Rattle.cube_base.specs.declared.code.Code.{Code}
 use Rattle.cube_base.specs.declared.code.Code.TheVariants as code
 use Rattle.cube_model.specs.Limits.{MAX_VALUE}
-use Rattle.cube_model.specs.Text.{number_in}
+use Rattle.text_lines.specs.Text.{number_in}
 use Rattle.fact_records.specs.declared.shape.Kind.{Kind}
 use Rattle.fact_records.specs.declared.shape.Kind.TheVariants.{Number, Parts}
+use Rattle.fact_records.specs.declared.shape.Measure.{Measure}
+use Rattle.fact_records.specs.Shape.{ShapeValue, is_weight}
 
 -- a signed number from -most to most: a number, or `-` before a number other than 0
 abbrev pub signed_number_in : ℕ → List ℕ → Option ℤ
@@ -38,6 +40,15 @@ parts_in count scale bytes =
 abbrev pub values_in : Kind → List ℕ → Option (List ℤ)
 values_in Number field = option_map (λ value. value ∷ []) (signed_number_in MAX_VALUE field)
 values_in (Parts scale outcomes) field = parts_in (length outcomes) scale field
+
+-- some value is below 0
+abbrev pub has_negative : List ℤ → Bool
+has_negative values = list_any (λ value. int_lt value (pos 0)) values
+
+-- the values that a field gives a measure of a shape: none below 0 where cells weigh by the measure's sum
+abbrev pub values_for : ShapeValue → Measure → List ℕ → Option (List ℤ)
+values_for shape measure field =
+    option_and_then (λ values. if is_weight shape measure && has_negative values then None else Some values) (values_in measure.kind field)
 
 -- the code of a field that gives none
 abbrev pub code_of : Kind → Code

@@ -1,15 +1,12 @@
 //! Which values and which regions a fact may have.
-ghost use Rattle.std.specs.Prelude.{◌≡◌, ◌^◌, ◌≤◌, ◌+ℤ◌, All, int_lt, length, nat_abs, nat_lt, pos, true, unsigned_abs};
+ghost use Rattle.std.specs.Prelude.{◌≡◌, ◌^◌, ◌≤◌, ◌+ℤ◌, All, length, nat_abs, nat_lt, unsigned_abs};
 ghost use Rattle.std.specs.List.{list_any};
 ghost use Rattle.std.specs.Result.{result_err};
-ghost use Rattle.region_algebra.specs.Space.{is_region};
-ghost use Rattle.fact_records.specs.Accepted.{cols_refusal, has_large_value, has_wrong_parts, is_large, is_no_distribution, region_refusal};
+ghost use Rattle.region_algebra.specs.Space.{IsRegion};
+ghost use Rattle.fact_records.specs.Accepted.{cols_refusal, has_wrong_number, has_wrong_parts, is_large, is_no_distribution, is_wrong_number, region_refusal};
 ghost use Rattle.fact_records.specs.Shape.{IsWithin, values_of};
 ghost use Rattle.cube_model.specs.Limits.{MAX_COLS, MAX_VALUE};
-ghost use Rattle.fact_records.specs.Values.{sums_to};
-
-#[cfg(test)]
-mod tests;
+ghost use Rattle.fact_records.specs.Values.{has_negative, sums_to};
 
 use crate::places::places_of;
 use crate::shape::width;
@@ -19,21 +16,21 @@ use cube_model::{MAX_CELLS, MAX_VALUE, Region};
 use region_algebra::Space;
 
 /// Judges the values of a fact. The first of these that holds is answered: `Value`, their number is not that of the
-/// columns without the count, or the value of a number measure is above 10^12 in absolute value; `Parts`, a parts
-/// measure has a value below 0, or its values do not add up to its scale.
+/// columns without the count, the value of a number measure is above 10^12 in absolute value, or it is below 0 where
+/// cells weigh by the measure's sum; `Parts`, a parts measure has a value below 0, or its values do not add up to its
+/// scale. It takes no memory.
 pub fn check_cols(shape: &Shape, cols: Cols) -> Result<(), Code>
     ensures { result_err result ≡ cols_refusal shape.now cols }
 {
     if cols.len() + 1 != shape.columns() {
         return Err(Code::Value);
     }
-    let measures = shape.measures();
     let places = places_of(cols);
     let values = &places[..cols.len() as usize];
-    if has_large_value(measures, values) {
+    if has_wrong_number(shape, values) {
         return Err(Code::Value);
     }
-    if has_wrong_parts(measures, values) {
+    if has_wrong_parts(shape, values) {
         return Err(Code::Parts);
     }
     Ok(())
@@ -41,7 +38,7 @@ pub fn check_cols(shape: &Shape, cols: Cols) -> Result<(), Code>
 
 /// Judges a region of the space as that of a fact: `Region` exactly where it has more than 2^20 cells.
 pub fn check_region(space: &Space, r: Region) -> Result<(), Code>
-    requires { is_region space.now r ≡ true }
+    requires { IsRegion space.now r }
     ensures { result_err result ≡ region_refusal space.now r }
 {
     if space.cell_count(r) > MAX_CELLS {
@@ -51,25 +48,35 @@ pub fn check_region(space: &Space, r: Region) -> Result<(), Code>
     }
 }
 
-/// Whether a number measure has a value above 10^12 in absolute value.
-fn has_large_value(measures: &[Measure], values: &[i64]) -> bool
-    requires { All (IsWithin (length values.now)) measures.now }
-    ensures { result ≡ has_large_value measures.now values.now }
+/// Whether a measure has a wrong number among the values of a fact.
+fn has_wrong_number(shape: &Shape, values: &[i64]) -> bool
+    requires { All (IsWithin (length values.now)) shape.now.measures }
+    ensures { result ≡ has_wrong_number shape.now values.now }
 {
+    let measures = shape.measures();
     for measure in measures {
-        if is_large(&measure.kind, values_of(measure, values)) {
+        if is_wrong_number(shape, measure, values_of(measure, values)) {
             return true;
         }
     }
     false
 }
 
-/// Whether a parts measure has values that are no distribution.
-fn has_wrong_parts(measures: &[Measure], values: &[i64]) -> bool
-    requires within { All (IsWithin (length values.now)) measures.now }
-    requires few { length values.now ≤ MAX_COLS }
-    ensures { result ≡ has_wrong_parts measures.now values.now }
+/// Whether one of a measure's values is above 10^12 in absolute value where it is a number, or below 0 where cells weigh
+/// by the measure's sum.
+fn is_wrong_number(shape: &Shape, measure: &Measure, values: &[i64]) -> bool
+    ensures { result ≡ is_wrong_number shape.now measure.now values.now }
 {
+    is_large(&measure.kind, values) || (shape.is_weight(measure) && has_negative(values))
+}
+
+/// Whether a parts measure has values that are no distribution.
+fn has_wrong_parts(shape: &Shape, values: &[i64]) -> bool
+    requires within { All (IsWithin (length values.now)) shape.now.measures }
+    requires few { length values.now ≤ MAX_COLS }
+    ensures { result ≡ has_wrong_parts shape.now.measures values.now }
+{
+    let measures = shape.measures();
     for measure in measures {
         if is_no_distribution(&measure.kind, values_of(measure, values)) {
             return true;
@@ -106,8 +113,8 @@ fn has_above(values: &[i64]) -> bool
 }
 
 /// Whether a value is below 0.
-fn has_negative(values: &[i64]) -> bool
-    ensures { result ≡ list_any (λ value. int_lt value (pos 0)) values.now }
+pub fn has_negative(values: &[i64]) -> bool
+    ensures { result ≡ has_negative values.now }
 {
     values.iter().any(|value| *value < 0)
 }

@@ -1,11 +1,8 @@
 //! The facts in order of their ids.
-ghost use Rattle.std.specs.Prelude.{◌≡◌, ◌+◌, ◌≤◌, [], true, length, nat_lt, ◌||◌, slice_get, IfSome, OnOk, OnErr};
+ghost use Rattle.std.specs.Prelude.{◌≡◌, ◌+◌, ◌≤◌, [], true, length, nat_lt, ◌||◌, slice_get, IfSome, IsOk, OnOk, OnErr};
 ghost use Rattle.std.specs.Option.{option_copied};
 ghost use Rattle.cube_model.specs.Facts.{has_id, put, withdraw};
 ghost use Rattle.fact_records.specs.FactList.{IsAscending, fact_of, facts_left};
-
-#[cfg(test)]
-mod tests;
 
 use crate::FactWalk;
 use crate::blocks::{Blocks, HALF, load};
@@ -96,6 +93,7 @@ impl FactList {
         ensures had { result ≡ fact_of fact.id self.old.facts }
         ensures spare { self.old.spare ≤ self.new.spare + 1 }
         ensures kept { IfSome result (λ _. self.old.spare ≤ self.new.spare) }
+        ensures ascending { IsAscending self.new.facts }
     {
         match search(self.blocks.used(), fact.id) {
             Ok(place) => Some(self.blocks.replace(place, fact)),
@@ -113,6 +111,7 @@ impl FactList {
         ensures facts { self.new.facts ≡ withdraw id self.old.facts }
         ensures had { result ≡ fact_of id self.old.facts }
         ensures spare { self.old.spare ≤ self.new.spare }
+        ensures ascending { IsAscending self.new.facts }
     {
         match search(self.blocks.used(), id) {
             Ok(place) => {
@@ -124,12 +123,14 @@ impl FactList {
         }
     }
 
-    /// Makes room for so many more facts. An error leaves the facts and the room as they were.
+    /// Makes room for so many more facts. An error leaves the facts and the room as they were; where there is such room
+    /// already, there is none.
     pub fn reserve(&mut self, n: u64) -> Result<(), Memory>
         ensures facts { self.new.facts ≡ self.old.facts }
         ensures ok { OnOk result (n ≤ self.new.spare) }
         ensures kept { self.old.spare ≤ self.new.spare }
         ensures err { OnErr result (self.new ≡ self.old) }
+        ensures spared { n ≤ self.old.spare → IsOk result }
     {
         if n <= self.spare {
             return Ok(());

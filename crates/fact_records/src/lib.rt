@@ -6,20 +6,26 @@ mod block;
 mod blocks;
 mod checks;
 mod copies;
-#[cfg(test)]
-mod examples;
 mod fact_list;
+mod fact_reader;
 mod fact_walk;
-mod number;
+mod judge;
+mod laws;
 mod places;
 mod search;
 mod shape;
+#[cfg(test)]
+mod tests;
+mod value_reader;
 mod values;
 
 pub use checks::{check_cols, check_region};
 pub use cube_model::{Edit, Fact};
 pub use fact_list::FactList;
+pub use fact_reader::{read_fact, read_id, read_region};
 pub use fact_walk::FactWalk;
-pub use number::number_in;
+pub use judge::judge_fact;
+pub use laws::{worked_columns, worked_facts, worked_fields, worked_judgements};
 pub use shape::{Kind, Measure, Shape};
+pub use value_reader::read_values;
 pub use values::read_value;

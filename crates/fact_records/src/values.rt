@@ -2,36 +2,55 @@
 ghost use Rattle.std.specs.Prelude.{◌≡◌, ◌+◌, ◌^◌, ◌<◌, ◌≤◌, ◌++◌, None, Some, IfErr, IfSome, IsSomeAnd, OnErr, OnOk, length, neg_ℤ, pos, slice_get};
 ghost use Rattle.cube_model.specs.Limits.{MAX_COLS};
 ghost use Rattle.fact_records.specs.Shape.{width_of};
-ghost use Rattle.fact_records.specs.Values.{code_of, parts_in, signed_number_in, values_in};
+ghost use Rattle.fact_records.specs.Values.{code_of, has_negative, parts_in, signed_number_in, values_for, values_in};
 
-#[cfg(test)]
-mod tests;
-
-use crate::checks::sums_to;
-use crate::places::append;
+use crate::checks::{has_negative, sums_to};
+use crate::places::{append, places_of};
 use crate::shape::width;
-use crate::{Kind, Shape, number_in};
+use crate::{Kind, Measure, Shape};
 use cube_base::{Code, Cols, MAX_COLS};
 use cube_model::MAX_VALUE;
+use text_lines::number_in;
 
 /// Appends the values that a field gives a measure. Those that are there must end right before the measure's first column.
 /// A number measure's field is a whole number from -10^12 to 10^12: `-` stands before a negative one, and no 0 before
-/// another digit. A parts measure's field is as many whole numbers from 0 to the scale as outcomes, joined by `:`, that
-/// add up to the scale. Any other field is refused, `Value` for a number measure and `Parts` for a parts measure, and then
-/// the values stay as they were.
+/// another digit. Where cells weigh by the measure's sum, it is not negative. A parts measure's field is as many whole
+/// numbers from 0 to the scale as outcomes, joined by `:`, that add up to the scale. Any other field is refused, `Value`
+/// for a number measure and `Parts` for a parts measure, and then the values stay as they were. It takes no memory.
 pub fn read_value(shape: &Shape, measure: u32, field: &str, into: &mut Cols) -> Result<(), Code>
-    requires measure { measure < length shape.now }
-    requires place { IfSome (slice_get shape.now measure) (λ m. length into.old + 1 ≡ m.first_col) }
-    ensures read { OnOk result (IfSome (slice_get shape.now measure) (λ m. IsSomeAnd (values_in m.kind field.now) (λ values. into.new ≡ into.old ++ values))) }
-    ensures refused { IfErr result (λ code. IfSome (slice_get shape.now measure) (λ m. (values_in m.kind field.now ≡ None) × (code ≡ code_of m.kind))) }
+    requires measure { measure < length shape.now.measures }
+    requires place { IfSome (slice_get shape.now.measures measure) (λ m. length into.old + 1 ≡ m.first_col) }
+    ensures read { OnOk result (IfSome (slice_get shape.now.measures measure) (λ m. IsSomeAnd (values_for shape.now m field.now) (λ values. into.new ≡ into.old ++ values))) }
+    ensures refused { IfErr result (λ code. IfSome (slice_get shape.now.measures measure) (λ m. (values_for shape.now m field.now ≡ None) × (code ≡ code_of m.kind))) }
     ensures kept { OnErr result (into.new ≡ into.old) }
 {
-    let kind = &shape.measure(measure).kind;
-    let Some(values) = values_in(kind, field) else {
-        return Err(code_of(kind));
+    let measure = shape.measure(measure);
+    let Some(values) = values_for(shape, measure, field) else {
+        return Err(code_of(&measure.kind));
     };
     *into = append(*into, values);
     Ok(())
+}
+
+/// The values that a field gives a measure of a shape: none below 0 where cells weigh by the measure's sum.
+pub(crate) fn values_for(shape: &Shape, measure: &Measure, field: &str) -> Option<Cols>
+    requires { width_of measure.now.kind ≤ MAX_COLS }
+    ensures values { result ≡ values_for shape.now measure.now field.now }
+    ensures count { IfSome result (λ values. length values ≡ width_of measure.now.kind) }
+{
+    let values = values_in(&measure.kind, field)?;
+    if shape.is_weight(measure) && some_negative(values) {
+        None
+    } else {
+        Some(values)
+    }
+}
+
+/// Whether a value is below 0.
+fn some_negative(values: Cols) -> bool
+    ensures { result ≡ has_negative values }
+{
+    has_negative(&places_of(values)[..values.len() as usize])
 }
 
 /// The code of a field that gives no values.

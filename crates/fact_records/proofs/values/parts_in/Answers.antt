@@ -8,7 +8,7 @@ use Rattle.std.proofs.lemmas.Iterator.Consumers.{YieldsList-turn, YieldsList-end
 use Rattle.std.proofs.lemmas.Iterator.Splits.{YieldsList-from_str_split}
 use Rattle.std.proofs.lemmas.List.{length-take, length_push}
 use Rattle.cube_model.specs.Limits.{MAX_COLS}
-use Rattle.cube_model.specs.Text.{number_in}
+use Rattle.text_lines.specs.Text.{number_in}
 use Rattle.fact_records.specs.Values.{part_in}
 use Rattle.fact_records.proofs.PartTexts.{AreRead-more, held, part_in-None, part_in-Some, parts_in-all, parts_in-fewer, parts_in-no_part, parts_in-other_count, parts_in-other_sum, texts_of}
 use Rattle.fact_records.proofs.values.parts_in.Goals as goal

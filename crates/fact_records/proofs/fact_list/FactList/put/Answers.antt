@@ -42,3 +42,8 @@ returns-in-Err-clause-facts c =
 pub returns-in-Err-clause-had : goal.returns-in-Err-clause-had
 returns-in-Err-clause-had c =
     rw (← c.self.view_is) (sym (fact_of_gap (all_facts c.self.inside.blocks.used) c.args.fact.id _ (rw c.used.ensures at c.in-Err.ensures.gap)))
+
+pub returns-in-Err-clause-ascending : goal.returns-in-Err-clause-ascending
+returns-in-Err-clause-ascending c =
+    let some = room_for_new (all_facts c.self.inside.blocks.used) c.args.fact.id _ _ (rw c.used.ensures at c.in-Err.ensures.gap) (rw (← c.self.view_is) at c.requires) in
+    (kept_after_insert c.self.inside.blocks c.insert.new.self _ _ _ c.self.invariant c.args.fact (rw c.used.ensures at c.in-Err.ensures.gap) some c.insert.ensures.facts c.insert.ensures.filled c.insert.ensures.spare).ascending

@@ -28,3 +28,8 @@ returns-in-Err-clause-facts c =
 pub returns-in-Err-clause-had : goal.returns-in-Err-clause-had
 returns-in-Err-clause-had c =
     rw (← c.self.view_is) (sym (fact_of_gap (all_facts c.self.inside.blocks.used) c.args.id _ (rw c.used.ensures at c.in-Err.ensures.gap)))
+
+pub returns-in-Ok-clause-ascending : goal.returns-in-Ok-clause-ascending
+returns-in-Ok-clause-ascending c =
+    let here = rw c.used.ensures at c.in-Ok.ensures.id in
+    (kept_after_remove c.self.inside.blocks c.remove-fact.new.self _ _ _ c.self.invariant here.in_range c.remove-fact.ensures.facts c.remove-fact.ensures.filled c.remove-fact.ensures.spare).ascending

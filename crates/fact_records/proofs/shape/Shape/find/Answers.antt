@@ -4,4 +4,4 @@ use Rattle.fact_records.proofs.shape.Shape.find.Goals as goal
 
 pub overflow_cast-result : goal.overflow_cast-result
 overflow_cast-result c =
-    omega (arith, length-width_of_all _ c.self.invariant.some, ap length c.deref.ensures.value, c.in_ok-place.ensures.within)
+    omega (arith, length-width_of_all _ c.self.invariant.measures.some, ap length c.deref.ensures.value, c.in_ok-place.ensures.within)

@@ -1,6 +1,0 @@
-use Rattle.std.proofs.Common.{◌≡◌, take}
-use Rattle.fact_records.proofs.copies.copies_of.Given as goal
-
--- the measures before this one are copied
-abbrev pub invariant-loop-measure : goal.invariant-loop-measure
-invariant-loop-measure l = l.copies.items ≡ take l.measure-index l.measures
