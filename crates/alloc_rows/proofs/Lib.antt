@@ -1,4 +1,5 @@
 pub mod Ascending
+pub mod NoFacts
 pub mod Spreading
 pub mod Weighed
 pub mod WithinSum

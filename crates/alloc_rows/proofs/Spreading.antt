@@ -6,14 +6,13 @@ use Rattle.std.specs.List.{sum_by}
 use Rattle.std.specs.Prelude.{All, IfOk, Ok, Err, Result, nat_lt, ◌==◌, if◌then◌else◌}
 use Rattle.cube_model.specs.declared.edit.Fact.{Fact}
 use Rattle.cube_model.specs.declared.statistic.CellStat.{CellStat}
-use Rattle.cube_model.specs.Allocation.{Allocation, Policy, allocation, stat_of, spread, spread_by, spread_evenly}
+use Rattle.cube_model.specs.Allocation.{Allocation, Policy, allocation, rows_of, stat_of, spread, spread_by, spread_evenly}
 use Rattle.cube_model.specs.Cells.{AreRows, all_cells, cells_of}
 use Rattle.cube_model.specs.Tree.{Dimension}
 use Rattle.region_algebra.proofs.Spaces.{cells-within}
 use Rattle.cell_weight.specs.Stats.{stat_at}
 use Rattle.staged_map.specs.Staged.{Places}
-use Rattle.alloc_rows.specs.Alloc.{AreStatsOf}
-use Rattle.alloc_rows.proofs.Weighed.{rows_of}
+use Rattle.alloc_rows.specs.Alloc.{AreStatsOf, IsAllocationOf}
 
 -- weights that are equal at each cell spread equally
 sum_by-same : (v w : ℕ → ℕ) (cells : List ℕ) → All (λ cell. v cell ≡ w cell) cells → sum_by v cells ≡ sum_by w cells
@@ -33,17 +32,16 @@ pub spread-same : (v w : ℕ → ℕ) (cells : List ℕ) → All (λ cell. v cel
 spread-same v w cells same = rw (sum_by-same v w cells same, rows_of-same v w cells same) refl
 
 -- what is spread by the statistics of facts is the facts' allocation
-allocation-spread : (weigh : Policy) (dims : List Dimension) (facts : List Fact) (fact : Fact) (places : Places CellStat)
-    → AreStatsOf dims facts places (cells_of dims fact.region) → spread (λ cell. weigh (stat_at places cell)) (cells_of dims fact.region) ≡ allocation weigh dims facts fact
+allocation-spread : (policy : Policy) (dims : List Dimension) (facts : List Fact) (fact : Fact) (places : Places CellStat)
+    → AreStatsOf policy dims facts places (cells_of dims fact.region) → spread (λ cell. policy.weigh (stat_at places cell)) (cells_of dims fact.region) ≡ allocation policy dims facts fact
 unfolding allocation
-allocation-spread weigh dims facts fact places are =
-    spread-same (λ cell. weigh (stat_at places cell)) (λ cell. weigh (stat_of dims facts cell)) (cells_of dims fact.region) (λ k d within. ap weigh (are k d within))
+allocation-spread policy dims facts fact places are =
+    spread-same (λ cell. policy.weigh (stat_at places cell)) (λ cell. policy.weigh (stat_of policy dims facts cell)) (cells_of dims fact.region) (λ k d within. ap policy.weigh (are k d within))
 
-pub allocations-spread : {E : Type 0} (result : Result Allocation E) (weigh : Policy) (dims : List Dimension) (fact : Fact) (places : Places CellStat)
-    → IfOk result (λ a. a ≡ spread (λ cell. weigh (stat_at places cell)) (cells_of dims fact.region))
-    → IfOk result (λ a. (facts : List Fact) → AreStatsOf dims facts places (cells_of dims fact.region) → a ≡ allocation weigh dims facts fact)
-allocations-spread (Ok a) weigh dims fact places is = λ facts are. is ∙ allocation-spread weigh dims facts fact places are
-allocations-spread (Err e) weigh dims fact places is = tt
+pub IsAllocationOf-spread : {E : Type 0} (result : Result Allocation E) (weigh : CellStat → ℕ) (dims : List Dimension) (fact : Fact) (places : Places CellStat)
+    → IfOk result (λ a. a ≡ spread (λ cell. weigh (stat_at places cell)) (cells_of dims fact.region)) → IfOk result (IsAllocationOf weigh dims places fact)
+IsAllocationOf-spread (Ok a) weigh dims fact places is = λ adds facts are. is ∙ allocation-spread (record { weigh = weigh; adds = adds }) dims facts fact places are
+IsAllocationOf-spread (Err e) weigh dims fact places is = tt
 
 -- what is spread over a region has rows of its cells
 within-map : (weight : ℕ → ℕ) (n : ℕ) (cells : List ℕ) → All (λ cell. cell < n) cells → All {X = ℕ × ℕ} (λ row. row.0 < n) (map (λ cell. (cell, weight cell)) cells)

@@ -1,13 +1,9 @@
 -- The rows of cells that are weighed one after another.
-use Rattle.std.proofs.Common.{◌≡◌, ℕ, ◌+◌, ◌*◌, ◌≤◌, List, [], ◌++◌, length, map, filter, ap, sym, ◌∙◌}
+use Rattle.std.proofs.Common.{◌≡◌, ℕ, ◌+◌, ◌*◌, ◌≤◌, List, [], ◌++◌, length, ap, sym, ◌∙◌}
 use Rattle.std.proofs.lemmas.List.{append-nil}
 use Rattle.std.specs.List.{sum_by}
-use Rattle.std.specs.Prelude.{nat_lt}
+use Rattle.cube_model.specs.Allocation.{rows_of}
 use Rattle.cube_model.specs.Limits.{MAX_VALUE}
-
--- the rows of the cells that weigh something
-abbrev pub rows_of : (ℕ → ℕ) → List ℕ → List (ℕ × ℕ)
-rows_of weight cells = filter (λ row. nat_lt 0 row.1) (map (λ cell. (cell, weight cell)) cells)
 
 -- Some of the cells have been weighed, and the others are left. The total is bounded by the counts behind the weights.
 pub record Weighed (weight count : ℕ → ℕ) (cells done left : List ℕ) (total : ℕ) (rows : List (ℕ × ℕ)) : Type 0 where

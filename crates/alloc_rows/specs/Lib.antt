@@ -1,1 +1,2 @@
 pub mod Alloc
+pub mod Examples

@@ -1,8 +1,8 @@
 //! An allocation, and how much of it lies inside a region.
-ghost use Rattle.std.specs.Prelude.{◌≡◌, ◌≤◌, true};
+ghost use Rattle.std.specs.Prelude.{◌≡◌, ◌≤◌};
 ghost use Rattle.cube_model.specs.Answer.{weight_inside};
 ghost use Rattle.cube_model.specs.Cells.{AreRows, cells_of};
-ghost use Rattle.region_algebra.specs.Space.{is_region};
+ghost use Rattle.region_algebra.specs.Space.{IsRegion};
 ghost use Rattle.alloc_rows.specs.Alloc.{IsAllocation};
 
 use cube_base::Pairs;
@@ -62,7 +62,7 @@ impl Alloc {
 /// region is one of the space, and so are the cells, as `allocate` gives them. It takes no memory and costs a few
 /// operations a row and dimension.
 pub fn inside(a: &Alloc, space: &Space, r: Region) -> u64
-    requires region { is_region space.now r ≡ true }
+    requires region { IsRegion space.now r }
     requires cells { AreRows space.now a.now.rows }
     ensures sum { result ≡ weight_inside (cells_of space.now r) a.now }
     ensures most { result ≤ a.now.den }

@@ -1,13 +1,12 @@
 //! The allocation of a fact.
-ghost use Rattle.std.specs.Prelude.{◌≡◌, ◌<◌, ◌≤◌, true, List, IfOk, length};
+ghost use Rattle.std.specs.Prelude.{◌≡◌, ◌<◌, ◌≤◌, IfOk, length};
 ghost use Rattle.std.specs.List.{sum_by};
-ghost use Rattle.cube_model.specs.Allocation.{allocation, spread, spread_by, spread_evenly};
+ghost use Rattle.cube_model.specs.Allocation.{rows_of, spread, spread_evenly};
 ghost use Rattle.cube_model.specs.Cells.{AreRows, cells_of};
-ghost use Rattle.cube_model.specs.Limits.{DEN_LIMIT, MAX_CELLS, MAX_FACTS};
-ghost use Rattle.cube_model.specs.declared.edit.Fact.{Fact};
+ghost use Rattle.cube_model.specs.Limits.{DEN_LIMIT, MAX_CELLS};
 ghost use Rattle.cell_weight.specs.Stats.{stat_at};
-ghost use Rattle.region_algebra.specs.Space.{is_region};
-ghost use Rattle.alloc_rows.specs.Alloc.{AreStatsOf};
+ghost use Rattle.region_algebra.specs.Space.{IsRegion};
+ghost use Rattle.alloc_rows.specs.Alloc.{AreFewAt, IsAllocationOf};
 
 #[cfg(test)]
 mod tests;
@@ -30,11 +29,11 @@ pub fn allocate<P: WeightPolicy>(
     stats: &StatIndex,
     f: &Fact,
 ) -> Result<Alloc, Memory>
-    requires region { is_region space.now f.now.region ≡ true }
+    requires region { IsRegion space.now f.now.region }
     requires few { length (cells_of space.now f.now.region) ≤ MAX_CELLS }
-    requires counted { sum_by (λ cell. (stat_at stats.now cell).count) (cells_of space.now f.now.region) ≤ MAX_FACTS }
+    requires counted { AreFewAt space.now stats.now f.now.region }
     ensures spread { IfOk result (λ a. a ≡ spread (λ cell. P.weigh policy.now (stat_at stats.now cell)) (cells_of space.now f.now.region)) }
-    ensures of_facts { IfOk result (λ a. (facts : List Fact) → AreStatsOf space.now facts stats.now (cells_of space.now f.now.region) → a ≡ allocation (P.weigh policy.now) space.now facts f.now) }
+    ensures of_facts { IfOk result (IsAllocationOf (P.weigh policy.now) space.now stats.now f.now) }
     ensures cells { IfOk result (λ a. AreRows space.now a.rows) }
 {
     spread_over(alloc, space, policy, stats, f.region)
@@ -48,9 +47,9 @@ fn spread_over<P: WeightPolicy>(
     stats: &StatIndex,
     r: Region,
 ) -> Result<Alloc, Memory>
-    requires region { is_region space.now r ≡ true }
+    requires region { IsRegion space.now r }
     requires few { length (cells_of space.now r) ≤ MAX_CELLS }
-    requires counted { sum_by (λ cell. (stat_at stats.now cell).count) (cells_of space.now r) ≤ MAX_FACTS }
+    requires counted { AreFewAt space.now stats.now r }
     ensures { IfOk result (λ a. a ≡ spread (λ cell. P.weigh policy.now (stat_at stats.now cell)) (cells_of space.now r)) }
 {
     if space.cell_count(r) == 1 {
@@ -71,11 +70,11 @@ fn weigh_cells<P: WeightPolicy>(
     stats: &StatIndex,
     r: Region,
 ) -> Result<(u64, Vec<(u64, u64)>), Memory>
-    requires region { is_region space.now r ≡ true }
+    requires region { IsRegion space.now r }
     requires few { length (cells_of space.now r) ≤ MAX_CELLS }
-    requires counted { sum_by (λ cell. (stat_at stats.now cell).count) (cells_of space.now r) ≤ MAX_FACTS }
+    requires counted { AreFewAt space.now stats.now r }
     ensures total { IfOk result (λ weighed. weighed.0 ≡ sum_by (λ cell. P.weigh policy.now (stat_at stats.now cell)) (cells_of space.now r)) }
-    ensures rows { IfOk result (λ weighed. weighed.1.items ≡ (spread_by (λ cell. P.weigh policy.now (stat_at stats.now cell)) (cells_of space.now r)).rows) }
+    ensures rows { IfOk result (λ weighed. weighed.1.items ≡ rows_of (λ cell. P.weigh policy.now (stat_at stats.now cell)) (cells_of space.now r)) }
     ensures limit { IfOk result (λ weighed. weighed.0 < DEN_LIMIT) }
 {
     let mut total = 0;
@@ -92,7 +91,7 @@ fn weigh_cells<P: WeightPolicy>(
 
 /// Weight 1 for each of a region's cells.
 fn spread_evenly(alloc: Global, space: &Space, r: Region) -> Result<Alloc, Memory>
-    requires region { is_region space.now r ≡ true }
+    requires region { IsRegion space.now r }
     requires few { length (cells_of space.now r) ≤ MAX_CELLS }
     ensures { IfOk result (λ a. a ≡ spread_evenly (cells_of space.now r)) }
 {

@@ -1,6 +1,6 @@
 //! Policies: what a cell weighs, by its statistics.
 ghost use Rattle.std.specs.Prelude.{◌≡◌, ℕ, ◌+◌, ◌*◌, ◌≤◌};
-ghost use Rattle.cube_model.specs.Allocation.{by_count, uniform};
+ghost use Rattle.cube_model.specs.Allocation.{weigh_count, weigh_evenly, weigh_sum};
 ghost use Rattle.cube_model.specs.Limits.{MAX_VALUE};
 ghost use Rattle.cube_model.specs.declared.statistic.CellStat.{CellStat};
 ghost use Rattle.cell_weight.specs.Stats.{IsStat};
@@ -28,7 +28,7 @@ pub trait WeightPolicy {
 pub struct Uniform;
 
 impl WeightPolicy for Uniform {
-    ghost weigh = { λ _. uniform };
+    ghost weigh = { λ _. weigh_evenly };
 
     ghost bound = { λ policy s is. omega arith };
 
@@ -42,11 +42,25 @@ impl WeightPolicy for Uniform {
 pub struct ByCount;
 
 impl WeightPolicy for ByCount {
-    ghost weigh = { λ _. by_count };
+    ghost weigh = { λ _. weigh_count };
 
     ghost bound = { λ policy s is. omega arith };
 
     fn weight(&self, s: CellStat) -> u64 {
         s.count
+    }
+}
+
+/// A cell weighs the sum that is known of its precise facts.
+#[derive(Clone, Copy, Debug)]
+pub struct BySum;
+
+impl WeightPolicy for BySum {
+    ghost weigh = { λ _. weigh_sum };
+
+    ghost bound = { λ policy s is. omega arith };
+
+    fn weight(&self, s: CellStat) -> u64 {
+        s.sum
     }
 }

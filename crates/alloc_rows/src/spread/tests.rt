@@ -1,23 +1,27 @@
-//! Worked facts over places and autos.
-ghost use Rattle.std.specs.Prelude.{◌≡◌, ◌≤◌, true, IfOk, IfSome};
-ghost use Rattle.std.specs.List.{sum_by};
-ghost use Rattle.cube_model.specs.Cells.{AreRows, cells_of};
-ghost use Rattle.cube_model.specs.Limits.{MAX_FACTS};
-ghost use Rattle.cell_weight.specs.Stats.{stat_at};
-ghost use Rattle.region_algebra.specs.Space.{is_region};
-
+//! That memory is not said to be wanting where it is ample.
 use super::allocate;
-use crate::{Alloc, inside};
-use cell_weight::{ByCount, CellStat, StatIndex, Uniform, WeightPolicy};
+use cell_weight::{ByCount, StatIndex, Uniform};
 use cube_base::{Cols, Name};
-use cube_model::{Fact, MAX_CELLS, MAX_FACTS, NodeLine, Region};
+use cube_model::{Fact, MAX_CELLS, NodeLine};
 use dim_tree::Dim;
 use region_algebra::Space;
 use std::alloc::Global;
-use std::process::Abort;
 use std::test::Fail;
 
-fn dim_of(alloc: Global, nodes: &[(u8, &str)]) -> Result<Dim, Fail> {
+/// A root with two nodes, of one leaf and of two.
+const PLACES: [(u8, &str); 6] = [
+    (0, "All"),
+    (1, "NV"),
+    (2, "Reno"),
+    (1, "TX"),
+    (2, "Austin"),
+    (2, "Dallas"),
+];
+
+/// Regions of several cells, of one, and of a node with one leaf.
+const NODES: [u32; 4] = [0, 3, 4, 1];
+
+fn space_of(alloc: Global, nodes: &[(u8, &str)]) -> Result<Space, Fail> {
     let mut lines = Vec::new(alloc);
     for (depth, name) in nodes {
         let name = Name::new(alloc, name)?.ok_or("no name")?;
@@ -26,171 +30,39 @@ fn dim_of(alloc: Global, nodes: &[(u8, &str)]) -> Result<Dim, Fail> {
             name,
         })?;
     }
-    Ok(Dim::build(alloc, &lines)?)
+    let mut dims = Vec::new(alloc);
+    dims.push(Dim::build(alloc, &lines)?)?;
+    Ok(Space::new(alloc, dims).ok().ok_or("refused")?)
 }
 
-fn space_of(alloc: Global, dims: &[&[(u8, &str)]]) -> Result<Space, Fail> {
-    let mut built = Vec::new(alloc);
-    for nodes in dims {
-        built.push(dim_of(alloc, nodes)?)?;
-    }
-    Ok(Space::new(alloc, built).ok().ok_or("refused")?)
-}
-
-fn places_and_autos(alloc: Global) -> Result<Space, Fail> {
-    let places = [
-        (0, "All"),
-        (1, "TX"),
-        (2, "Austin"),
-        (2, "Dallas"),
-        (2, "Houston"),
-        (1, "CA"),
-        (2, "LA"),
-        (2, "SF"),
-    ];
-    let autos = [
-        (0, "All"),
-        (1, "Sedan"),
-        (2, "Camry"),
-        (2, "Civic"),
-        (1, "Truck"),
-        (2, "F150"),
-        (2, "Sierra"),
-    ];
-    space_of(alloc, &[&places, &autos])
-}
-
-fn region_of(space: &Space, nodes: &[u32]) -> Result<Region, Fail>
-    ensures { IfOk result (λ region. is_region space.now region ≡ true) }
-{
-    Ok(space.region(nodes).ok_or("no region")?)
-}
-
-/// The number of precise facts in a region, where it is not above 2^20.
-fn facts_in(space: &Space, stats: &StatIndex, r: Region) -> Option<u64>
-    requires { is_region space.now r ≡ true }
-    ensures sum { IfSome result (λ n. n ≡ sum_by (λ cell. (stat_at stats.now cell).count) (cells_of space.now r)) }
-    ensures few { IfSome result (λ n. n ≤ MAX_FACTS) }
-{
-    let mut sum = 0;
-    for cell in space.cells(r) {
-        sum += stats.stat(cell).count;
-        if sum > MAX_FACTS {
-            return None;
-        }
-    }
-    Some(sum)
-}
-
-/// The allocation of a fact in a region.
-fn allocated<P: WeightPolicy>(
-    alloc: Global,
-    space: &Space,
-    policy: &P,
-    stats: &StatIndex,
-    nodes: &[u32],
-) -> Result<Alloc, Fail>
-    ensures { IfOk result (λ a. AreRows space.now a.rows) }
-{
-    let region = region_of(space, nodes)?;
-    facts_in(space, stats, region).ok_or("too many facts")?;
-    if space.cell_count(region) > MAX_CELLS {
-        Err("too many cells")?;
-    }
+/// A fact at a node is allocated where no precise fact lies, weighed evenly and by the count.
+fn is_allocated(alloc: Global, space: &Space, node: u32) -> Result<bool, Fail> {
+    let region = space.region(&[node]).ok_or("no region")?;
     let fact = Fact {
         id: 1,
         region,
         cols: Cols::new(&[]).ok_or("no columns")?,
     };
-    Ok(allocate(alloc, space, policy, stats, &fact)?)
+    let stats = StatIndex::new(alloc);
+    Ok(
+        space.cell_count(region) <= MAX_CELLS
+            && allocate(alloc, space, &Uniform, &stats, &fact).is_ok()
+            && allocate(alloc, space, &ByCount, &stats, &fact).is_ok(),
+    )
 }
 
-/// A cell has so many precise facts.
-fn set_count(stats: &mut StatIndex, cell: u64, count: u64) -> Result<(), Fail>
-    requires { count ≤ MAX_FACTS }
-{
-    let changes = [(cell, CellStat { count, sum: 0 })];
-    stats.stage(&changes)?;
-    stats.install(&changes);
-    Ok(())
-}
-
-/// These are the rows and the denominator of an allocation.
-fn expect_rows(rt: &impl Abort, a: Alloc, den: u64, rows: &[(u64, u64)]) {
-    assert_eq!(rt; a.den(), den);
-    assert_eq!(rt; a.rows(), rows);
-}
-
-#[test]
-fn a_texan_camry_lies_where_other_camrys_do(rt: HostRuntime) -> Result<(), Fail> {
-    let alloc = rt.alloc();
-    let space = places_and_autos(alloc)?;
-    let mut stats = StatIndex::new(alloc);
-    let camry = [1, 2];
-    let even = [(0, 1), (4, 1), (8, 1)];
-    let rows = allocated(alloc, &space, &ByCount, &stats, &camry)?;
-    expect_rows(&rt, rows, 3, &even);
-
-    set_count(&mut stats, 0, 2)?;
-    set_count(&mut stats, 4, 1)?;
-    let dallas = [(0, 2), (4, 1)];
-    let rows = allocated(alloc, &space, &ByCount, &stats, &camry)?;
-    expect_rows(&rt, rows, 3, &dallas);
-
-    set_count(&mut stats, 4, 0)?;
-    set_count(&mut stats, 8, 1)?;
-    let houston = [(0, 2), (8, 1)];
-    let rows = allocated(alloc, &space, &ByCount, &stats, &camry)?;
-    expect_rows(&rt, rows, 3, &houston);
-    Ok(())
-}
-
-#[test]
-fn a_texan_camry_lies_evenly_by_the_uniform_policy(rt: HostRuntime) -> Result<(), Fail> {
-    let alloc = rt.alloc();
-    let space = places_and_autos(alloc)?;
-    let mut stats = StatIndex::new(alloc);
-    set_count(&mut stats, 0, 2)?;
-    let even = [(0, 1), (4, 1), (8, 1)];
-    let rows = allocated(alloc, &space, &Uniform, &stats, &[1, 2])?;
-    expect_rows(&rt, rows, 3, &even);
-    let rows = allocated(alloc, &space, &ByCount, &stats, &[2, 2])?;
-    expect_rows(&rt, rows, 1, &[(0, 1)]);
-    Ok(())
-}
-
-#[test]
-fn two_thirds_of_a_texan_camry_are_in_austin(rt: HostRuntime) -> Result<(), Fail> {
-    let space = places_and_autos(rt.alloc())?;
-    let mut stats = StatIndex::new(rt.alloc());
-    set_count(&mut stats, 0, 2)?;
-    set_count(&mut stats, 4, 1)?;
-    let a = allocated(rt.alloc(), &space, &ByCount, &stats, &[1, 2])?;
-    for (nodes, weight) in [([2, 2], 2), ([1, 2], 3), ([4, 2], 0)] {
-        let region = region_of(&space, &nodes)?;
-        assert_eq!(rt; inside(&a, &space, region), weight, "inside {nodes:?}");
+fn are_allocated(alloc: Global, nodes: &[u32]) -> Result<bool, Fail> {
+    let space = space_of(alloc, &PLACES)?;
+    for node in nodes {
+        if !is_allocated(alloc, &space, *node)? {
+            return Ok(false);
+        }
     }
-    Ok(())
+    Ok(true)
 }
 
 #[test]
-fn a_state_of_one_city_is_precise(rt: HostRuntime) -> Result<(), Fail> {
-    let alloc = rt.alloc();
-    let places = [
-        (0, "All"),
-        (1, "NV"),
-        (2, "Reno"),
-        (1, "TX"),
-        (2, "Austin"),
-        (2, "Dallas"),
-    ];
-    let space = space_of(alloc, &[&places])?;
-    let mut stats = StatIndex::new(alloc);
-    let reno = [(0, 1)];
-    let rows = allocated(alloc, &space, &ByCount, &stats, &[1])?;
-    expect_rows(&rt, rows, 1, &reno);
-    set_count(&mut stats, 0, 1)?;
-    let rows = allocated(alloc, &space, &ByCount, &stats, &[0])?;
-    expect_rows(&rt, rows, 1, &reno);
+fn facts_are_allocated_where_memory_is_ample(rt: HostRuntime) -> Result<(), Fail> {
+    assert!(rt; are_allocated(rt.alloc(), &NODES)?);
     Ok(())
 }
