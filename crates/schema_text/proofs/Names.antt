@@ -4,7 +4,7 @@ use Rattle.std.specs.Prelude.{◌&&◌}
 use Rattle.std.specs.Str.{IsUtf8}
 use Rattle.std.proofs.Math.Bool.{and-false}
 use Rattle.cube_base.specs.Name.{has_name_bytes, is_name}
-use Rattle.schema_text.proofs.LineTexts.{is_utf8-not}
+use Rattle.text_lines.proofs.LineTexts.{is_utf8-not}
 
 -- bytes that are not UTF-8 are no name
 pub is_name-not_utf8 : (bytes : List ℕ) → ¬ IsUtf8 bytes → is_name bytes ≡ false

@@ -3,12 +3,12 @@ use Rattle.std.proofs.Common.{◌≡◌, ℕ, zero, suc, ◌+◌, ◌-◌, ◌<�
 use Rattle.std.specs.Prelude.{Ok, Err}
 use Rattle.cube_base.specs.declared.code.Code.{Code}
 use Rattle.cube_base.specs.declared.code.Code.TheVariants.{Cut}
-use Rattle.cube_model.specs.Text.{after_line, lines_of, after_lines}
-use Rattle.schema_text.specs.declared.schema.SchemaFault.{SchemaFault}
-use Rattle.schema_text.specs.declared.schema.SchemaFault.TheVariants.{Bad, Memory}
+use Rattle.text_lines.specs.Text.{after_line, lines_of, after_lines}
+use Rattle.schema_text.specs.declared.fault.LineFault.{LineFault}
+use Rattle.schema_text.specs.declared.fault.LineFault.TheVariants.{Refused, Memory}
 use Rattle.schema_text.specs.Draft.{end_fault}
-use Rattle.schema_text.specs.Fault.{HasCause, IsCauseAt}
-use Rattle.schema_text.specs.LineText.{is_skipped}
+use Rattle.schema_text.specs.Fault.{HasCause, IsCause, at_line}
+use Rattle.text_lines.specs.LineText.{is_skipped}
 use Rattle.schema_text.specs.SchemaText.{Draft, blank_draft, is_end, line_fault, read_from, schema_of, schema_of_draft, sized, with_line}
 use Rattle.schema_text.proofs.Ends.{line_fault-end}
 
@@ -65,12 +65,17 @@ schema_of-bad text draft lines rest line behind reason is cut stays refused =
     let here : read_from draft lines (line ∷ lines_of behind) ≡ Err (record { line = lines + 1; reason = reason }) = rw (stays, refused) refl in
     ap (sized text) (is.read ∙ ap (read_from draft lines) cut.cut ∙ here)
 
--- the line `end` is refused
-pub HasCause-end : (text : List ℕ) (draft : Draft) (lines : ℕ) (rest line behind : List ℕ) (fault : SchemaFault) → IsRead text draft lines rest → IsCut rest line behind → is_skipped line ≡ false
-    → is_end line ≡ true → IsCauseAt (lines + 1) (end_fault draft) fault → HasCause text fault
-HasCause-end text draft lines rest line behind (Bad at reason) is cut stays ends cause =
-    rw cause.0 (schema_of-bad text draft lines rest line behind reason is cut stays (line_fault-end draft line ends ∙ cause.1))
-HasCause-end text draft lines rest line behind Memory is cut stays ends cause = tt
+-- a line is refused, or memory is wanting
+pub HasCause-line : (text : List ℕ) (draft : Draft) (lines : ℕ) (rest line behind : List ℕ) (fault : LineFault) → IsRead text draft lines rest → IsCut rest line behind → is_skipped line ≡ false
+    → IsCause (line_fault draft line) fault → HasCause text (at_line (lines + 1) fault)
+HasCause-line text draft lines rest line behind (Refused reason) is cut stays cause = schema_of-bad text draft lines rest line behind reason is cut stays cause
+HasCause-line text draft lines rest line behind Memory is cut stays cause = tt
+
+-- so is the line `end`
+pub HasCause-end : (text : List ℕ) (draft : Draft) (lines : ℕ) (rest line behind : List ℕ) (fault : LineFault) → IsRead text draft lines rest → IsCut rest line behind → is_skipped line ≡ false
+    → is_end line ≡ true → IsCause (end_fault draft) fault → HasCause text (at_line (lines + 1) fault)
+HasCause-end text draft lines rest line behind fault is cut stays ends cause =
+    HasCause-line text draft lines rest line behind fault is cut stays (rw (line_fault-end draft line ends) cause)
 
 -- the line `end` is accepted
 pub schema_of-end : (text : List ℕ) (draft : Draft) (lines : ℕ) (rest line behind : List ℕ) → IsRead text draft lines rest → IsCut rest line behind → is_skipped line ≡ false

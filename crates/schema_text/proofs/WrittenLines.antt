@@ -1,6 +1,6 @@
 -- A line that is written is read as its word and its fields.
-use Rattle.std.proofs.Common.{◌≡◌, ◌≢◌, ℕ, ◌+◌, ◌*◌, ◌≤◌, Bool, true, false, List, [], ◌∷◌, ◌++◌, length, refl, sym, ap, ◌∙◌, arith, Some, None, eqb, append_assoc, append-nil, length-append}
-use Rattle.std.specs.Prelude.{codes, All, ◌||◌}
+use Rattle.std.proofs.Common.{◌≡◌, ◌≢◌, ℕ, ◌+◌, ◌*◌, ◌^◌, ◌<◌, ◌≤◌, Bool, true, false, List, [], ◌∷◌, ◌++◌, length, refl, sym, ap, ◌∙◌, arith, Some, None, eqb, append_assoc, append-nil, length-append}
+use Rattle.std.specs.Prelude.{codes, nat_lt, All, ◌||◌}
 use Rattle.std.specs.List.{flat_map, list_all}
 use Rattle.std.specs.Str.{IsUtf8, bytes_eq, is_utf8}
 use Rattle.std.proofs.lemmas.Bool.{and_parts}
@@ -9,12 +9,15 @@ use Rattle.std.proofs.lemmas.List.Elements.{All-cons, All-head, All-nil, All-tai
 use Rattle.std.proofs.lemmas.List.Folds.{list_all-append}
 use Rattle.std.proofs.lemmas.Str.{IsUtf8-append, IsUtf8-from_is_utf8, is_utf8-from_IsUtf8}
 use Rattle.cube_base.specs.Name.{has_name_bytes, is_name, is_name_byte}
-use Rattle.cube_model.specs.Text.{fields_of, line_text}
-use Rattle.cube_model.proofs.Ascii.{ascii_is_utf8}
+use Rattle.text_lines.specs.Text.{fields_of, is_digit, line_text}
+use Rattle.text_lines.proofs.Numbers.{digits_model}
+use Rattle.std.specs.Fmt.{decimal}
+use Rattle.std.proofs.lemmas.Fmt.{digits_decimal, length-decimal-le}
+use Rattle.text_lines.proofs.Ascii.{ascii_is_utf8}
 use Rattle.schema_text.specs.declared.word.SchemaWord.{SchemaWord}
-use Rattle.schema_text.specs.LineText.{is_blank, is_clean, is_long, without_cr}
+use Rattle.text_lines.specs.LineText.{is_blank, is_clean, is_long, without_cr}
 use Rattle.schema_text.specs.SchemaText.{Draft, fields_fault, line_fault, with_line, with_word, word_named}
-use Rattle.schema_text.proofs.Cuts.{after_line-cut, fields_of-cut, fields_of-none, lines_of-cut}
+use Rattle.text_lines.proofs.Cuts.{after_line-cut, fields_of-cut, fields_of-none, lines_of-cut}
 use Rattle.schema_text.proofs.Ends.{judged}
 use Rattle.schema_text.proofs.Reading.{IsCut, IsRead, IsRead-more}
 
@@ -29,6 +32,31 @@ pub IsField-name : (name : List ℕ) → is_name name ≡ true → IsField name
 IsField-name name named =
     let parts = and_parts (has_name_bytes name) (is_utf8 name) named in
     record { bytes_are = grind (arith, nat_tests, parts.0); utf8 = parts.1; short = grind (arith, nat_tests, parts.0) }
+
+digits-name_bytes : (bytes : List ℕ) → list_all is_digit bytes ≡ true → list_all is_name_byte bytes ≡ true
+digits-name_bytes [] all = refl
+digits-name_bytes (b ∷ bytes) all =
+    let parts = and_parts (is_digit b) (list_all is_digit bytes) all in
+    let here : is_name_byte b ≡ true = grind (arith, nat_tests, parts.0) in
+    rw (here, digits-name_bytes bytes parts.1) refl
+
+digits-ascii : (bytes : List ℕ) → list_all is_digit bytes ≡ true → list_all (λ b. nat_lt b 128) bytes ≡ true
+digits-ascii [] all = refl
+digits-ascii (b ∷ bytes) all =
+    let parts = and_parts (is_digit b) (list_all is_digit bytes) all in
+    let here : nat_lt b 128 ≡ true = grind (arith, nat_tests, parts.0) in
+    rw (here, digits-ascii bytes parts.1) refl
+
+-- and so is a number that a schema may have
+pub IsField-decimal : (n : ℕ) → n ≤ 1000000 → IsField (decimal n)
+IsField-decimal n small =
+    let fits : n < 2 ^ 64 = omega arith in
+    let digits : list_all is_digit (decimal n) ≡ true = digits_decimal digits_model n fits in
+    record {
+      bytes_are = digits-name_bytes (decimal n) digits;
+      utf8 = ascii_is_utf8 (decimal n) (digits-ascii (decimal n) digits);
+      short = omega (arith, length-decimal-le 7 n (omega arith) (omega arith) fits);
+    }
 
 -- the bytes of a line before its LF
 abbrev pub joined : List ℕ → List (List ℕ) → List ℕ
@@ -85,7 +113,7 @@ without_cr-none (b ∷ []) none =
     rw other refl
 without_cr-none (b ∷ c ∷ line) none = ap (λ l. b ∷ l) (without_cr-none (c ∷ line) (All-tail (λ b. b ≢ 13) b (c ∷ line) none))
 
--- how a line of up to two fields is read
+-- how a line of up to nine fields is read
 pub record IsPlain (word : List ℕ) (fields : List (List ℕ)) : Type 0 where
   pub lf : All (λ b. b ≢ 10) (joined word fields)
   pub bare : without_cr (joined word fields) ≡ joined word fields
@@ -93,7 +121,7 @@ pub record IsPlain (word : List ℕ) (fields : List (List ℕ)) : Type 0 where
   pub clean : is_clean (joined word fields) ≡ true
   pub cut : fields_of (joined word fields) ≡ word ∷ fields
 
-pub IsPlain-fields : (word : List ℕ) (fields : List (List ℕ)) → IsField word → All IsField fields → length fields ≤ 2 → IsPlain word fields
+pub IsPlain-fields : (word : List ℕ) (fields : List (List ℕ)) → IsField word → All IsField fields → length fields ≤ 9 → IsPlain word fields
 IsPlain-fields word fields is are few =
     let bytes = joined_bytes word fields is are in
     let utf8 = is_utf8-from_IsUtf8 (joined word fields) (joined_utf8 word fields is are) in

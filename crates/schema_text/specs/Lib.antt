@@ -1,5 +1,5 @@
 pub mod Draft
+pub mod Examples
 pub mod Fault
-pub mod LineText
 pub mod Schema
 pub mod SchemaText

@@ -1,12 +1,16 @@
 -- What a schema is.
-use Rattle.std.specs.Prelude.{◌≡◌, ◌≢◌, ℕ, List, length, All, AllPairs, None, true}
+use Rattle.std.specs.Prelude.{◌≡◌, ◌≢◌, ℕ, ◌≤◌, List, length, All, AllPairs, Option, None, Some, true, ⊤}
 use Rattle.cube_base.specs.Name.{is_name}
+use Rattle.cube_model.specs.declared.statistic.CellStat.{CellStat}
+use Rattle.cube_model.specs.Allocation.{Policy, weigh_count, weigh_evenly, weigh_sum}
 use Rattle.cube_model.specs.Tree.{Dimension, IsTree}
-use Rattle.fact_records.specs.declared.shape.Kind.TheVariants.{Number}
+use Rattle.fact_records.specs.declared.shape.Kind.{Kind}
+use Rattle.fact_records.specs.declared.shape.Kind.TheVariants.{Number, Parts}
 use Rattle.fact_records.specs.declared.shape.Measure.{Measure}
-use Rattle.fact_records.specs.Shape.{IsShape}
+use Rattle.fact_records.specs.Shape.{IsShape, ShapeValue, policy_over}
 use Rattle.region_algebra.specs.Fault.{space_fault}
 use Rattle.schema_text.specs.declared.word.PolicyWord.{PolicyWord}
+use Rattle.schema_text.specs.declared.word.PolicyWord.TheVariants.{Uniform, Count, Weight}
 
 -- a policy, measures, and named dimensions
 pub record SchemaValue : Type 0 where
@@ -15,17 +19,65 @@ pub record SchemaValue : Type 0 where
   pub names : List (List ℕ)
   pub dims : List Dimension
 
+-- the place of the measure by whose sum cells weigh, if they do
+abbrev pub weight_of : PolicyWord → Option ℕ
+weight_of Uniform = None
+weight_of Count = None
+weight_of (Weight measure) = Some measure
+
+-- the measures with that one
+abbrev pub shape_of : SchemaValue → ShapeValue
+shape_of schema = record { measures = schema.measures; weight = weight_of schema.policy }
+
+-- how cells weigh
+abbrev pub weigh_of : PolicyWord → CellStat → ℕ
+weigh_of Uniform = weigh_evenly
+weigh_of Count = weigh_count
+weigh_of (Weight measure) = weigh_sum
+
+-- a policy that weighs so, over the measures of a schema; and the schema's own
+abbrev pub policy_in : (CellStat → ℕ) → SchemaValue → Policy
+policy_in weigh schema = policy_over weigh (shape_of schema)
+
+abbrev pub policy_of : SchemaValue → Policy
+policy_of schema = policy_in (weigh_of schema.policy) schema
+
+-- the least and the greatest scale of a distribution, and how many outcomes it has
+abbrev pub MIN_SCALE : ℕ
+MIN_SCALE = 1
+
+abbrev pub MAX_SCALE : ℕ
+MAX_SCALE = 1000000
+
+abbrev pub MIN_OUTCOMES : ℕ
+MIN_OUTCOMES = 2
+
 -- distinct names
 pub record AreNames (names : List (List ℕ)) : Type 0 where
   pub each : All (λ name. is_name name ≡ true) names
   pub distinct : AllPairs (λ a b. a ≢ b) names
 
--- the measures are number measures with names, the names of the dimensions are distinct names, and the dimensions are a space
+-- a scale that a schema may give, and two or more outcomes of distinct names; that they are at most seven, the columns say
+pub record IsDistribution (scale : ℕ) (outcomes : List (List ℕ)) : Type 0 where
+  pub least : MIN_SCALE ≤ scale
+  pub most : scale ≤ MAX_SCALE
+  pub some : MIN_OUTCOMES ≤ length outcomes
+  pub names : AreNames outcomes
+
+abbrev pub IsKind : Kind → Type 0
+IsKind Number = ⊤
+IsKind (Parts scale outcomes) = IsDistribution scale outcomes
+
+-- The measures have names and are of a kind that a schema may give, the names of the dimensions are distinct names, and the dimensions are a space.
 pub record IsSchema (schema : SchemaValue) : Type 0 where
-  pub shape : IsShape schema.measures
-  pub numbers : All (λ m. m.kind ≡ Number) schema.measures
+  pub shape : IsShape (shape_of schema)
+  pub kinds : All (λ m. IsKind m.kind) schema.measures
   pub measure_names : All (λ m. is_name m.name ≡ true) schema.measures
   pub dim_names : AreNames schema.names
   pub named : length schema.names ≡ length schema.dims
   pub trees : All IsTree schema.dims
   pub space : space_fault schema.dims ≡ None
+
+-- the schema over other dimensions
+abbrev pub over_dims : SchemaValue → List Dimension → SchemaValue
+over_dims schema dims = record schema { dims = dims }

@@ -1,22 +1,24 @@
 //! The text of a schema.
 #![tactic(auto)]
 
-#[cfg(test)]
-mod examples;
+mod fault;
 mod laws;
-mod line;
-mod lines;
+mod measures;
 mod name;
+mod open_dim;
+mod policy;
 mod read;
 mod reader;
 mod schema;
-mod slices;
+#[cfg(test)]
+mod tests;
 mod word;
 mod write;
 
-pub use laws::what_is_written_is_read;
-pub use line::{clean_text, field_count, is_long, is_skipped, without_cr};
-pub use lines::first_line_of;
+pub use laws::{
+    long_line_means_its_front, what_is_written_is_read, worked_distributions, worked_numbers,
+    worked_weights,
+};
 pub use read::read_schema;
 pub use schema::{Schema, SchemaFault};
 pub use word::PolicyWord;

@@ -3,25 +3,26 @@ ghost use Rattle.std.specs.Prelude.{◌≡◌, ◌≤◌, length, Ok, IfOk, IfEr
 ghost use Rattle.schema_text.specs.Fault.{HasCause};
 ghost use Rattle.schema_text.specs.SchemaText.{schema_of};
 
-#[cfg(test)]
-mod tests;
-
-use crate::line::is_skipped;
-use crate::lines::first_line_of;
 use crate::reader::Reader;
 use crate::schema::{Schema, SchemaFault};
 use crate::word::is_end;
 use cube_base::Code;
 use std::alloc::Global;
+use text_lines::{first_line_of, is_skipped};
 
 /// The schema with which a text begins, and the number of bytes that it takes. With TABs where `|` stands, its lines are
-/// `cube|1`, `policy|uniform` or `policy|count`, `number|NAME` for each measure, then for each dimension `dimension|NAME`
-/// and, for each node in preorder, `node|DEPTH|NAME`, and `end`. A final CR of a line is dropped. Lines that are then empty
-/// or begin with `#` are passed over, whatever their length and bytes. `end` needs no LF behind it.
+/// `cube|1` or `cube|2`, the version; `policy|uniform`, `policy|count` or `policy|weight|NAME`; for each measure
+/// `number|NAME`, or `parts|NAME|SCALE` with a field more for the name of each outcome; then for each dimension
+/// `dimension|NAME` and, for each node in preorder, `node|DEPTH|NAME` in version 1 or `node|DEPTH|NAME|NUMBER` in version 2;
+/// and `end`. A final CR of a line is dropped. Lines that are then empty or begin with `#` are passed over, whatever their
+/// length and bytes. `end` needs no LF behind it.
 ///
-/// There are 0 to 7 measures, 1 to 6 dimensions, and in each 1 to 65,536 nodes. The first node of a dimension has depth 0;
-/// each other has a depth from 1 to 8, at most one more than the node before it. A name has 1 to 128 bytes, is UTF-8 and
-/// has no byte below 32 and no 127. No two measures have one name, no two dimensions, and no two nodes of a dimension.
+/// The measures have at most 7 columns: one of numbers has one, one of distributions 2 to 7, one for each outcome. There
+/// are 1 to 6 dimensions, and in each 1 to 65,536 nodes. The first node of a dimension has depth 0; each other has a depth
+/// from 1 to 8, at most one more than the node before it. The number of a node is its place in version 1. In version 2 the
+/// numbers of a dimension are distinct, below the count of its nodes, and that of a node is above its parent's. A name has
+/// 1 to 128 bytes, is UTF-8 and has no byte below 32 and no 127. No two measures have one name, no two dimensions, no two
+/// nodes of a dimension, and no two outcomes of a measure. The name behind `weight` is that of a measure of numbers.
 ///
 /// # Errors
 ///
@@ -29,12 +30,14 @@ use std::alloc::Global;
 /// - `Long`: the line has more than 4,096 bytes, its final CR included.
 /// - `Text`: it is not UTF-8, or has a byte below 32 other than TAB, or 127.
 /// - `Order`: its first field is no word of a schema, or one that may not follow the line before.
-/// - `Fields`: the number of fields is not that of the word.
-/// - `Name`: the name is none, or is taken.
-/// - `Policy`: the policy is not known.
-/// - `Number`: the version is not `1`, or the depth is no number from 0 to 8.
+/// - `Fields`: the number of fields is not one that the word may have.
+/// - `Name`: a name is none, or is taken.
+/// - `Policy`: the policy is not known; or, at `end`, no measure of numbers has the name that the policy gives.
+/// - `Number`: the version is not `1` or `2`, the scale no number from 1 to 1,000,000, the depth none from 0 to 8, or the
+///   number of a node none from 0 to 65,535 or that of an earlier node of the dimension; or, at `dimension` and `end`, the
+///   numbers of the dimension before it are not as they must be.
 /// - `Depth`: the depth does not fit the node before.
-/// - `Limit`: it is the eighth measure, the seventh dimension, or the 65,537th node of the dimension.
+/// - `Limit`: it is a measure of which a column is the eighth, the seventh dimension, or the 65,537th node of the dimension.
 /// - `Cells`: at `end`, the product of the dimensions' leaf counts is 2^62 or more.
 /// - `Nodes`: at `end`, the product of their node counts is 2^62 or more.
 /// - `Cut`: the text ends before `end`; the line is the one behind its last.
@@ -55,13 +58,15 @@ pub fn read_schema(alloc: Global, text: &[u8]) -> Result<(Schema, usize), Schema
             continue;
         }
         if is_end(line) {
-            let schema = reader.finish(alloc, lines)?;
-            return Ok((schema, text.len() - rest.len()));
+            return match reader.finish(alloc) {
+                Ok(schema) => Ok((schema, text.len() - rest.len())),
+                Err(fault) => Err(fault.at(lines)),
+            };
         }
-        if let Some(code) = reader.line_fault(line) {
-            return Err(SchemaFault::Bad { line: lines, code });
-        }
-        reader = reader.with_line(alloc, line)?;
+        reader = match reader.with_line(alloc, line) {
+            Ok(next) => next,
+            Err(fault) => return Err(fault.at(lines)),
+        };
     }
     Err(SchemaFault::Bad {
         line: lines + 1,

@@ -1,42 +1,40 @@
 //! A schema while its lines are read.
-ghost use Rattle.std.specs.Prelude.{◌≡◌, ◌≢◌, ◌<◌, ◌≤◌, ◌++◌, ◌∷◌, [], false, is_none, length, map, nat_le, true, None, Some, if◌then◌else◌, IfOk, IfErr, OnOk, string_bytes, unwrap_or};
-ghost use Rattle.std.specs.Option.{option_map_or};
-ghost use Rattle.std.specs.Prelude.{codes};
-ghost use Rattle.std.specs.List.{list_any};
-ghost use Rattle.std.specs.Str.{bytes_eq};
-ghost use Rattle.cube_base.specs.declared.code.Code.TheVariants as code;
-ghost use Rattle.cube_model.specs.Accepted.{first_that_holds};
-ghost use Rattle.cube_model.specs.Limits.{MAX_COLS, MAX_DEPTH, MAX_DIMS, MAX_NODES};
-ghost use Rattle.cube_model.specs.Text.{fields_of, number_in};
-ghost use Rattle.cube_model.specs.Tree.{numbered};
-ghost use Rattle.fact_records.specs.Shape.{width_of_all};
-ghost use Rattle.schema_text.specs.declared.word.PolicyWord.TheVariants as policy_word;
+ghost use Rattle.std.specs.Prelude.{◌≡◌, ◌≢◌, ◌+◌, ◌<◌, ◌≤◌, ◌++◌, ◌∷◌, [], true, false, length, Some, None, IfOk, IfErr, IfSome, OnOk, All};
+ghost use Rattle.cube_base.specs.Name.{is_name};
+ghost use Rattle.cube_model.specs.Limits.{MAX_DIMS};
+ghost use Rattle.text_lines.specs.Text.{fields_of};
+ghost use Rattle.text_lines.specs.LineText.{field_at};
+ghost use Rattle.fact_records.specs.Shape.{AreMeasures, IsWeighable};
 ghost use Rattle.schema_text.specs.declared.word.SchemaWord.TheVariants as schema_word;
-ghost use Rattle.schema_text.specs.Draft.{end_fault};
-ghost use Rattle.schema_text.specs.Fault.{IsCauseAt};
-ghost use Rattle.schema_text.specs.SchemaText.{blank_draft, dims_of, ended, is_among_names, is_end, is_wrong_depth, is_wrong_name, line_fault, may_follow, number_measure, policy_named, schema_of_draft, with_line, word_conditions};
+ghost use Rattle.schema_text.specs.Draft.{IsMeasureWord, IsNextMeasure, end_fault, front_fault, size_fault, word_in};
+ghost use Rattle.schema_text.specs.Fault.{IsCause, listed};
+ghost use Rattle.schema_text.specs.Schema.{AreNames, IsKind, weight_of};
+ghost use Rattle.schema_text.specs.SchemaText.{blank_draft, dims_of, ended, has_wrong_count, is_end, is_wrong_name, line_fault, may_follow, policy_among, schema_of_draft, with_line, with_word, word_fault};
 
-use crate::line::{field_at, is_clean, is_long, without_cr};
-use crate::name::{has_bytes, is_name, is_wrong_name, name_of};
-use crate::schema::{Schema, SchemaFault};
-use crate::slices::is_text;
-use crate::word::{PolicyWord, SchemaWord, has_wrong_count, may_follow, policy_named, word_named};
-use cube_base::{Code, MAX_COLS, Memory, Name, Names};
-use cube_model::{MAX_DEPTH, MAX_DIMS, MAX_NODES, NodeLine};
+use crate::fault::LineFault;
+use crate::measures::{read_number, read_parts, width};
+use crate::name::{is_wrong_name, name_of};
+use crate::open_dim::OpenDim;
+use crate::policy::{NamedPolicy, policy_among, read_policy, weigh_by};
+use crate::schema::Schema;
+use crate::word::{
+    PolicyWord, SchemaWord, Version, has_wrong_count, may_follow, version_named, word_named,
+};
+use cube_base::{Code, Memory, Name, Names};
+use cube_model::MAX_DIMS;
 use dim_tree::Dim;
-use fact_records::{Kind, Measure, Shape, number_in};
-use indexmap::IndexSet;
+use fact_records::{Measure, Shape};
 use region_algebra::{Space, SpaceFault};
 use std::alloc::Global;
 use std::marker::Model;
-use std::str;
+use text_lines::{field_at, is_clean, is_long, without_cr};
 
 /// What accepted lines of a schema say. Contracts see the draft.
 #[derive(Drop)]
 pub struct Reader {
     /// The word of the last line.
     last: Option<SchemaWord>,
-    policy: PolicyWord,
+    policy: NamedPolicy,
     measures: Vec<Measure>,
     /// The number of columns of the measures.
     columns: usize,
@@ -44,23 +42,20 @@ pub struct Reader {
     names: Vec<Name>,
     /// The dimensions that are ended: all but the one that was named last.
     dims: Vec<Dim>,
-    /// The nodes so far of the dimension that was named last.
-    nodes: Vec<NodeLine>,
-    /// Their names, found by hash.
-    known: IndexSet<String>,
+    /// The dimension that was named last, and the version.
+    named_last: OpenDim,
 }
 
 impl Model for Reader {
-    ghost use Rattle.std.specs.Prelude.{map, string_bytes};
     ghost use Rattle.schema_text.specs.SchemaText.{Draft};
 
     ghost Value = { Draft };
 
     ghost use Rattle.schema_text.specs.Draft.{IsDraft};
 
-    ghost view = { λ r. record { last = r.last; policy = r.policy; measures = r.measures.items; names = r.names.items; dims = r.dims.items; nodes = r.nodes.items } };
+    ghost view = { λ r. record { last = r.last; version = r.named_last.version; policy = r.policy; measures = r.measures.items; names = r.names.items; dims = r.dims.items; nodes = r.named_last.nodes } };
 
-    ghost invariant = { λ r. IsDraft (record { last = r.last; policy = r.policy; measures = r.measures.items; names = r.names.items; dims = r.dims.items; nodes = r.nodes.items }) (map string_bytes r.known.keys) r.columns };
+    ghost invariant = { λ r. IsDraft (record { last = r.last; version = r.named_last.version; policy = r.policy; measures = r.measures.items; names = r.names.items; dims = r.dims.items; nodes = r.named_last.nodes }) r.columns };
 }
 
 impl Reader {
@@ -70,314 +65,280 @@ impl Reader {
     {
         Reader {
             last: None,
-            policy: PolicyWord::Uniform,
+            policy: NamedPolicy::Uniform,
             measures: Vec::new(alloc),
             columns: 0,
             names: Vec::new(alloc),
             dims: Vec::new(alloc),
-            nodes: Vec::new(alloc),
-            known: IndexSet::new(alloc),
+            named_last: OpenDim::new(alloc, Version::One),
         }
     }
 
-    /// Why a line other than `end` may not come next: the first of the conditions that holds.
-    pub fn line_fault(&self, line: &[u8]) -> Option<Code>
+    /// What is said with a line more, which is not `end`, or the first of the conditions that refuse it.
+    pub fn with_line(self, alloc: Global, line: &[u8]) -> Result<Self, LineFault>
         requires { is_end line.now ≡ false }
-        ensures { result ≡ line_fault self.now line.now }
+        ensures made { IfOk result (λ next. next ≡ with_line self line.now) }
+        ensures accepted { OnOk result (line_fault self line.now ≡ None) }
+        ensures refused { IfErr result (IsCause (line_fault self line.now)) }
     {
-        if is_long(line) {
-            return Some(Code::Long);
-        }
-        let line = without_cr(line);
-        if !is_clean(line) {
-            return Some(Code::Text);
-        }
-        match word_named(field_at(line, 0)) {
-            Some(word) if may_follow(self.last, word) => self.word_fault(line, word),
-            _ => Some(Code::Order),
+        match word_in(self.last, line) {
+            Ok(word) => self.with_word(alloc, without_cr(line), word),
+            Err(code) => Err(LineFault::Refused(code)),
         }
     }
 
-    /// Why a line of a word that may stand here may not.
-    fn word_fault(&self, line: &[u8], word: SchemaWord) -> Option<Code>
-        requires { word ≡ schema_word.End → length (fields_of line.now) ≢ 1 }
-        ensures { result ≡ first_that_holds (word_conditions self.now (fields_of line.now) word) }
+    /// What is said with a line more, which is not `end`, of a word that may stand here.
+    fn with_word(self, alloc: Global, line: &[u8], word: SchemaWord) -> Result<Self, LineFault>
+        requires follows { may_follow self.last word ≡ true }
+        requires goes_on { word ≡ schema_word.End → length (fields_of line.now) ≢ 1 }
+        ensures made { IfOk result (λ next. next ≡ with_word self (fields_of line.now) word) }
+        ensures accepted { OnOk result (word_fault self (fields_of line.now) word ≡ None) }
+        ensures refused { IfErr result (IsCause (word_fault self (fields_of line.now) word)) }
     {
-        if has_wrong_count(line, word) {
-            return Some(Code::Fields);
+        if has_wrong_count(self.named_last.version(), line, word) {
+            return Err(LineFault::Refused(Code::Fields));
         }
         match word {
-            SchemaWord::Cube => version_fault(field_at(line, 1)),
-            SchemaWord::Policy => policy_fault(field_at(line, 1)),
-            SchemaWord::Number => self.measure_fault(field_at(line, 1)),
-            SchemaWord::Dimension => self.dimension_fault(field_at(line, 1)),
-            SchemaWord::Node => self.node_fault(field_at(line, 1), field_at(line, 2)),
+            SchemaWord::Cube => self.with_version(alloc, line),
+            SchemaWord::Policy => self.with_policy(alloc, line),
+            SchemaWord::Number => self.with_number(alloc, line),
+            SchemaWord::Parts => self.with_parts(alloc, line),
+            SchemaWord::Dimension => self.with_dimension(alloc, line),
+            SchemaWord::Node => self.with_node(alloc, line),
             SchemaWord::End => unreachable!(),
         }
     }
 
-    /// Why a measure of a name may not come next.
-    fn measure_fault(&self, name: &[u8]) -> Option<Code>
-        ensures { result ≡ (if is_wrong_name name.now (map (λ m. m.name) self.now.measures) then Some code.Name
-            else (if nat_le MAX_COLS (width_of_all self.now.measures) then Some code.Limit else None)) }
-    {
-        if self.is_wrong_measure(name) {
-            Some(Code::Name)
-        } else if self.columns >= MAX_COLS {
-            Some(Code::Limit)
-        } else {
-            None
-        }
-    }
+    // Each of the following says the same for one word, whose line has as many fields as it wants.
 
-    /// Why a dimension of a name may not come next.
-    fn dimension_fault(&self, name: &[u8]) -> Option<Code>
-        ensures { result ≡ (if is_wrong_name name.now self.now.names then Some code.Name
-            else (if nat_le MAX_DIMS (length self.now.names) then Some code.Limit else None)) }
+    fn with_version(mut self, alloc: Global, line: &[u8]) -> Result<Self, LineFault>
+        requires follows { may_follow self.last schema_word.Cube ≡ true }
+        requires count { has_wrong_count self.version (fields_of line.now) schema_word.Cube ≡ false }
+        ensures made { IfOk result (λ next. next ≡ with_word self (fields_of line.now) schema_word.Cube) }
+        ensures accepted { OnOk result (word_fault self (fields_of line.now) schema_word.Cube ≡ None) }
+        ensures refused { IfErr result (IsCause (word_fault self (fields_of line.now) schema_word.Cube)) }
     {
-        if is_wrong_name(name, &self.names) {
-            Some(Code::Name)
-        } else if self.names.len() >= MAX_DIMS {
-            Some(Code::Limit)
-        } else {
-            None
-        }
-    }
-
-    /// Whether bytes are no name, or that of a measure.
-    fn is_wrong_measure(&self, name: &[u8]) -> bool
-        ensures { result ≡ is_wrong_name name.now (map (λ m. m.name) self.now.measures) }
-    {
-        !is_name(name) || is_among_measures(name, &self.measures)
-    }
-
-    /// Whether bytes are no name, or that of a node of the dimension.
-    fn is_wrong_node(&self, name: &[u8]) -> bool
-        ensures { result ≡ is_wrong_name name.now (map (λ n. n.name) self.now.nodes) }
-    {
-        match str::from_utf8(name) {
-            Ok(name) => !cube_base::is_name(name) || self.known.contains(name),
-            Err(_) => true,
-        }
-    }
-
-    /// Whether a node of a depth may not come next.
-    fn is_wrong_depth(&self, depth: u64) -> bool
-        ensures { result ≡ is_wrong_depth self.now.nodes depth }
-    {
-        match self.nodes.last() {
-            None => depth != 0,
-            Some(before) => depth == 0 || depth > u64::from(before.depth) + 1,
-        }
-    }
-
-    /// Why a node of a depth and a name may not come next.
-    fn node_fault(&self, depth: &[u8], name: &[u8]) -> Option<Code>
-        ensures { result ≡ (if is_wrong_name name.now (map (λ n. n.name) self.now.nodes) then Some code.Name
-            else (if is_none (number_in 0 MAX_DEPTH depth.now) then Some code.Number
-            else (if option_map_or (is_wrong_depth self.now.nodes) (number_in 0 MAX_DEPTH depth.now) false then Some code.Depth
-            else (if nat_le MAX_NODES (length self.now.nodes) then Some code.Limit else None)))) }
-    {
-        if self.is_wrong_node(name) {
-            return Some(Code::Name);
-        }
-        let Some(depth) = number_in(depth, 0, u64::from(MAX_DEPTH)) else {
-            return Some(Code::Number);
+        let Some(version) = version_named(field_at(line, 1)) else {
+            return Err(LineFault::Refused(Code::Number));
         };
-        if self.is_wrong_depth(depth) {
-            Some(Code::Depth)
-        } else if self.nodes.len() >= MAX_NODES {
-            Some(Code::Limit)
-        } else {
-            None
-        }
-    }
-
-    /// What is said with an accepted line more, which is not `end`.
-    pub fn with_line(self, alloc: Global, line: &[u8]) -> Result<Self, Memory>
-        requires accepted { line_fault self line.now ≡ None }
-        requires goes_on { is_end line.now ≡ false }
-        ensures { IfOk result (λ next. next ≡ with_line self line.now) }
-    {
-        let line = without_cr(line);
-        match word_named(field_at(line, 0)) {
-            Some(SchemaWord::Cube) => Ok(self.with_version()),
-            Some(SchemaWord::Policy) => Ok(self.with_policy(field_at(line, 1))),
-            Some(SchemaWord::Number) => self.with_measure(alloc, field_at(line, 1)),
-            Some(SchemaWord::Dimension) => self.with_dimension(alloc, field_at(line, 1)),
-            Some(SchemaWord::Node) => self.with_node(alloc, field_at(line, 1), field_at(line, 2)),
-            Some(SchemaWord::End) => unreachable!(),
-            None => unreachable!(),
-        }
-    }
-
-    /// The schema, where the line `end` comes next, as the line of this number.
-    pub fn finish(self, alloc: Global, line: u64) -> Result<Schema, SchemaFault>
-        ensures made { IfOk result (λ schema. schema ≡ schema_of_draft self) }
-        ensures accepted { OnOk result (end_fault self ≡ None) }
-        ensures refused { IfErr result (IsCauseAt line (end_fault self)) }
-    {
-        if !may_follow(self.last, SchemaWord::End) {
-            return Err(SchemaFault::Bad {
-                line,
-                code: Code::Order,
-            });
-        }
-        let Reader {
-            last: _,
-            policy,
-            measures,
-            columns: _,
-            names,
-            mut dims,
-            nodes,
-            known: _,
-        } = self;
-        end_dimension(alloc, &nodes, &mut dims)?;
-        match Space::new(alloc, dims) {
-            Ok(space) => {
-                let shape = Shape::new(measures);
-                Ok(Schema::new(space, shape, policy, Names::from(names)))
-            }
-            Err(SpaceFault::Dims { .. }) => unreachable!(),
-            Err(SpaceFault::Cells) => Err(SchemaFault::Bad {
-                line,
-                code: Code::Cells,
-            }),
-            Err(SpaceFault::Nodes) => Err(SchemaFault::Bad {
-                line,
-                code: Code::Nodes,
-            }),
-        }
-    }
-
-    /// What is said behind the line of the version.
-    fn with_version(mut self) -> Self
-        requires { may_follow self.last schema_word.Cube ≡ true }
-        ensures { result ≡ record self { last = Some schema_word.Cube } }
-    {
+        self.named_last = OpenDim::new(alloc, version);
         self.last = Some(SchemaWord::Cube);
-        self
-    }
-
-    /// What is said with a policy.
-    fn with_policy(mut self, name: &[u8]) -> Self
-        requires follows { may_follow self.last schema_word.Policy ≡ true }
-        requires known { is_none (policy_named name.now) ≡ false }
-        ensures { result ≡ record self { last = Some schema_word.Policy; policy = unwrap_or (policy_named name.now) policy_word.Uniform } }
-    {
-        self.last = Some(SchemaWord::Policy);
-        self.policy = policy_named(name).unwrap();
-        self
-    }
-
-    /// What is said with a measure more.
-    fn with_measure(mut self, alloc: Global, name: &[u8]) -> Result<Self, Memory>
-        requires follows { may_follow self.last schema_word.Number ≡ true }
-        requires named { is_wrong_name name.now (map (λ m. m.name) self.measures) ≡ false }
-        requires room { width_of_all self.measures < MAX_COLS }
-        ensures { IfOk result (λ next. next ≡ record self { last = Some schema_word.Number; measures = self.measures ++ number_measure self.measures name.now ∷ [] }) }
-    {
-        self.columns += 1;
-        self.measures.push(Measure {
-            name: name_of(alloc, name)?,
-            kind: Kind::Number,
-            first_col: self.columns as u32,
-        })?;
-        self.last = Some(SchemaWord::Number);
         Ok(self)
     }
 
-    /// What is said with a dimension more.
-    fn with_dimension(mut self, alloc: Global, name: &[u8]) -> Result<Self, Memory>
-        requires follows { may_follow self.last schema_word.Dimension ≡ true }
-        requires named { is_wrong_name name.now self.names ≡ false }
-        requires room { length self.names < MAX_DIMS }
-        ensures { IfOk result (λ next. next ≡ record self { last = Some schema_word.Dimension; names = self.names ++ name.now ∷ []; dims = dims_of self; nodes = [] }) }
+    fn with_policy(mut self, alloc: Global, line: &[u8]) -> Result<Self, LineFault>
+        requires follows { may_follow self.last schema_word.Policy ≡ true }
+        requires count { has_wrong_count self.version (fields_of line.now) schema_word.Policy ≡ false }
+        ensures made { IfOk result (λ next. next ≡ with_word self (fields_of line.now) schema_word.Policy) }
+        ensures accepted { OnOk result (word_fault self (fields_of line.now) schema_word.Policy ≡ None) }
+        ensures refused { IfErr result (IsCause (word_fault self (fields_of line.now) schema_word.Policy)) }
     {
-        let name = name_of(alloc, name)?;
-        end_dimension(alloc, &self.nodes, &mut self.dims)?;
-        self.names.push(name)?;
-        self.nodes.clear();
-        self.known.clear();
+        let policy = read_policy(alloc, line)?;
+        self.policy = policy;
+        self.last = Some(SchemaWord::Policy);
+        Ok(self)
+    }
+
+    fn with_number(self, alloc: Global, line: &[u8]) -> Result<Self, LineFault>
+        requires follows { may_follow self.last schema_word.Number ≡ true }
+        requires count { has_wrong_count self.version (fields_of line.now) schema_word.Number ≡ false }
+        ensures made { IfOk result (λ next. next ≡ with_word self (fields_of line.now) schema_word.Number) }
+        ensures accepted { OnOk result (word_fault self (fields_of line.now) schema_word.Number ≡ None) }
+        ensures refused { IfErr result (IsCause (word_fault self (fields_of line.now) schema_word.Number)) }
+    {
+        let measure = read_number(alloc, &self.measures, self.columns, line)?;
+        Ok(self.with_measure(SchemaWord::Number, measure)?)
+    }
+
+    fn with_parts(self, alloc: Global, line: &[u8]) -> Result<Self, LineFault>
+        requires follows { may_follow self.last schema_word.Parts ≡ true }
+        requires count { has_wrong_count self.version (fields_of line.now) schema_word.Parts ≡ false }
+        ensures made { IfOk result (λ next. next ≡ with_word self (fields_of line.now) schema_word.Parts) }
+        ensures accepted { OnOk result (word_fault self (fields_of line.now) schema_word.Parts ≡ None) }
+        ensures refused { IfErr result (IsCause (word_fault self (fields_of line.now) schema_word.Parts)) }
+    {
+        let measure = read_parts(alloc, &self.measures, self.columns, line)?;
+        Ok(self.with_measure(SchemaWord::Parts, measure)?)
+    }
+
+    fn with_dimension(self, alloc: Global, line: &[u8]) -> Result<Self, LineFault>
+        requires follows { may_follow self.last schema_word.Dimension ≡ true }
+        requires count { has_wrong_count self.version (fields_of line.now) schema_word.Dimension ≡ false }
+        ensures made { IfOk result (λ next. next ≡ with_word self (fields_of line.now) schema_word.Dimension) }
+        ensures accepted { OnOk result (word_fault self (fields_of line.now) schema_word.Dimension ≡ None) }
+        ensures refused { IfErr result (IsCause (word_fault self (fields_of line.now) schema_word.Dimension)) }
+    {
+        let (name, last) = self.read_dimension(alloc, line)?;
+        Ok(self.with_named(name, last)?)
+    }
+
+    fn with_node(mut self, alloc: Global, line: &[u8]) -> Result<Self, LineFault>
+        requires follows { may_follow self.last schema_word.Node ≡ true }
+        requires count { has_wrong_count self.version (fields_of line.now) schema_word.Node ≡ false }
+        ensures made { IfOk result (λ next. next ≡ with_word self (fields_of line.now) schema_word.Node) }
+        ensures accepted { OnOk result (word_fault self (fields_of line.now) schema_word.Node ≡ None) }
+        ensures refused { IfErr result (IsCause (word_fault self (fields_of line.now) schema_word.Node)) }
+    {
+        let node = self.named_last.read_node(alloc, line)?;
+        self.named_last = self.named_last.with_node(alloc, node)?;
+        self.last = Some(SchemaWord::Node);
+        Ok(self)
+    }
+
+    /// The schema, where the line `end` comes next, or the first of the conditions that refuse it.
+    pub fn finish(self, alloc: Global) -> Result<Schema, LineFault>
+        ensures made { IfOk result (λ schema. schema ≡ schema_of_draft self) }
+        ensures accepted { OnOk result (end_fault self ≡ None) }
+        ensures refused { IfErr result (IsCause (end_fault self)) }
+    {
+        let (policy, last) = self.read_end(alloc)?;
+        let Reader {
+            measures,
+            names,
+            dims,
+            ..
+        } = self;
+        make_schema(alloc, policy, measures, names, dims, last)
+    }
+
+    /// The policy and the last dimension, where the line `end` may come next, whatever all dimensions are together.
+    fn read_end(&self, alloc: Global) -> Result<(PolicyWord, Dim), LineFault>
+        ensures policy { IfOk result (λ read. policy_among self.now.measures self.now.policy ≡ Some read.0) }
+        ensures weighable { IfOk result (λ read. IsWeighable self.now.measures (weight_of read.0)) }
+        ensures last { IfOk result (λ read. ended self.now.nodes ≡ read.1 ∷ []) }
+        ensures follows { OnOk result (may_follow self.now.last schema_word.End ≡ true) }
+        ensures accepted { OnOk result (front_fault self.now ≡ None) }
+        ensures refused { IfErr result (IsCause (front_fault self.now)) }
+    {
+        if !may_follow(self.last, SchemaWord::End) {
+            return Err(LineFault::Refused(Code::Order));
+        }
+        let ended = self.named_last.end(alloc)?;
+        match policy_among(&self.measures, &self.policy) {
+            Some(policy) => Ok((policy, ended.unwrap())),
+            None => Err(LineFault::Refused(Code::Policy)),
+        }
+    }
+
+    /// The name of a dimension that comes next, and the dimension that ends before it, if there is one.
+    fn read_dimension(&self, alloc: Global, line: &[u8]) -> Result<(Name, Option<Dim>), LineFault>
+        requires count { has_wrong_count self.now.version (fields_of line.now) schema_word.Dimension ≡ false }
+        ensures name { IfOk result (λ read. read.0 ≡ field_at (fields_of line.now) 1) }
+        ensures named { IfOk result (λ read. is_wrong_name read.0 self.now.names ≡ false) }
+        ensures ended { IfOk result (λ read. listed read.1 ≡ ended self.now.nodes) }
+        ensures room { OnOk result (length self.now.names < MAX_DIMS) }
+        ensures accepted { OnOk result (word_fault self.now (fields_of line.now) schema_word.Dimension ≡ None) }
+        ensures refused { IfErr result (IsCause (word_fault self.now (fields_of line.now) schema_word.Dimension)) }
+    {
+        let name = field_at(line, 1);
+        if is_wrong_name(name, &self.names) {
+            return Err(LineFault::Refused(Code::Name));
+        }
+        let ended = self.named_last.end(alloc)?;
+        if self.names.len() >= MAX_DIMS {
+            return Err(LineFault::Refused(Code::Limit));
+        }
+        Ok((name_of(alloc, name)?, ended))
+    }
+
+    /// What is said with a dimension more, where the last one, if there is one, ends before it.
+    fn with_named(mut self, name: Name, last: Option<Dim>) -> Result<Self, Memory>
+        requires follows { may_follow self.last schema_word.Dimension ≡ true }
+        requires named { is_wrong_name name self.names ≡ false }
+        requires ended { listed last ≡ ended self.nodes }
+        requires room { length self.names < MAX_DIMS }
+        ensures { IfOk result (λ next. next ≡ record self { last = Some schema_word.Dimension; names = self.names ++ name ∷ []; dims = dims_of self; nodes = [] }) }
+    {
+        push_dimension(&mut self.names, &mut self.dims, name, last)?;
+        self.named_last.clear();
         self.last = Some(SchemaWord::Dimension);
         Ok(self)
     }
 
-    /// What is said with a node more of the dimension that was named last.
-    fn with_node(mut self, alloc: Global, depth: &[u8], name: &[u8]) -> Result<Self, Memory>
-        requires follows { may_follow self.last schema_word.Node ≡ true }
-        requires named { is_wrong_name name.now (map (λ n. n.name) self.nodes) ≡ false }
-        requires number { is_none (number_in 0 MAX_DEPTH depth.now) ≡ false }
-        ensures { IfOk result (λ next. next ≡ record self { last = Some schema_word.Node; nodes = self.nodes ++ (record { depth = unwrap_or (number_in 0 MAX_DEPTH depth.now) 0; name = name.now }) ∷ [] }) }
+    /// What is said with a measure more, which may come next.
+    fn with_measure(mut self, word: SchemaWord, measure: Measure) -> Result<Self, Memory>
+        requires follows { may_follow self.last word ≡ true }
+        requires word { IsMeasureWord word }
+        requires measure { IsNextMeasure self.measures measure }
+        ensures { IfOk result (λ next. next ≡ record self { last = Some word; measures = self.measures ++ measure ∷ [] }) }
     {
-        let depth = number_in(depth, 0, u64::from(MAX_DEPTH)).unwrap() as u8;
-        let name = name_of(alloc, name)?;
-        add_known(alloc, &mut self.known, &name)?;
-        self.nodes.push(NodeLine { depth, name })?;
-        self.last = Some(SchemaWord::Node);
+        self.columns += width(&measure.kind);
+        self.measures.push(measure)?;
+        self.last = Some(word);
         Ok(self)
     }
 }
 
-/// Why a line of the version may not stand.
-fn version_fault(version: &[u8]) -> Option<Code>
-    ensures { result ≡ (if bytes_eq version.now (codes "1") then None else Some code.Number) }
+/// The word of a line that may follow another, or the first of the conditions that refuse it.
+fn word_in(last: Option<SchemaWord>, line: &[u8]) -> Result<SchemaWord, Code>
+    ensures { result ≡ word_in last line.now }
 {
-    if is_text(version, "1") {
-        None
-    } else {
-        Some(Code::Number)
+    if is_long(line) {
+        return Err(Code::Long);
+    }
+    let line = without_cr(line);
+    if !is_clean(line) {
+        return Err(Code::Text);
+    }
+    match word_named(field_at(line, 0)) {
+        Some(word) if may_follow(last, word) => Ok(word),
+        _ => Err(Code::Order),
     }
 }
 
-/// Why a line of a policy may not stand.
-fn policy_fault(policy: &[u8]) -> Option<Code>
-    ensures { result ≡ (if is_none (policy_named policy.now) then Some code.Policy else None) }
+/// Appends the name of a dimension, and the dimension that ends before it, if there is one.
+fn push_dimension(
+    names: &mut Vec<Name>,
+    dims: &mut Vec<Dim>,
+    name: Name,
+    last: Option<Dim>,
+) -> Result<(), Memory>
+    ensures names { OnOk result (names.new.items ≡ names.old.items ++ name ∷ []) }
+    ensures dims { OnOk result (dims.new.items ≡ dims.old.items ++ listed last) }
 {
-    match policy_named(policy) {
-        Some(_) => None,
-        None => Some(Code::Policy),
-    }
-}
-
-/// Whether bytes are the name of one of these measures.
-fn is_among_measures(bytes: &[u8], measures: &[Measure]) -> bool
-    ensures { result ≡ list_any (λ m. bytes_eq m.name bytes.now) measures.now }
-{
-    measures.iter().any(|measure| is_named(measure, bytes))
-}
-
-/// Whether these bytes are the name of a measure.
-fn is_named(measure: &Measure, bytes: &[u8]) -> bool
-    ensures { result ≡ bytes_eq measure.now.name bytes.now }
-{
-    has_bytes(&measure.name, bytes)
-}
-
-/// Keeps a name that is none of these.
-fn add_known(alloc: Global, known: &mut IndexSet<String>, name: &Name) -> Result<(), Memory>
-    requires { is_among_names name.now (map string_bytes known.old.keys) ≡ false }
-    ensures { OnOk result (map string_bytes known.new.keys ≡ map string_bytes known.old.keys ++ name.now ∷ []) }
-{
-    let is_new = known.insert(String::from_str(alloc, name.text())?)?;
-    prove!(is_new);
+    push_listed(dims, last)?;
+    names.push(name)?;
     Ok(())
 }
 
-/// Appends the dimension of these nodes, where there are any.
-fn end_dimension(alloc: Global, nodes: &[NodeLine], dims: &mut Vec<Dim>) -> Result<(), Memory>
-    ensures { OnOk result (dims.new.items ≡ dims.old.items ++ ended nodes.now) }
+/// Appends a dimension, if there is one.
+fn push_listed(dims: &mut Vec<Dim>, dim: Option<Dim>) -> Result<(), Memory>
+    ensures { OnOk result (dims.new.items ≡ dims.old.items ++ listed dim) }
 {
-    if !nodes.is_empty() {
-        dims.push(dim_of(alloc, nodes)?)?;
+    match dim {
+        Some(dim) => Ok(dims.push(dim)?),
+        None => Ok(()),
     }
-    Ok(())
 }
 
-/// The dimension of nodes that were accepted one by one, which are refused for want of memory alone.
-fn dim_of(alloc: Global, nodes: &[NodeLine]) -> Result<Dim, Memory>
-    ensures { IfOk result (λ dim. dim ≡ numbered nodes.now) }
+/// The schema of what accepted lines say, with the dimension that was named last.
+fn make_schema(
+    alloc: Global,
+    policy: PolicyWord,
+    measures: Vec<Measure>,
+    names: Vec<Name>,
+    mut dims: Vec<Dim>,
+    last: Dim,
+) -> Result<Schema, LineFault>
+    requires measures { AreMeasures measures.items }
+    requires kinds { All (λ m. IsKind m.kind) measures.items }
+    requires measure_names { All (λ m. is_name m.name ≡ true) measures.items }
+    requires weighable { IsWeighable measures.items (weight_of policy) }
+    requires names { AreNames names.items }
+    requires named { length names.items ≡ length dims.items + 1 }
+    requires few { length names.items ≤ MAX_DIMS }
+    ensures made { IfOk result (λ schema. schema ≡ record { policy = policy; measures = measures.items; names = names.items; dims = dims.items ++ last ∷ [] }) }
+    ensures accepted { OnOk result (size_fault (dims.items ++ last ∷ []) ≡ None) }
+    ensures refused { IfErr result (IsCause (size_fault (dims.items ++ last ∷ []))) }
 {
-    Dim::build(alloc, nodes).map_err(|_| Memory)
+    dims.push(last)?;
+    match Space::new(alloc, dims) {
+        Ok(space) => {
+            let shape = weigh_by(Shape::new(measures), policy);
+            Ok(Schema::new(space, shape, policy, Names::from(names)))
+        }
+        Err(SpaceFault::Dims { .. }) => unreachable!(),
+        Err(SpaceFault::Cells) => Err(LineFault::Refused(Code::Cells)),
+        Err(SpaceFault::Nodes) => Err(LineFault::Refused(Code::Nodes)),
+    }
 }

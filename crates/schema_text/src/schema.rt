@@ -1,8 +1,7 @@
 //! A schema: the policy, the measures and the named dimensions of a cube.
 ghost use Rattle.std.specs.Prelude.{◌≡◌, All, length, true};
 ghost use Rattle.cube_base.specs.Name.{is_name};
-ghost use Rattle.fact_records.specs.declared.shape.Kind.TheVariants as kind;
-ghost use Rattle.schema_text.specs.Schema.{AreNames, IsSchema};
+ghost use Rattle.schema_text.specs.Schema.{AreNames, IsKind, IsSchema, shape_of, weight_of};
 
 use crate::word::PolicyWord;
 use cube_base::{Code, Memory, Name, Names};
@@ -32,34 +31,38 @@ impl From<Memory> for SchemaFault {
 }
 
 /// A schema: the policy, the measures, and the dimensions with their names. It has 1 to 6 dimensions, which have distinct
-/// names and are a space, and its measures are number measures, 0 to 7 of them. Contracts see the policy, the list of the
-/// measures, the list of the dimensions' names and the list of the dimensions, each in the order of the text.
+/// names and are a space, and 0 to 7 measures, each of numbers or of distributions over 2 to 7 outcomes of distinct names.
+/// Contracts see the policy, the list of the measures, the list of the dimensions' names and the list of the dimensions,
+/// each in the order of the text.
 #[derive(Drop)]
 pub struct Schema {
     space: Space,
+    /// The measures; its weight is that of the policy.
     shape: Shape,
     policy: PolicyWord,
     dim_names: Names,
 }
 
 impl Model for Schema {
-    ghost use Rattle.schema_text.specs.Schema.{IsSchema, SchemaValue};
+    ghost use Rattle.std.specs.Prelude.{◌≡◌};
+    ghost use Rattle.schema_text.specs.Schema.{IsSchema, SchemaValue, weight_of};
 
     ghost Value = { SchemaValue };
 
-    ghost view = { λ s. record { policy = s.policy; measures = s.shape; names = s.dim_names; dims = s.space } };
+    ghost view = { λ s. record { policy = s.policy; measures = s.shape.measures; names = s.dim_names; dims = s.space } };
 
-    ghost invariant = { λ s. IsSchema (record { policy = s.policy; measures = s.shape; names = s.dim_names; dims = s.space }) };
+    ghost invariant = { λ s. IsSchema (record { policy = s.policy; measures = s.shape.measures; names = s.dim_names; dims = s.space }) × (s.shape.weight ≡ weight_of s.policy) };
 }
 
 impl Schema {
     /// The schema of these parts.
     pub(crate) fn new(space: Space, shape: Shape, policy: PolicyWord, dim_names: Names) -> Self
-        requires numbers { All (λ m. m.kind ≡ kind.Number) shape }
-        requires measure_names { All (λ m. is_name m.name ≡ true) shape }
+        requires weight { shape.weight ≡ weight_of policy }
+        requires kinds { All (λ m. IsKind m.kind) shape.measures }
+        requires measure_names { All (λ m. is_name m.name ≡ true) shape.measures }
         requires dim_names { AreNames dim_names }
         requires named { length dim_names ≡ length space }
-        ensures { result ≡ record { policy = policy; measures = shape; names = dim_names; dims = space } }
+        ensures { result ≡ record { policy = policy; measures = shape.measures; names = dim_names; dims = space } }
     {
         // What is known of every space and of every shape.
         let _ = space.dims();
@@ -80,9 +83,9 @@ impl Schema {
         &self.space
     }
 
-    /// The measures.
+    /// The measures, and the one by whose sum cells weigh, if they do.
     pub fn shape(&self) -> &Shape
-        ensures measures { result.now ≡ self.now.measures }
+        ensures shape { result.now ≡ shape_of self.now }
         ensures schema { IsSchema self.now }
     {
         &self.shape
@@ -90,7 +93,8 @@ impl Schema {
 
     /// The policy.
     pub fn policy(&self) -> PolicyWord
-        ensures { result ≡ self.now.policy }
+        ensures policy { result ≡ self.now.policy }
+        ensures schema { IsSchema self.now }
     {
         self.policy
     }

@@ -1,10 +1,9 @@
 //! The words that a schema is made of.
 ghost use Rattle.std.specs.Prelude.{◌≡◌};
-ghost use Rattle.cube_model.specs.Text.{fields_of};
-ghost use Rattle.schema_text.specs.SchemaText.{has_wrong_count, is_end, may_follow, policy_named, policy_word, word_named};
+ghost use Rattle.text_lines.specs.Text.{fields_of};
+ghost use Rattle.schema_text.specs.SchemaText.{has_wrong_count, is_end, is_weight_word, may_follow, node_field_count, policy_field_count, version_named, version_text, word_named};
 
-use crate::line::{field_count, without_cr};
-use crate::slices::is_text;
+use text_lines::{field_at, field_count, is_text, without_cr};
 
 /// The first field of a line of a schema.
 #[derive(Clone, Copy, Debug, PartialEq, Eq)]
@@ -15,6 +14,8 @@ pub enum SchemaWord {
     Policy,
     /// A number measure.
     Number,
+    /// A measure of distributions.
+    Parts,
     /// A dimension, whose nodes follow.
     Dimension,
     /// A node of the dimension that was named last.
@@ -23,13 +24,24 @@ pub enum SchemaWord {
     End,
 }
 
-/// The policy that a schema names.
+/// The version of a schema's text.
+#[derive(Clone, Copy, Debug, PartialEq, Eq)]
+pub enum Version {
+    /// The number of each node is its place in its dimension.
+    One,
+    /// The line of a node gives its number.
+    Two,
+}
+
+/// How the cells of a schema weigh.
 #[derive(Clone, Copy, Debug, PartialEq, Eq)]
 pub enum PolicyWord {
     /// Every cell weighs the same.
     Uniform,
     /// A cell weighs as much as it has precise facts.
     Count,
+    /// A cell weighs the sum of the number measure at this place over its precise facts.
+    Weight(u32),
 }
 
 /// The word that bytes spell.
@@ -42,6 +54,8 @@ pub fn word_named(bytes: &[u8]) -> Option<SchemaWord>
         Some(SchemaWord::Policy)
     } else if is_text(bytes, "number") {
         Some(SchemaWord::Number)
+    } else if is_text(bytes, "parts") {
+        Some(SchemaWord::Parts)
     } else if is_text(bytes, "dimension") {
         Some(SchemaWord::Dimension)
     } else if is_text(bytes, "node") {
@@ -60,27 +74,34 @@ pub fn is_end(line: &[u8]) -> bool
     is_text(without_cr(line), "end")
 }
 
-/// The policy that bytes name.
-pub fn policy_named(bytes: &[u8]) -> Option<PolicyWord>
-    ensures { result ≡ policy_named bytes.now }
+/// The version that bytes name.
+pub fn version_named(bytes: &[u8]) -> Option<Version>
+    ensures { result ≡ version_named bytes.now }
 {
-    if is_text(bytes, "uniform") {
-        Some(PolicyWord::Uniform)
-    } else if is_text(bytes, "count") {
-        Some(PolicyWord::Count)
+    if is_text(bytes, "1") {
+        Some(Version::One)
+    } else if is_text(bytes, "2") {
+        Some(Version::Two)
     } else {
         None
     }
 }
 
-/// The word of a policy.
-pub fn policy_word(policy: PolicyWord) -> &'static str
-    ensures { result.now ≡ policy_word policy }
+/// How a version is spelled.
+pub fn version_text(version: Version) -> &'static str
+    ensures { result.now ≡ version_text version }
 {
-    match policy {
-        PolicyWord::Uniform => "uniform",
-        PolicyWord::Count => "count",
+    match version {
+        Version::One => "1",
+        Version::Two => "2",
     }
+}
+
+/// Whether bytes name the policy that takes the name of a measure.
+pub fn is_weight_word(bytes: &[u8]) -> bool
+    ensures { result ≡ is_weight_word bytes.now }
+{
+    is_text(bytes, "weight")
 }
 
 /// Whether a line of a word may stand behind one of another; `None` stands for no line.
@@ -90,8 +111,8 @@ pub fn may_follow(before: Option<SchemaWord>, word: SchemaWord) -> bool
     match before {
         None => word == SchemaWord::Cube,
         Some(SchemaWord::Cube) => word == SchemaWord::Policy,
-        Some(SchemaWord::Policy) | Some(SchemaWord::Number) => {
-            word == SchemaWord::Number || word == SchemaWord::Dimension
+        Some(SchemaWord::Policy) | Some(SchemaWord::Number) | Some(SchemaWord::Parts) => {
+            word == SchemaWord::Number || word == SchemaWord::Parts || word == SchemaWord::Dimension
         }
         Some(SchemaWord::Dimension) => word == SchemaWord::Node,
         Some(SchemaWord::Node) => {
@@ -101,16 +122,33 @@ pub fn may_follow(before: Option<SchemaWord>, word: SchemaWord) -> bool
     }
 }
 
-/// Whether a line of a word has too few or too many fields.
-pub fn has_wrong_count(line: &[u8], word: SchemaWord) -> bool
-    ensures { result ≡ has_wrong_count (fields_of line.now) word }
+/// Whether a line of a word has too few or too many fields in a version.
+pub fn has_wrong_count(version: Version, line: &[u8], word: SchemaWord) -> bool
+    ensures { result ≡ has_wrong_count version (fields_of line.now) word }
 {
     let count = field_count(line);
     match word {
-        SchemaWord::Cube | SchemaWord::Policy | SchemaWord::Number | SchemaWord::Dimension => {
-            count != 2
-        }
-        SchemaWord::Node => count != 3,
+        SchemaWord::Cube | SchemaWord::Number | SchemaWord::Dimension => count != 2,
+        SchemaWord::Policy => count != policy_field_count(field_at(line, 1)),
+        SchemaWord::Parts => count < 5 || count > 10,
+        SchemaWord::Node => count != node_field_count(version),
         SchemaWord::End => count != 1,
+    }
+}
+
+/// The number of fields of the line of a policy of this word.
+fn policy_field_count(word: &[u8]) -> usize
+    ensures { result ≡ policy_field_count word.now }
+{
+    if is_weight_word(word) { 3 } else { 2 }
+}
+
+/// The number of fields of the line of a node in a version.
+fn node_field_count(version: Version) -> usize
+    ensures { result ≡ node_field_count version }
+{
+    match version {
+        Version::One => 3,
+        Version::Two => 4,
     }
 }

@@ -1,18 +1,19 @@
 //! Writing a schema.
-ghost use Rattle.std.specs.Prelude.{◌≡◌, ◌<◌, ◌++◌, ◌∷◌, [], ℕ, List, Ok, codes, length, IfOk, OnOk};
+ghost use Rattle.std.specs.Prelude.{◌≡◌, ◌<◌, ◌+◌, ◌++◌, ◌∷◌, [], ℕ, List, Ok, Some, codes, length, map, slice_get, IfOk, OnOk};
 ghost use Rattle.std.specs.Fmt.{decimal};
-ghost use Rattle.std.specs.List.{flat_map};
-ghost use Rattle.cube_model.specs.Text.{line_text};
-ghost use Rattle.schema_text.specs.SchemaText.{dims_text, measure_line, node_line, schema_of, schema_text};
-
-#[cfg(test)]
-mod tests;
+ghost use Rattle.std.specs.List.{flat_map, list_all};
+ghost use Rattle.std.specs.Option.{option_map};
+ghost use Rattle.cube_model.specs.Tree.{IsTree, entry_of};
+ghost use Rattle.text_lines.specs.Text.{line_text};
+ghost use Rattle.schema_text.specs.Schema.{IsSchema};
+ghost use Rattle.schema_text.specs.SchemaText.{are_places_from, dims_text, measure_line, node_line, number_fields, policy_fields, policy_line, schema_of, schema_text, version_of};
 
 use crate::schema::Schema;
-use crate::word::policy_word;
-use cube_base::{Bytes, Memory, Name};
+use crate::word::{PolicyWord, Version, version_text};
+use cube_base::{Bytes, Memory, Name, Names};
 use dim_tree::Dim;
-use fact_records::Shape;
+use fact_records::{Kind, Measure, Shape};
+use itoa::Buffer;
 use region_algebra::Space;
 use std::alloc::Global;
 
@@ -22,61 +23,139 @@ pub fn write_schema(alloc: Global, s: &Schema) -> Result<Bytes, Memory>
     ensures text { IfOk result (λ text. text ≡ schema_text s.now) }
     ensures reads { IfOk result (λ text. (rest : List ℕ) → schema_of (text ++ rest) ≡ Ok (record { schema = s.now; size = length text })) }
 {
+    let version = version_of(s.space());
     let mut out = Vec::new(alloc);
-    append_line(&mut out, "cube", b"1")?;
-    append_line(&mut out, "policy", policy_word(s.policy()).as_bytes())?;
+    append_line(&mut out, "cube", version_text(version).as_bytes())?;
+    append_policy(&mut out, s)?;
     append_measures(&mut out, s.shape())?;
-    append_dims(&mut out, s.space(), s.dim_names())?;
+    append_dims(&mut out, version, s.space(), s.dim_names())?;
     out.extend_from_slice(b"end\n")?;
     Ok(Bytes::from(out))
 }
 
+/// The version of the text: 1 where in each dimension each node's number is its place.
+fn version_of(space: &Space) -> Version
+    ensures { result ≡ version_of space.now }
+{
+    for d in 0..space.dims() {
+        if !has_places(space.dim(d)) {
+            return Version::Two;
+        }
+    }
+    Version::One
+}
+
+/// Whether each node's number is its place.
+fn has_places(dim: &Dim) -> bool
+    ensures { result ≡ are_places_from 0 dim.now }
+{
+    for place in 0..dim.len() {
+        if dim.at(place) != place {
+            return false;
+        }
+    }
+    true
+}
+
 // Each of the following appends what it says, or, where memory is wanting, a part of it.
+
+/// Appends the line of the policy.
+fn append_policy(out: &mut Vec<u8>, s: &Schema) -> Result<(), Memory>
+    ensures { OnOk result (out.new.items ≡ out.old.items ++ policy_line s.now.measures s.now.policy) }
+{
+    out.extend_from_slice(b"policy")?;
+    append_policy_fields(out, s)?;
+    end_line(out)
+}
+
+/// Appends the fields of the policy.
+fn append_policy_fields(out: &mut Vec<u8>, s: &Schema) -> Result<(), Memory>
+    ensures { OnOk result (out.new.items ≡ out.old.items ++ flat_map (λ field. 9 ∷ field) (policy_fields s.now.measures s.now.policy)) }
+{
+    match s.policy() {
+        PolicyWord::Uniform => append_field(out, b"uniform"),
+        PolicyWord::Count => append_field(out, b"count"),
+        PolicyWord::Weight(place) => {
+            append_field(out, b"weight")?;
+            append_field(out, s.shape().measure(place).name.text().as_bytes())
+        }
+    }
+}
 
 /// Appends the lines of the measures.
 fn append_measures(out: &mut Vec<u8>, shape: &Shape) -> Result<(), Memory>
-    ensures { OnOk result (out.new.items ≡ out.old.items ++ flat_map measure_line shape.now) }
+    ensures { OnOk result (out.new.items ≡ out.old.items ++ flat_map measure_line shape.now.measures) }
 {
     for i in 0..shape.len() {
-        let name = shape.measure(i).name.text();
-        append_line(out, "number", name.as_bytes())?;
+        append_measure(out, shape.measure(i))?;
     }
     Ok(())
 }
 
+/// Appends the line of a measure.
+fn append_measure(out: &mut Vec<u8>, measure: &Measure) -> Result<(), Memory>
+    ensures { OnOk result (out.new.items ≡ out.old.items ++ measure_line measure.now) }
+{
+    let name = measure.name.text().as_bytes();
+    match &measure.kind {
+        Kind::Number => append_line(out, "number", name),
+        Kind::Parts { scale, outcomes } => {
+            out.extend_from_slice(b"parts")?;
+            append_field(out, name)?;
+            append_number(out, *scale)?;
+            append_names(out, outcomes)?;
+            end_line(out)
+        }
+    }
+}
+
 /// Appends the lines of the dimensions and their nodes.
-fn append_dims(out: &mut Vec<u8>, space: &Space, names: &[Name]) -> Result<(), Memory>
+fn append_dims(
+    out: &mut Vec<u8>,
+    version: Version,
+    space: &Space,
+    names: &[Name],
+) -> Result<(), Memory>
     requires { length names.now ≡ length space.now }
-    ensures { OnOk result (out.new.items ≡ out.old.items ++ dims_text names.now space.now) }
+    ensures { OnOk result (out.new.items ≡ out.old.items ++ dims_text version names.now space.now) }
 {
     for d in 0..space.dims() {
         append_line(out, "dimension", names[d as usize].text().as_bytes())?;
-        append_nodes(out, space.dim(d))?;
+        append_nodes(out, version, space.dim(d))?;
     }
     Ok(())
 }
 
 /// Appends the lines of the nodes of a dimension.
-fn append_nodes(out: &mut Vec<u8>, dim: &Dim) -> Result<(), Memory>
-    ensures { OnOk result (out.new.items ≡ out.old.items ++ flat_map node_line dim.now) }
+fn append_nodes(out: &mut Vec<u8>, version: Version, dim: &Dim) -> Result<(), Memory>
+    ensures { OnOk result (out.new.items ≡ out.old.items ++ flat_map (node_line version) dim.now) }
 {
-    for node in 0..dim.len() {
-        append_node(out, dim.depth(node), dim.name_of(node))?;
+    for place in 0..dim.len() {
+        append_node(out, version, dim, dim.at(place))?;
     }
     Ok(())
 }
 
 /// Appends the line of a node.
-fn append_node(out: &mut Vec<u8>, depth: u8, name: &str) -> Result<(), Memory>
-    requires { depth < 10 }
-    ensures { OnOk result (out.new.items ≡ out.old.items ++ line_text (codes "node") (decimal depth ∷ name.now ∷ [])) }
+fn append_node(out: &mut Vec<u8>, version: Version, dim: &Dim, node: u32) -> Result<(), Memory>
+    requires { node < length dim.now }
+    ensures { OnOk result (option_map (λ e. out.old.items ++ node_line version e) (entry_of dim.now node) ≡ Some out.new.items) }
 {
-    out.extend_from_slice(b"node\t")?;
-    out.push(b'0' + depth)?;
-    out.push(b'\t')?;
-    out.extend_from_slice(name.as_bytes())?;
-    out.push(b'\n')?;
-    Ok(())
+    out.extend_from_slice(b"node")?;
+    append_number(out, u32::from(dim.depth(node)))?;
+    append_field(out, dim.name_of(node).as_bytes())?;
+    append_number_of(out, version, node)?;
+    end_line(out)
+}
+
+/// Appends the number of a node, where the version has it.
+fn append_number_of(out: &mut Vec<u8>, version: Version, node: u32) -> Result<(), Memory>
+    ensures { OnOk result (out.new.items ≡ out.old.items ++ flat_map (λ field. 9 ∷ field) (number_fields version node)) }
+{
+    match version {
+        Version::One => Ok(()),
+        Version::Two => append_number(out, node),
+    }
 }
 
 /// Appends a line of a word and a field.
@@ -84,8 +163,40 @@ fn append_line(out: &mut Vec<u8>, word: &str, field: &[u8]) -> Result<(), Memory
     ensures { OnOk result (out.new.items ≡ out.old.items ++ line_text word.now (field.now ∷ [])) }
 {
     out.extend_from_slice(word.as_bytes())?;
+    append_field(out, field)?;
+    end_line(out)
+}
+
+/// Appends a field for each name.
+fn append_names(out: &mut Vec<u8>, names: &Names) -> Result<(), Memory>
+    ensures { OnOk result (out.new.items ≡ out.old.items ++ flat_map (λ name. 9 ∷ name) names.now) }
+{
+    for name in names.as_slice() {
+        append_field(out, name.text().as_bytes())?;
+    }
+    Ok(())
+}
+
+/// Appends a field behind those of the line.
+fn append_field(out: &mut Vec<u8>, field: &[u8]) -> Result<(), Memory>
+    ensures { OnOk result (out.new.items ≡ out.old.items ++ 9 ∷ field.now) }
+{
     out.push(b'\t')?;
     out.extend_from_slice(field)?;
+    Ok(())
+}
+
+/// Appends a number as a field.
+fn append_number(out: &mut Vec<u8>, number: u32) -> Result<(), Memory>
+    ensures { OnOk result (out.new.items ≡ out.old.items ++ 9 ∷ decimal number) }
+{
+    append_field(out, Buffer::new().format(number).as_bytes())
+}
+
+/// Ends the line.
+fn end_line(out: &mut Vec<u8>) -> Result<(), Memory>
+    ensures { OnOk result (out.new.items ≡ out.old.items ++ 10 ∷ []) }
+{
     out.push(b'\n')?;
     Ok(())
 }

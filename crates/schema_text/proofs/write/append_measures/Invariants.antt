@@ -5,4 +5,4 @@ use Rattle.schema_text.proofs.write.append_measures.Given as goal
 
 -- the lines of the measures before this one are appended
 abbrev pub invariant-loop-i : goal.invariant-loop-i
-invariant-loop-i l = l.out.items ≡ l.initial.out.items ++ flat_map measure_line (take l.i l.shape)
+invariant-loop-i l = l.out.items ≡ l.initial.out.items ++ flat_map measure_line (take l.i l.shape.measures)

@@ -1,8 +1,10 @@
--- A depth below ten is one digit.
-use Rattle.schema_text.proofs.Writing.{node_pieces}
+-- The line of a node, piece by piece.
+use Rattle.std.proofs.Common.{◌≡◌, [], ◌∷◌, ◌++◌}
+use Rattle.std.proofs.lemmas.Result.{on_ok_weaker}
+use Rattle.schema_text.proofs.Writing.{node-appended}
 use Rattle.schema_text.proofs.write.append_node.Goals as goal
 
 pub returns : goal.returns
-returns c =
-    rw (c.in_ok-push-3.ensures.items, c.in_ok-extend_from_slice-2.ensures.items, c.as_bytes.ensures.value, c.in_ok-push-2.ensures.items, c.in_ok-push.ensures.items, c.in_ok-extend_from_slice.ensures.items)
-    (node_pieces c.args.out.now.items c.args.name.now c.args.depth c.requires)
+returns c = on_ok_weaker c.end_line.result (λ (ended : c.end_line.new.out.items ≡ c.append_number_of.new.out.items ++ 10 ∷ []).
+    rw (ended, c.in_ok-append_number_of.ensures, c.in_ok-append_field.ensures, c.as_bytes.ensures.value, c.in_ok-append_number.ensures, c.from.ensures, c.in_ok-extend_from_slice.ensures.items)
+    (node-appended c.args.version c.args.out.now.items c.args.dim.now c.args.node c.depth.result c.name_of.result.now c.depth.ensures.depth c.name_of.ensures)) c.end_line.ensures

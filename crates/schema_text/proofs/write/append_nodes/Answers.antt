@@ -2,7 +2,7 @@
 use Rattle.schema_text.proofs.Writing.{appended, nodes-more}
 use Rattle.schema_text.proofs.write.append_nodes.Goals as goal
 
-pub loop-node-preserved : goal.loop-node-preserved
-loop-node-preserved c =
-    appended _ _ _ _ _ _ c.loop-node.invariant c.in_ok-append_node.ensures
-    (nodes-more c.args.dim.now c.loop-node.node c.depth.result c.name_of.result.now c.len-node-end.ensures.tree c.depth.ensures.depth c.name_of.ensures)
+pub loop-place-preserved : goal.loop-place-preserved
+loop-place-preserved c =
+    let more = nodes-more c.args.version c.args.dim.now c.loop-place.place c.at.result c.loop-place.out.items c.append_node.new.out.items c.len-place-end.ensures.tree c.at.ensures.number c.in_ok-append_node.ensures in
+    appended _ _ _ _ _ _ c.loop-place.invariant more.1 more.2

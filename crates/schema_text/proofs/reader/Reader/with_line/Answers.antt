@@ -1,33 +1,32 @@
--- What is required of a line of a word was judged with the line.
-use Rattle.std.proofs.Common.{◌≡◌, Some, None}
-use Rattle.cube_model.specs.Text.{fields_of}
-use Rattle.schema_text.specs.declared.word.SchemaWord.TheVariants.{Number, Dimension, Node, End}
-use Rattle.schema_text.specs.LineText.{field_at, without_cr}
-use Rattle.schema_text.specs.SchemaText.{word_named}
-use Rattle.schema_text.proofs.LineFaults.{IsAccepted-word, word-accepted, no_end}
+-- A line is judged by its word, where it has one that may stand there.
+use Rattle.std.proofs.Common.{sym, ap, ◌∙◌, Some}
+use Rattle.schema_text.proofs.LineFaults.{end-one_field}
+use Rattle.schema_text.proofs.LineWords.{HasWord, HasWord-in, line_fault-none, line_fault-word, with_line-word}
 use Rattle.schema_text.proofs.reader.Reader.with_line.Goals as goal
 
-pub with_measure-requires-clause-named : goal.with_measure-requires-clause-named
-with_measure-requires-clause-named c =
-    let named : word_named (field_at (fields_of (without_cr c.args.line.now)) 0) ≡ Some Number = cc in
-    rw (c.field_at-in-Some-Number.ensures, c.without_cr-line.ensures) (IsAccepted-word c.args.self c.args.line.now Number c.requires.accepted named).name
+pub with_word-requires-clause-follows : goal.with_word-requires-clause-follows
+with_word-requires-clause-follows c = rw (← c.self.view_is) (HasWord-in c.self.inside.last c.args.line.now c.in-Ok.word (sym c.word_in.ensures ∙ c.in-Ok.is)).follows
 
-pub with_dimension-requires-clause-named : goal.with_dimension-requires-clause-named
-with_dimension-requires-clause-named c =
-    let named : word_named (field_at (fields_of (without_cr c.args.line.now)) 0) ≡ Some Dimension = cc in
-    rw (c.field_at-in-Some-Dimension.ensures, c.without_cr-line.ensures) (IsAccepted-word c.args.self c.args.line.now Dimension c.requires.accepted named).name
+pub with_word-requires-clause-goes_on : goal.with_word-requires-clause-goes_on
+with_word-requires-clause-goes_on c =
+    λ is one.
+    let has = HasWord-in c.self.inside.last c.args.line.now c.in-Ok.word (sym c.word_in.ensures ∙ c.in-Ok.is) in
+    end-one_field c.args.line.now c.requires (has.named ∙ ap (λ w. Some w) is) (rw c.without_cr.ensures at one)
 
-pub with_node-requires-clause-number : goal.with_node-requires-clause-number
-with_node-requires-clause-number c =
-    let named : word_named (field_at (fields_of (without_cr c.args.line.now)) 0) ≡ Some Node = cc in
-    rw (c.field_at-in-Some-Node.ensures, c.without_cr-line.ensures) (IsAccepted-word c.args.self c.args.line.now Node c.requires.accepted named).number
+pub returns-in-Ok-clause-made : goal.returns-in-Ok-clause-made
+returns-in-Ok-clause-made c =
+    let has : HasWord c.args.self.last c.args.line.now c.in-Ok.word = rw (← c.self.view_is) (HasWord-in c.self.inside.last c.args.line.now c.in-Ok.word (sym c.word_in.ensures ∙ c.in-Ok.is)) in
+    rw (with_line-word c.args.self c.args.line.now c.in-Ok.word has) (rw c.without_cr.ensures at c.with_word.ensures.made)
 
-pub unreachable-requires : goal.unreachable-requires
-unreachable-requires c =
-    let named : word_named (field_at (fields_of (without_cr c.args.line.now)) 0) ≡ Some End = cc in
-    no_end c.args.self c.args.line.now c.requires.goes_on c.requires.accepted named
+pub returns-in-Ok-clause-accepted : goal.returns-in-Ok-clause-accepted
+returns-in-Ok-clause-accepted c =
+    let has : HasWord c.args.self.last c.args.line.now c.in-Ok.word = rw (← c.self.view_is) (HasWord-in c.self.inside.last c.args.line.now c.in-Ok.word (sym c.word_in.ensures ∙ c.in-Ok.is)) in
+    rw (line_fault-word c.args.self c.args.line.now c.in-Ok.word has) (rw c.without_cr.ensures at c.with_word.ensures.accepted)
 
-pub unreachable-requires-in-None : goal.unreachable-requires-in-None
-unreachable-requires-in-None c =
-    let named : word_named (field_at (fields_of (without_cr c.args.line.now)) 0) ≡ None = cc in
-    word-accepted c.args.self c.args.line.now c.requires.accepted named
+pub returns-in-Ok-clause-refused : goal.returns-in-Ok-clause-refused
+returns-in-Ok-clause-refused c =
+    let has : HasWord c.args.self.last c.args.line.now c.in-Ok.word = rw (← c.self.view_is) (HasWord-in c.self.inside.last c.args.line.now c.in-Ok.word (sym c.word_in.ensures ∙ c.in-Ok.is)) in
+    rw (line_fault-word c.args.self c.args.line.now c.in-Ok.word has) (rw c.without_cr.ensures at c.with_word.ensures.refused)
+
+pub returns-in-Err-clause-refused : goal.returns-in-Err-clause-refused
+returns-in-Err-clause-refused c = line_fault-none c.args.self c.args.line.now c.in-Err.code (rw (← c.self.view_is) (sym c.word_in.ensures ∙ c.in-Err.is))
