@@ -1,10 +1,4 @@
-pub mod AcceptedValues
 pub mod Appending
-pub mod Cuts
-pub mod FieldWalks
-pub mod GivenValues
 pub mod LineSteps
-pub mod NodeFields
 pub mod RowNames
 pub mod TermsAt
-pub mod ValueFields

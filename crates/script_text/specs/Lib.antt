@@ -1,6 +1,5 @@
-pub mod FieldsLeft
+pub mod Examples
 pub mod LineOf
 pub mod Reply
 pub mod ReplySteps
 pub mod ScriptLine
-pub mod Steps

@@ -6,7 +6,7 @@ use Rattle.std.specs.Fmt.{decimal, signed_decimal}
 use Rattle.cube_base.specs.Code.{word_of}
 use Rattle.cube_model.specs.declared.term.Term.{Term}
 use Rattle.cube_model.specs.Cells.{AreRows, all_cells}
-use Rattle.cube_model.specs.Text.{line_text}
+use Rattle.text_lines.specs.Text.{line_text}
 use Rattle.cube_model.specs.Tree.{Dimension, entry_of}
 use Rattle.script_text.specs.declared.reply.Reply.{Reply}
 use Rattle.script_text.specs.declared.reply.Reply.TheVariants.{Ok, Error, Terms, Rows}

@@ -3,9 +3,6 @@ ghost use Rattle.std.specs.Prelude.{◌≡◌, ◌++◌, IfOk, OnOk, OnErr};
 ghost use Rattle.script_text.specs.Reply.{NamesCells, fields_of_reply, reply_text, word_of_reply};
 ghost use Rattle.script_text.specs.ReplySteps.{Keeps, fields_text};
 
-#[cfg(test)]
-mod tests;
-
 use crate::reply_fields::{append_field, append_number};
 use crate::reply_rows::append_rows;
 use crate::reply_terms::append_terms;

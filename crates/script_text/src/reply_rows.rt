@@ -1,7 +1,7 @@
 //! The fields of a reply with rows.
-ghost use Rattle.std.specs.Prelude.{◌≡◌, ◌++◌, ◌<◌, true, length, OnOk, OnErr};
+ghost use Rattle.std.specs.Prelude.{◌≡◌, ◌++◌, ◌<◌, length, OnOk, OnErr};
 ghost use Rattle.cube_model.specs.Cells.{AreRows, all_cells};
-ghost use Rattle.region_algebra.specs.Space.{is_region};
+ghost use Rattle.region_algebra.specs.Space.{IsRegion};
 ghost use Rattle.script_text.specs.Reply.{names_of, row_fields, rows_fields};
 ghost use Rattle.script_text.specs.ReplySteps.{Keeps, fields_text};
 
@@ -41,7 +41,7 @@ fn append_row(text: &mut Vec<u8>, space: &Space, row: (u64, u64)) -> Result<(), 
 
 /// Appends the names of a region's nodes.
 fn append_names(text: &mut Vec<u8>, space: &Space, region: Region) -> Result<(), Memory>
-    requires { is_region space.now region ≡ true }
+    requires { IsRegion space.now region }
     ensures ok { OnOk result (text.new.items ≡ text.old.items ++ fields_text (names_of space.now region)) }
     ensures err { OnErr result (Keeps text.old.items text.new.items) }
 {

@@ -4,18 +4,18 @@ use Rattle.script_text.proofs.LineSteps.{line_of-clean, line_of-long, line_of-no
 use Rattle.script_text.proofs.line_reader.read_over.Goals as goal
 
 pub returns-then-is_skipped-clause-line : goal.returns-then-is_skipped-clause-line
-returns-then-is_skipped-clause-line c = line_of-skipped c.args.space.now c.args.shape.now c.args.line.now (sym c.if-is_skipped.true ∙ c.is_skipped.ensures)
+returns-then-is_skipped-clause-line c = line_of-skipped c.args.schema.now c.args.line.now (sym c.if-is_skipped.true ∙ c.is_skipped.ensures)
 
 pub returns-then-is_long-clause-line : goal.returns-then-is_long-clause-line
 returns-then-is_long-clause-line c =
-    line_of-long c.args.space.now c.args.shape.now c.args.line.now (sym c.if-is_skipped.false ∙ c.is_skipped.ensures) (sym c.if-is_long.true ∙ c.is_long.ensures)
+    line_of-long c.args.schema.now c.args.line.now (sym c.if-is_skipped.false ∙ c.is_skipped.ensures) (sym c.if-is_long.true ∙ c.is_long.ensures)
 
 pub returns-in-Some-clause-line : goal.returns-in-Some-clause-line
 returns-in-Some-clause-line c =
     c.read_text.ensures.line
-    ∙ line_of-clean c.args.space.now c.args.shape.now c.args.line.now c.in-Some.text.now (sym c.if-is_skipped.false ∙ c.is_skipped.ensures) (sym c.if-is_long.false ∙ c.is_long.ensures) (rw c.without_cr.ensures at c.in-Some.ensures.clean)
+    ∙ line_of-clean c.args.schema.now c.args.line.now c.in-Some.text.now (sym c.if-is_skipped.false ∙ c.is_skipped.ensures) (sym c.if-is_long.false ∙ c.is_long.ensures) (rw c.without_cr.ensures at c.in-Some.ensures.clean)
     (c.in-Some.ensures.text ∙ c.without_cr.ensures)
 
 pub returns-in-None-clause-line : goal.returns-in-None-clause-line
 returns-in-None-clause-line c =
-    line_of-not_clean c.args.space.now c.args.shape.now c.args.line.now (sym c.if-is_skipped.false ∙ c.is_skipped.ensures) (sym c.if-is_long.false ∙ c.is_long.ensures) (rw c.without_cr.ensures at c.in-None.ensures.clean)
+    line_of-not_clean c.args.schema.now c.args.line.now (sym c.if-is_skipped.false ∙ c.is_skipped.ensures) (sym c.if-is_long.false ∙ c.is_long.ensures) (rw c.without_cr.ensures at c.in-None.ensures.clean)

@@ -1,0 +1,21 @@
+use Rattle.std.proofs.Common.{refl}
+use Rattle.std.specs.Str.{chars, is_utf8}
+use Rattle.std.specs.Char.{encode_utf8}
+use Rattle.script_text.specs.ScriptLine.{line_of}
+use Rattle.script_text.proofs.laws.worked_refusals.Goals as goal
+
+-- the definitions compute it
+pub returns : goal.returns
+unfolding line_of is_utf8 chars encode_utf8
+returns c = record {
+  long = refl;
+  not_long = refl;
+  text = refl;
+  command = refl;
+  fields = refl;
+  id = refl;
+  node = refl;
+  value = refl;
+  parts = refl;
+  negative = refl;
+}

@@ -1,0 +1,14 @@
+use Rattle.std.proofs.Common.{refl}
+use Rattle.std.specs.Fmt.{digits}
+use Rattle.cube_model.specs.Cells.{all_cells}
+use Rattle.cube_model.specs.Tree.{is_leaf, leaves, parent, path}
+use Rattle.script_text.proofs.laws.worked_replies.Goals as goal
+
+-- the definitions compute it
+pub returns : goal.returns
+unfolding digits all_cells is_leaf leaves parent path
+returns c = record {
+  no_terms = refl;
+  terms = refl;
+  rows = refl;
+}
