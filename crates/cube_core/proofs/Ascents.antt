@@ -1,11 +1,13 @@
 -- Facts in order of their ids, one after another, and what edits do to their number.
-use Rattle.std.proofs.Common.{◌≡◌, ℕ, suc, ◌+◌, ◌<◌, ◌≤◌, Bool, true, false, List, [], ◌∷◌, ◌++◌, length, refl, ap, ◌∙◌, arith, length-append}
+use Rattle.std.proofs.Common.{◌≡◌, ℕ, suc, ◌+◌, ◌<◌, ◌≤◌, Bool, true, false, List, [], ◌∷◌, ◌++◌, length, map, refl, ap, ◌∙◌, arith, length-append}
 use Rattle.std.specs.Prelude.{All, filter, nat_lt, not, ◌==◌}
 use Rattle.std.proofs.lemmas.Bool.Decides.{nat_tests}
 use Rattle.std.proofs.lemmas.List.Elements.{All-cons, All-head, All-nil, All-tail, All-weaker}
 use Rattle.std.proofs.lemmas.List.Folds.{list_any_none}
 use Rattle.cube_model.specs.declared.edit.Fact.{Fact}
+use Rattle.cube_model.specs.Ascending.{ascends_from}
 use Rattle.cube_model.specs.Facts.{has_id, put, withdraw}
+use Rattle.cube_model.proofs.Ascending.{ascends_cons, ascends_filter, ascends_map}
 use Rattle.fact_records.specs.FactList.{IsAscending}
 
 -- the first has a smaller id than the others, and these ascend
@@ -19,6 +21,20 @@ ascending-rest fact facts up i j d before within = up (suc i) (suc j) d (omega a
 pub first-alone : (fact : Fact) (facts : List Fact) → IsAscending (fact ∷ facts) → has_id fact.id facts ≡ false
 first-alone fact facts up =
     list_any_none (λ f. f.id == fact.id) facts (All-weaker (λ f. fact.id < f.id) (λ f. (f.id == fact.id) ≡ false) (λ f above. grind (arith, nat_tests)) facts (ascending-first fact facts up))
+
+-- so their ids ascend
+ascends_ids : (least : ℕ) (facts : List Fact) → IsAscending facts → All (λ f. least ≤ f.id) facts → ascends_from (λ f. f.id) least facts ≡ true
+ascends_ids least [] up from = refl
+ascends_ids least (fact ∷ facts) up from =
+    ascends_cons (λ (f : Fact). f.id) least fact facts
+    (record {
+      from = All-head (λ (f : Fact). least ≤ f.id) fact facts from;
+      others = ascends_ids (fact.id + 1) facts (ascending-rest fact facts up) (All-weaker (λ f. fact.id < f.id) (λ f. fact.id + 1 ≤ f.id) (λ f above. omega (arith, above)) facts (ascending-first fact facts up));
+    })
+
+-- and so do those of some of them
+pub ascends_kept : (least : ℕ) (p : Fact → Bool) (facts : List Fact) → IsAscending facts → All (λ f. least ≤ f.id) facts → ascends_from (λ id. id) least (map (λ f. f.id) (filter p facts)) ≡ true
+ascends_kept least p facts up from = ascends_map (λ id. id) (λ (f : Fact). f.id) least (filter p facts) ∙ ascends_filter (λ (f : Fact). f.id) p least facts (ascends_ids least facts up from)
 
 -- edits and the number of facts
 two_parts-le : (id : ℕ) (facts : List Fact) → length (filter (λ f. nat_lt f.id id) facts) + length (filter (λ f. nat_lt id f.id) facts) ≤ length facts

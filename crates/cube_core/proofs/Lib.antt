@@ -1,7 +1,6 @@
 pub mod AddingUp
 pub mod Ascents
 pub mod Counting
-pub mod Judging
 pub mod Keeping
 pub mod Moderation
 pub mod Refreshing

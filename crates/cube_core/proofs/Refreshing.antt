@@ -6,12 +6,11 @@ use Rattle.std.specs.Option.{option_map, option_map_or}
 use Rattle.std.proofs.lemmas.Bool.Decides.{nat_tests}
 use Rattle.std.proofs.lemmas.List.Elements.{All-head, All-tail}
 use Rattle.cube_model.specs.declared.edit.Fact.{Fact}
-use Rattle.cube_model.specs.Allocation.{Allocation, Policy, allocation, extended}
+use Rattle.cube_model.specs.Allocation.{Allocation, Policy, allocation, allocation_of, extended}
 use Rattle.cube_model.specs.Difference.{is_same, lies_as_before, refreshed}
 use Rattle.cube_model.specs.Facts.{has_id}
 use Rattle.cube_model.specs.Tree.{Dimension}
 use Rattle.fact_records.specs.FactList.{IsAscending}
-use Rattle.cube_core.specs.Cube.{allocation_of}
 use Rattle.cube_core.specs.Refreshed.{are_same, refreshed_by}
 use Rattle.cube_core.proofs.Ascents.{ascending-first, ascending-rest, first-alone}
 use Rattle.cube_core.proofs.Rows.{allocation_of-among, extended-among}
@@ -58,27 +57,27 @@ filter-agree p q (fact ∷ facts) agree =
     let rest : filter p facts ≡ filter q facts = filter-agree p q facts (All-tail (λ (f : Fact). p f ≡ q f) fact facts agree) in
     ap (λ b. if b then fact ∷ filter p facts else filter p facts) here ∙ ap (λ fs. if q fact then fact ∷ fs else fs) rest
 
-module _ (weigh : Policy) (dims : List Dimension) (facts later : List Fact) (up : IsAscending facts) (later_up : IsAscending later) where
+module _ (policy : Policy) (dims : List Dimension) (facts later : List Fact) (up : IsAscending facts) (later_up : IsAscending later) where
   -- what was, against what is
-  same_as-found : (found : Option Fact) (now : Allocation) → are_same (option_map (allocation weigh dims facts) found) (Some now) ≡ option_map_or (λ g. is_same (allocation weigh dims facts g) now) found false
+  same_as-found : (found : Option Fact) (now : Allocation) → are_same (option_map (allocation policy dims facts) found) (Some now) ≡ option_map_or (λ g. is_same (allocation policy dims facts g) now) found false
   same_as-found None now = refl
   same_as-found (Some g) now = refl
 
-  lies_as_before-found : (f : Fact) → find (λ g. g.id == f.id) later ≡ Some f → lies_as_before weigh dims facts later f ≡ are_same (allocation_of f.id (extended weigh dims facts)) (allocation_of f.id (extended weigh dims later))
+  lies_as_before-found : (f : Fact) → find (λ g. g.id == f.id) later ≡ Some f → lies_as_before policy dims facts later f ≡ are_same (allocation_of f.id (extended policy dims facts)) (allocation_of f.id (extended policy dims later))
   lies_as_before-found f found =
-      let was : allocation_of f.id (extended weigh dims facts) ≡ option_map (allocation weigh dims facts) (find (λ g. g.id == f.id) facts) = ap (allocation_of f.id) (extended-among weigh dims facts) ∙ allocation_of-among weigh dims facts facts f.id in
-      let now : allocation_of f.id (extended weigh dims later) ≡ Some (allocation weigh dims later f) = ap (allocation_of f.id) (extended-among weigh dims later) ∙ allocation_of-among weigh dims later later f.id ∙ ap (option_map (allocation weigh dims later)) found in
-      any-found f.id (λ g. is_same (allocation weigh dims facts g) (allocation weigh dims later f)) facts up
-      ∙ sym (same_as-found (find (λ g. g.id == f.id) facts) (allocation weigh dims later f))
-      ∙ sym (ap (λ a. are_same a (allocation_of f.id (extended weigh dims later))) was ∙ ap (are_same (option_map (allocation weigh dims facts) (find (λ g. g.id == f.id) facts))) now)
+      let was : allocation_of f.id (extended policy dims facts) ≡ option_map (allocation policy dims facts) (find (λ g. g.id == f.id) facts) = ap (allocation_of f.id) (extended-among policy dims facts) ∙ allocation_of-among policy dims facts facts f.id in
+      let now : allocation_of f.id (extended policy dims later) ≡ Some (allocation policy dims later f) = ap (allocation_of f.id) (extended-among policy dims later) ∙ allocation_of-among policy dims later later f.id ∙ ap (option_map (allocation policy dims later)) found in
+      any-found f.id (λ g. is_same (allocation policy dims facts g) (allocation policy dims later f)) facts up
+      ∙ sym (same_as-found (find (λ g. g.id == f.id) facts) (allocation policy dims later f))
+      ∙ sym (ap (λ a. are_same a (allocation_of f.id (extended policy dims later))) was ∙ ap (are_same (option_map (allocation policy dims facts) (find (λ g. g.id == f.id) facts))) now)
 
   -- the ids that are refreshed are those whose allocations are not the same
   pub refreshed-by_allocations : (before after : ℕ → Option Allocation)
-      → ((id : ℕ) → before id ≡ allocation_of id (extended weigh dims facts)) → ((id : ℕ) → after id ≡ allocation_of id (extended weigh dims later))
-      → refreshed_by before after later ≡ refreshed weigh dims facts later
+      → ((id : ℕ) → before id ≡ allocation_of id (extended policy dims facts)) → ((id : ℕ) → after id ≡ allocation_of id (extended policy dims later))
+      → refreshed_by before after later ≡ refreshed policy dims facts later
   unfolding refreshed
   refreshed-by_allocations before after was now =
-      ap (map (λ (f : Fact). f.id)) (filter-agree (λ f. not (are_same (before f.id) (after f.id))) (λ f. not (lies_as_before weigh dims facts later f)) later
+      ap (map (λ (f : Fact). f.id)) (filter-agree (λ f. not (are_same (before f.id) (after f.id))) (λ f. not (lies_as_before policy dims facts later f)) later
       (λ k d within.
       let f = get_or later k d in
-      ap not (ap (λ a. are_same a (after f.id)) (was f.id) ∙ ap (are_same (allocation_of f.id (extended weigh dims facts))) (now f.id) ∙ sym (lies_as_before-found f (find-itself later later_up k d within)))))
+      ap not (ap (λ a. are_same a (after f.id)) (was f.id) ∙ ap (are_same (allocation_of f.id (extended policy dims facts))) (now f.id) ∙ sym (lies_as_before-found f (find-itself later later_up k d within)))))

@@ -7,18 +7,18 @@ use Rattle.std.specs.Ordering.{nat_cmp}
 use Rattle.std.proofs.lemmas.List.{length-map}
 use Rattle.std.proofs.lemmas.List.Elements.{All-head, All-tail}
 use Rattle.cube_model.specs.declared.edit.Fact.{Fact}
-use Rattle.cube_model.specs.Allocation.{Allocation, ExtendedFact, Policy, allocation, extended}
+use Rattle.cube_model.specs.declared.statistic.CellStat.{CellStat}
+use Rattle.cube_model.specs.Allocation.{Allocation, ExtendedFact, Policy, allocation, allocation_of, extended}
 use Rattle.cube_model.specs.Answer.{answer, weight_inside}
 use Rattle.cube_model.specs.Cells.{AreRows, cells_of}
 use Rattle.cube_model.specs.Limits.{DEN_LIMIT, MAX_FACTS}
 use Rattle.cube_model.specs.Tree.{Dimension}
 use Rattle.alloc_rows.specs.Alloc.{IsAllocation}
 use Rattle.exact_fraction.specs.Moderate.{IsModerate}
-use Rattle.fact_records.specs.declared.shape.Kind.TheVariants.{Number}
-use Rattle.fact_records.specs.declared.shape.Measure.{Measure}
-use Rattle.fact_records.specs.Shape.{IsShape, width_of_all}
+use Rattle.fact_records.specs.Shape.{ShapeValue, width_of_all}
+use Rattle.schema_text.specs.Schema.{IsSchema, SchemaValue, policy_in, shape_of}
 use Rattle.group_sum.specs.Terms.{AddsShare, AreTerms, Fits, TermList, are_terms_from}
-use Rattle.cube_core.specs.Cube.{IsBounded, IsCube, allocation_of}
+use Rattle.cube_core.specs.Cube.{IsBounded, IsCube}
 use Rattle.cube_core.proofs.AddingUp.{AddUp, add_up-next, add_up-none, answered}
 use Rattle.cube_core.proofs.Moderation.{AreModest, AreSmallValues, are_bounded, are_moderate, fits_next, length-answer, modest-next, modest-none}
 use Rattle.cube_core.proofs.Refreshing.{find-itself}
@@ -26,66 +26,68 @@ use Rattle.cube_core.proofs.Rows.{AreRows-allocation, allocation_of-among, exten
 use Rattle.cube_core.proofs.SmallValues.{small-accepted}
 
 -- a fact whose allocation is kept, with rows of cells and small values
-pub record IsReady (weigh : Policy) (dims : List Dimension) (facts : List Fact) (kept : BTreeMap ℕ Allocation) (columns : ℕ) (f : Fact) : Type 0 where
-  pub there : get nat_cmp kept f.id ≡ Some (allocation weigh dims facts f)
-  pub rows : AreRows dims (allocation weigh dims facts f).rows
+pub record IsReady (policy : Policy) (dims : List Dimension) (facts : List Fact) (kept : BTreeMap ℕ Allocation) (columns : ℕ) (f : Fact) : Type 0 where
+  pub there : get nat_cmp kept f.id ≡ Some (allocation policy dims facts f)
+  pub rows : AreRows dims (allocation policy dims facts f).rows
   pub values : AreSmallValues columns f.cols
 
 -- the facts of a cube are
-all_ready : (weigh : Policy) (measures : List Measure) (dims : List Dimension) (facts : List Fact) (kept : BTreeMap ℕ Allocation) → IsShape measures → All (λ m. m.kind ≡ Number) measures
-    → IsCube weigh measures dims facts kept → All (IsReady weigh dims facts kept (width_of_all measures)) facts
-all_ready weigh measures dims facts kept shape numbers cube = λ k d lt.
+all_ready : (weigh : CellStat → ℕ) (schema : SchemaValue) (facts : List Fact) (kept : BTreeMap ℕ Allocation) → IsSchema schema → IsCube weigh schema facts kept
+    → All (IsReady (policy_in weigh schema) schema.dims facts kept (width_of_all schema.measures)) facts
+all_ready weigh schema facts kept is_schema cube = λ k d lt.
+    let policy = policy_in weigh schema in
     let f = get_or facts k d in
-    let found : allocation_of f.id (extended weigh dims facts) ≡ Some (allocation weigh dims facts f) =
-    ap (allocation_of f.id) (extended-among weigh dims facts) ∙ allocation_of-among weigh dims facts facts f.id
-    ∙ ap (option_map (allocation weigh dims facts)) (find-itself facts cube.valid.ascending k d lt) in
+    let found : allocation_of f.id (extended policy schema.dims facts) ≡ Some (allocation policy schema.dims facts f) =
+    ap (allocation_of f.id) (extended-among policy schema.dims facts) ∙ allocation_of-among policy schema.dims facts facts f.id
+    ∙ ap (option_map (allocation policy schema.dims facts)) (find-itself facts cube.valid.ascending k d lt) in
     record {
       there = cube.rows.each f.id ∙ found;
-      rows = AreRows-allocation weigh dims facts f;
-      values = small-accepted measures f.cols shape numbers (cube.valid.each k d lt).values;
+      rows = AreRows-allocation policy schema.dims facts f;
+      values = small-accepted (shape_of schema) f.cols is_schema.shape.measures is_schema.kinds (cube.valid.each k d lt).accepted.values;
     }
 
 -- Some facts are added up, and the others are left.
-pub record IsUnderWay (weigh : Policy) (dims : List Dimension) (facts : List Fact) (kept : BTreeMap ℕ Allocation) (columns : ℕ) (region : List ℕ) (list : TermList) (left : List Fact) : Type 0 where
+pub record IsUnderWay (policy : Policy) (dims : List Dimension) (facts : List Fact) (kept : BTreeMap ℕ Allocation) (columns : ℕ) (region : List ℕ) (list : TermList) (left : List Fact) : Type 0 where
   pub terms : AreTerms list
   pub columns_are : list.columns ≡ columns + 1
-  pub up : AddUp (cells_of dims region) columns (extended weigh dims facts) list.terms (rows_among weigh dims facts left)
+  pub up : AddUp (cells_of dims region) columns (extended policy dims facts) list.terms (rows_among policy dims facts left)
   pub modest : AreModest (length facts - length left) columns list.terms
   pub within : length left ≤ length facts
-  pub ready : All (IsReady weigh dims facts kept columns) left
+  pub ready : All (IsReady policy dims facts kept columns) left
 
 -- at first all are left
-pub start : {weigh : Policy} {measures shape : List Measure} {dims : List Dimension} {facts walk : List Fact} {kept : BTreeMap ℕ Allocation} {columns : ℕ} {list : TermList} (region : List ℕ)
-    → IsCube weigh measures dims facts kept → IsShape measures → All (λ m. m.kind ≡ Number) measures → shape ≡ measures → columns ≡ 1 + width_of_all shape
-    → list ≡ record { columns = columns; terms = [] } → walk ≡ facts → IsUnderWay weigh dims facts kept (width_of_all measures) region list walk
-start {weigh} {measures} {shape} {dims} {facts} {walk} {kept} {columns} {list} region cube is_shape numbers same count empty all =
-    let width = width_of_all measures in
-    let counted : columns ≡ width + 1 = omega (arith, ap width_of_all same) in
+pub start : {weigh : CellStat → ℕ} {schema : SchemaValue} {shape : ShapeValue} {facts walk : List Fact} {kept : BTreeMap ℕ Allocation} {columns : ℕ} {list : TermList} (region : List ℕ)
+    → IsCube weigh schema facts kept → IsSchema schema → shape ≡ shape_of schema → columns ≡ 1 + width_of_all shape.measures
+    → list ≡ record { columns = columns; terms = [] } → walk ≡ facts → IsUnderWay (policy_in weigh schema) schema.dims facts kept (width_of_all schema.measures) region list walk
+start {weigh} {schema} {shape} {facts} {walk} {kept} {columns} {list} region cube is_schema same count empty all =
+    let width = width_of_all schema.measures in
+    let counted : columns ≡ width + 1 = omega (arith, ap (λ (s : ShapeValue). width_of_all s.measures) same) in
     let none : length facts - length facts ≡ 0 = omega arith in
+    let policy = policy_in weigh schema in
     rw (empty, counted, all) (record {
-      terms = record { some = omega arith; most = omega (arith, is_shape.most); terms = refl };
+      terms = record { some = omega arith; most = omega (arith, is_schema.shape.measures.most); terms = refl };
       columns_are = refl;
-      up = rw (extended-among weigh dims facts) (add_up-none (cells_of dims region) width (rows_among weigh dims facts facts));
+      up = rw (extended-among policy schema.dims facts) (add_up-none (cells_of schema.dims region) width (rows_among policy schema.dims facts facts));
       modest = rw none (modest-none width);
       within = omega arith;
-      ready = all_ready weigh measures dims facts kept is_shape numbers cube;
+      ready = all_ready weigh schema facts kept is_schema cube;
     })
 
-module _ {weigh : Policy} {dims : List Dimension} {facts : List Fact} {kept : BTreeMap ℕ Allocation} {columns : ℕ} {region : List ℕ} where
+module _ {policy : Policy} {dims : List Dimension} {facts : List Fact} {kept : BTreeMap ℕ Allocation} {columns : ℕ} {region : List ℕ} where
   -- a fact is next
-  module _ {old : TermList} {ahead left : List Fact} {f : Fact} (before : IsUnderWay weigh dims facts kept columns region old ahead) (cut : ahead ≡ f ∷ left) where
-    turn : IsUnderWay weigh dims facts kept columns region old (f ∷ left)
-    turn = subst (IsUnderWay weigh dims facts kept columns region old) cut before
+  module _ {old : TermList} {ahead left : List Fact} {f : Fact} (before : IsUnderWay policy dims facts kept columns region old ahead) (cut : ahead ≡ f ∷ left) where
+    turn : IsUnderWay policy dims facts kept columns region old (f ∷ left)
+    turn = subst (IsUnderWay policy dims facts kept columns region old) cut before
 
-    ready : IsReady weigh dims facts kept columns f
-    ready = All-head (IsReady weigh dims facts kept columns) f left turn.ready
+    ready : IsReady policy dims facts kept columns f
+    ready = All-head (IsReady policy dims facts kept columns) f left turn.ready
 
     -- its allocation is kept
     pub next_there : None ≡ get nat_cmp kept f.id → ⊥
     next_there none = let there = ready.there in cc
 
     module _ {a : Allocation} (found : Some a ≡ get nat_cmp kept f.id) where
-      is : a ≡ allocation weigh dims facts f
+      is : a ≡ allocation policy dims facts f
       is = let there = ready.there in cc
 
       -- with rows of cells
@@ -106,28 +108,28 @@ module _ {weigh : Policy} {dims : List Dimension} {facts : List Fact} {kept : BT
             fits_next (length facts - length (f ∷ left)) columns old turn.modest den weight f.cols within_den limit ready.values (omega arith)
 
         abbrev row : ExtendedFact
-        row = record { id = f.id; values = f.cols; allocation = allocation weigh dims facts f }
+        row = record { id = f.id; values = f.cols; allocation = allocation policy dims facts f }
 
-        share : {new : TermList} → AddsShare old new den weight f.cols → AddsShare old new (allocation weigh dims facts f).den (weight_inside (cells_of dims region) (allocation weigh dims facts f)) f.cols
+        share : {new : TermList} → AddsShare old new den weight f.cols → AddsShare old new (allocation policy dims facts f).den (weight_inside (cells_of dims region) (allocation policy dims facts f)) f.cols
         share adds = rw (weighs, den_is, same, is) at adds
 
-        pub next : {new : TermList} → AreTerms new → AddsShare old new den weight f.cols → IsUnderWay weigh dims facts kept columns region new left
+        pub next : {new : TermList} → AreTerms new → AddsShare old new den weight f.cols → IsUnderWay policy dims facts kept columns region new left
         next {new} are adds =
             let within = turn.within in
             let one_more : length facts - length (f ∷ left) + 1 ≡ length facts - length left = omega arith in
             record {
               terms = are;
               columns_are = adds.columns ∙ turn.columns_are;
-              up = add_up-next (cells_of dims region) columns (extended weigh dims facts) (rows_among weigh dims facts left) row old new (share adds) ready.values.count turn.up;
+              up = add_up-next (cells_of dims region) columns (extended policy dims facts) (rows_among policy dims facts left) row old new (share adds) ready.values.count turn.up;
               modest = rw (← one_more) (modest-next (length facts - length (f ∷ left)) columns old turn.modest den weight f.cols within_den limit ready.values new adds);
               within = omega arith;
-              ready = All-tail (IsReady weigh dims facts kept columns) f left turn.ready;
+              ready = All-tail (IsReady policy dims facts kept columns) f left turn.ready;
             }
 
   -- at the end no fact is left
-  module _ {list : TermList} {ahead : List Fact} (before : IsUnderWay weigh dims facts kept columns region list ahead) (none : ahead ≡ []) where
-    last : IsUnderWay weigh dims facts kept columns region list []
-    last = subst (IsUnderWay weigh dims facts kept columns region list) none before
+  module _ {list : TermList} {ahead : List Fact} (before : IsUnderWay policy dims facts kept columns region list ahead) (none : ahead ≡ []) where
+    last : IsUnderWay policy dims facts kept columns region list []
+    last = subst (IsUnderWay policy dims facts kept columns region list) none before
 
     are : are_terms_from (columns + 1) 1 list.terms ≡ true
     are = rw (← last.columns_are) last.terms.terms
@@ -137,15 +139,15 @@ module _ {weigh : Policy} {dims : List Dimension} {facts : List Fact} {kept : BT
         let all : length facts - 0 ≡ length facts = omega arith in
         rw all at last.modest
 
-    pub end_answer : list.terms ≡ answer columns dims (extended weigh dims facts) region
-    end_answer = answered columns dims (extended weigh dims facts) region list.terms are last.up
+    pub end_answer : list.terms ≡ answer columns dims (extended policy dims facts) region
+    end_answer = answered columns dims (extended policy dims facts) region list.terms are last.up
 
-    length-rows : length (extended weigh dims facts) ≡ length facts
-    length-rows = rw (extended-among weigh dims facts) (length-map facts _)
+    length-rows : length (extended policy dims facts) ≡ length facts
+    length-rows = rw (extended-among policy dims facts) (length-map facts _)
 
     pub end_moderate : length facts ≤ MAX_FACTS → IsModerate list.terms
     end_moderate few =
-        let short : length list.terms ≤ MAX_FACTS = rw end_answer (omega (arith, length-answer columns dims (extended weigh dims facts) region, length-rows)) in
+        let short : length list.terms ≤ MAX_FACTS = rw end_answer (omega (arith, length-answer columns dims (extended policy dims facts) region, length-rows)) in
         are_moderate (length facts) columns list.terms are modest few short
 
     pub end_bounded : length facts ≤ MAX_FACTS → All IsBounded list.terms

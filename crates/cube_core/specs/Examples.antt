@@ -1,42 +1,36 @@
--- A small cube, for which rows, answers, refreshed facts and refusals were worked out by hand.
-use Rattle.std.specs.Prelude.{ℕ, List, [], ◌∷◌, pos}
+-- Measures, rows and terms of a small cube, for which answers, refreshed facts and refusals were worked out by hand.
+use Rattle.std.specs.Prelude.{ℕ, List, [], ◌∷◌, Some, ℤ, negsuc, pos}
 use Rattle.cube_model.specs.declared.edit.Fact.{Fact}
 use Rattle.cube_model.specs.declared.term.Term.{Term}
-use Rattle.cube_model.specs.Allocation.{ExtendedFact, by_count, extended}
+use Rattle.cube_model.specs.Allocation.{ExtendedFact, Policy, by_count, extended, weigh_sum}
 use Rattle.cube_model.specs.Facts.{withdraw}
-use Rattle.cube_model.specs.Tree.{Dimension, Entry}
-use Rattle.fact_records.specs.declared.shape.Kind.TheVariants.{Number}
-use Rattle.fact_records.specs.declared.shape.Measure.{Measure}
+use Rattle.fact_records.specs.Examples.{number}
+use Rattle.fact_records.specs.Shape.{ShapeValue, policy_over}
+use Rattle.alloc_rows.specs.Examples.{four_facts, two_dims}
 
--- a node without a name
-abbrev node : ℕ → ℕ → Entry
-node depth number = record { depth = depth; name = []; number = number }
+-- one measure, by whose sum cells weigh
+abbrev pub one_weight : ShapeValue
+one_weight = record { measures = number 1 ∷ []; weight = Some 0 }
 
--- a root with two nodes, of three leaves and of two
-abbrev pub places : Dimension
-places = node 0 0 ∷ node 1 1 ∷ node 2 2 ∷ node 2 3 ∷ node 2 4 ∷ node 1 5 ∷ node 2 6 ∷ node 2 7 ∷ []
+-- the policy over it
+abbrev pub by_value : Policy
+by_value = policy_over weigh_sum one_weight
 
--- a root with two nodes, of two leaves each
-abbrev pub wares : Dimension
-wares = node 0 0 ∷ node 1 1 ∷ node 2 2 ∷ node 2 3 ∷ node 1 4 ∷ node 2 5 ∷ node 2 6 ∷ []
+-- a fact of these values on the first cell
+abbrev pub fact_of : ℕ → List ℤ → Fact
+fact_of id values = record { id = id; region = 2 ∷ 2 ∷ []; cols = values }
 
--- of both: a cell's code is four times the place of the leaf of the first, and the place of that of the second
-abbrev pub two_dims : List Dimension
-two_dims = places ∷ wares ∷ []
+-- the values -1, and two parts that add up to 100, and to more
+abbrev pub below_0 : List ℤ
+below_0 = negsuc 0 ∷ []
 
--- one measure
-abbrev pub one_number : List Measure
-one_number = record { name = 110 ∷ []; kind = Number; first_col = 1 } ∷ []
+abbrev pub whole_parts : List ℤ
+whole_parts = pos 7 ∷ pos 60 ∷ pos 40 ∷ []
 
--- a fact of one value
-abbrev pub fact_at : ℕ → List ℕ → ℕ → Fact
-fact_at id region value = record { id = id; region = region; cols = pos value ∷ [] }
+abbrev pub wrong_parts : List ℤ
+wrong_parts = pos 7 ∷ pos 60 ∷ pos 41 ∷ []
 
--- two facts on one cell, a third on its neighbour, and one of which the first node of the places alone is known
-abbrev pub four_facts : List Fact
-four_facts = fact_at 1 (2 ∷ 2 ∷ []) 100 ∷ fact_at 2 (2 ∷ 2 ∷ []) 300 ∷ fact_at 3 (3 ∷ 2 ∷ []) 50 ∷ fact_at 4 (1 ∷ 2 ∷ []) 600 ∷ []
-
--- their rows, and those without the precise ones
+-- the rows of the four facts by their count, and those without the precise ones
 abbrev pub four_rows : List ExtendedFact
 four_rows = extended by_count two_dims four_facts
 

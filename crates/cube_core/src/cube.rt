@@ -1,31 +1,28 @@
 //! The cube.
-ghost use Rattle.std.specs.Prelude.{◌≡◌, ◌+◌, ◌≤◌, [], true, All, IfErr, IfOk, IfSome, OnErr, OnOk};
+ghost use Rattle.std.specs.Prelude.{◌≡◌, ◌+◌, ◌≤◌, [], None, true, All, IfErr, IfOk, IfSome, OnErr, OnOk};
 ghost use Rattle.std.specs.Option.{option_copied};
-ghost use Rattle.cube_model.specs.Allocation.{extended, row_count};
-ghost use Rattle.cube_model.specs.Answer.{answer};
+ghost use Rattle.std.specs.Result.{result_err};
+ghost use Rattle.cube_model.specs.Allocation.{allocation_of, row_count};
+ghost use Rattle.cube_model.specs.Ascending.{ascends_from};
 ghost use Rattle.cube_model.specs.Cells.{AreRows};
-ghost use Rattle.cube_model.specs.Difference.{refreshed};
-ghost use Rattle.cube_model.specs.Facts.{after};
 ghost use Rattle.cube_model.specs.Limits.{MAX_ROWS};
 ghost use Rattle.exact_fraction.specs.Moderate.{IsModerate};
+ghost use Rattle.fact_records.specs.Judge.{fact_refusal};
 ghost use Rattle.fact_records.specs.Shape.{width_of_all};
-ghost use Rattle.region_algebra.specs.Space.{is_region};
-ghost use Rattle.cube_core.specs.Cube.{AreValid, IsBounded, IsEditOver, IsFaultOf, allocation_of, withdrawn};
-ghost use Rattle.cube_core.specs.Judge.{judge};
-
-#[cfg(test)]
-mod tests;
+ghost use Rattle.fact_records.specs.Valid.{IsEditOver};
+ghost use Rattle.region_algebra.specs.Space.{IsRegion};
+ghost use Rattle.schema_text.specs.Schema.{shape_of};
+ghost use Rattle.cube_core.specs.Cube.{AreFactsOf, IsBounded, IsFaultOf, answer_in, edited, judge_in, refreshed_in, rows_in, withdrawn};
 
 use crate::EditFault;
 use crate::edits::after;
-use crate::judge::judge;
 use crate::refreshed::refreshed;
 use crate::spreads::spread_all;
 use alloc_rows::{Alloc, inside};
 use cell_weight::WeightPolicy;
-use cube_base::{Ids, Memory};
+use cube_base::{Code, Ids, Memory};
 use cube_model::Region;
-use fact_records::{Edit, FactList};
+use fact_records::{Edit, FactList, judge_fact};
 use group_sum::Terms;
 use schema_text::Schema;
 use std::alloc::Global;
@@ -63,7 +60,7 @@ impl<P: WeightPolicy + Drop> Model for Cube<P> {
 
     ghost view = { λ c. record { policy = c.policy; schema = c.schema; facts = c.facts.facts } };
 
-    ghost invariant = { λ c. IsCube (P.weigh c.policy) c.schema.measures c.schema.dims c.facts.facts c.allocations };
+    ghost invariant = { λ c. IsCube (P.weigh c.policy) c.schema c.facts.facts c.allocations };
 }
 
 impl<P: WeightPolicy + Drop> Cube<P> {
@@ -92,15 +89,15 @@ impl<P: WeightPolicy + Drop> Cube<P> {
     /// The facts in order of their ids. It takes no memory.
     pub fn facts(&self) -> &FactList
         ensures facts { result.now.facts ≡ self.now.facts }
-        ensures valid { AreValid self.now.schema.measures self.now.schema.dims self.now.facts }
-        ensures few_rows { row_count (extended (P.weigh self.now.policy) self.now.schema.dims self.now.facts) ≤ MAX_ROWS }
+        ensures valid { AreFactsOf self.now.schema self.now.facts }
+        ensures few_rows { row_count (rows_in P.weigh self.now) ≤ MAX_ROWS }
     {
         &self.facts
     }
 
     /// The allocation of the fact of an id: None exactly where there is none. It takes no memory.
     pub fn rows(&self, id: u64) -> Option<&Alloc>
-        ensures rows { option_copied result ≡ allocation_of id (extended (P.weigh self.now.policy) self.now.schema.dims self.now.facts) }
+        ensures rows { option_copied result ≡ allocation_of id (rows_in P.weigh self.now) }
         ensures cells { IfSome (option_copied result) (λ a. AreRows self.now.schema.dims a.rows) }
     {
         self.allocations.get(&id)
@@ -110,21 +107,23 @@ impl<P: WeightPolicy + Drop> Cube<P> {
     /// space. The first of these that holds refuses it, and the cube is as it was: `Code` with `Value` or `Parts`, the values
     /// of the fact are none of the measures; `Exists`, a put's id is there; `Missing`, the id of a change or a withdrawal is
     /// not; `Region`, the region has more than 2^20 cells; `Facts`, a put finds 2^20 facts; and `Rows`, the facts after the
-    /// edit have more than 2^21 rows, with their number. `Memory` is want of memory, and the cube is as it was then too.
+    /// edit have more than 2^21 rows, with their number. `Memory` is want of memory, and the cube is as it was then too: no
+    /// code that is judged before the rows refuses the edit.
     pub fn edit(&mut self, edit: &Edit) -> Result<Receipt, EditFault>
         requires { IsEditOver self.old.schema.dims edit.now }
-        ensures facts { OnOk result (self.new ≡ record self.old { facts = after edit.now self.old.facts }) }
-        ensures accepted { OnOk result (judge (P.weigh self.old.policy) self.old.schema.measures self.old.schema.dims edit.now self.old.facts ≡ None) }
-        ensures refreshed { IfOk result (λ receipt. receipt.refreshed ≡ refreshed (P.weigh self.old.policy) self.old.schema.dims self.old.facts (after edit.now self.old.facts)) }
+        ensures facts { OnOk result (self.new ≡ edited edit.now self.old) }
+        ensures accepted { OnOk result (judge_in P.weigh self.old edit.now ≡ None) }
+        ensures refreshed { IfOk result (λ receipt. receipt.refreshed ≡ refreshed_in P.weigh self.old edit.now) }
+        ensures ascending { IfOk result (λ receipt. ascends_from (λ id. id) 1 receipt.refreshed ≡ true) }
         ensures removed { IfOk result (λ receipt. receipt.removed ≡ withdrawn edit.now) }
-        ensures fault { IfErr result (IsFaultOf (P.weigh self.old.policy) self.old.schema.measures self.old.schema.dims edit.now self.old.facts) }
+        ensures fault { IfErr result (IsFaultOf P.weigh self.old edit.now) }
         ensures same { OnErr result (self.new ≡ self.old) }
     {
-        if let Err(code) = judge(self.schema.shape(), self.schema.space(), edit, &self.facts) {
+        if let Err(code) = judge(&self.schema, edit, &self.facts) {
             return Err(EditFault::Code(code));
         }
         let facts = after(self.alloc, &self.facts, edit)?;
-        let allocations = spread_all(self.alloc, self.schema.space(), &self.policy, &facts)?;
+        let allocations = spread_all(self.alloc, &self.schema, &self.policy, &facts)?;
         let refreshed = refreshed(self.alloc, &self.allocations, &facts, &allocations)?;
         self.facts = facts;
         self.allocations = allocations;
@@ -138,10 +137,9 @@ impl<P: WeightPolicy + Drop> Cube<P> {
     /// allocations, ascending, the sums over the facts of each column times the weight inside, the count first; where the
     /// count is 0 there is no term. It walks over all facts. The one error is want of memory.
     pub fn answer(&self, r: Region) -> Result<Terms, Memory>
-        requires { is_region self.now.schema.dims r ≡ true }
+        requires { IsRegion self.now.schema.dims r }
         ensures columns { IfOk result (λ terms. terms.columns ≡ width_of_all self.now.schema.measures + 1) }
-        ensures terms { IfOk result (λ terms. terms.terms ≡ answer (width_of_all self.now.schema.measures) self.now.schema.dims
-            (extended (P.weigh self.now.policy) self.now.schema.dims self.now.facts) r) }
+        ensures terms { IfOk result (λ terms. terms.terms ≡ answer_in P.weigh self.now r) }
         ensures moderate { IfOk result (λ terms. IsModerate terms.terms) }
         ensures bounded { IfOk result (λ terms. All IsBounded terms.terms) }
     {
@@ -157,6 +155,14 @@ impl<P: WeightPolicy + Drop> Cube<P> {
         }
         Ok(terms)
     }
+}
+
+/// Judges an edit by its fact, which takes no memory.
+fn judge(schema: &Schema, edit: &Edit, facts: &FactList) -> Result<(), Code>
+    requires { IsEditOver schema.now.dims edit.now }
+    ensures { result_err result ≡ fact_refusal (shape_of schema.now) schema.now.dims edit.now facts.now.facts }
+{
+    judge_fact(schema.shape(), schema.space(), edit, facts)
 }
 
 /// The id of a withdrawal.

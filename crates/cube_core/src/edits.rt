@@ -23,8 +23,6 @@ pub fn after(alloc: Global, facts: &FactList, edit: &Edit) -> Result<FactList, M
             let _ = later.take(*id);
         }
     }
-    // The clause on the order is what the list says of itself where it is read.
-    let _ = later.len();
     Ok(later)
 }
 

@@ -11,7 +11,7 @@ pub enum EditFault {
     /// It is refused since the facts after it would have more than 2^21 rows: so many.
     #[error("there would be {would} rows")]
     Rows { would: u64 },
-    /// Want of memory.
+    /// Want of memory. The edit is refused by no code that is judged before its rows are made.
     #[error("no memory")]
     Memory,
 }

@@ -4,12 +4,13 @@
 mod cube;
 mod edits;
 mod fault;
-mod judge;
 mod laws;
 mod refreshed;
 mod spreads;
 mod statistics;
+#[cfg(test)]
+mod tests;
 
 pub use cube::{Cube, Receipt};
 pub use fault::EditFault;
-pub use laws::worked_cube;
+pub use laws::{worked_cube, worked_sums};

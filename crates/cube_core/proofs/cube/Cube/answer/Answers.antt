@@ -5,8 +5,7 @@ use Rattle.cube_core.proofs.cube.Cube.answer.Goals as goal
 -- at first all facts are left
 pub loop-fact-init : goal.loop-fact-init
 loop-fact-init g c =
-    let schema = c.space-space.ensures.schema in
-    start c.args.r c.self.invariant schema.shape schema.numbers c.shape.ensures.measures c.columns.ensures.columns c.empty-terms.ensures
+    start c.args.r c.self.invariant c.space-space.ensures.schema c.shape.ensures.shape c.columns.ensures.columns c.empty-terms.ensures
     (c.into_iter-fact-iterator.ensures.into_iter_gives ∙ c.iter-fact-items.ensures)
 
 -- each has an allocation, with rows of cells
