@@ -8,15 +8,11 @@ use std::io::ErrorKind;
 use std::process::ExitCode;
 use std::{env, io};
 
-/// The last status of a run that was done to its end.
-const LAST_DONE: u8 = 1;
-
 fn main(rt: HostRuntime) -> ExitCode {
-    let end = run(&rt);
-    let status = end.status();
-    if status > LAST_DONE {
+    let (status, line) = run(&rt).told();
+    if let Some(line) = line {
         // Where standard error takes nothing, the status still tells.
-        let _ = eprintln!(rt; "cube: {end}");
+        let _ = eprintln!(rt; "{line}");
     }
     ExitCode::from(status)
 }

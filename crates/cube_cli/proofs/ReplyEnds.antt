@@ -1,5 +1,5 @@
 -- Where a text of replies is cut, their ends tell how many of them are whole.
-use Rattle.std.proofs.Common.{◌≡◌, ℕ, suc, ◌+◌, ◌-◌, ◌<◌, ◌≤◌, true, false, List, [], ◌∷◌, ◌++◌, length, take, refl, ap, ◌∙◌, append-nil, inl, inr, arith, length-append}
+use Rattle.std.proofs.Common.{◌≡◌, ℕ, suc, ◌+◌, ◌-◌, ◌<◌, ◌≤◌, true, false, List, [], ◌∷◌, ◌++◌, length, take, refl, sym, ap, ◌∙◌, append-nil, append_assoc, inl, inr, arith, length-append}
 use Rattle.std.specs.Prelude.{if◌then◌else◌, nat_le}
 use Rattle.std.specs.List.{concat}
 use Rattle.std.specs.Io.{StartsWith}
@@ -7,12 +7,36 @@ use Rattle.std.proofs.lemmas.Bool.{cases_lt}
 use Rattle.std.proofs.lemmas.Bool.Decides.{nat_tests}
 use Rattle.std.proofs.lemmas.List.{take-append-le, length-take-le}
 use Rattle.std.proofs.lemmas.List.Sums.{sum_by-cons}
-use Rattle.std.proofs.Math.Seq.{take-append-add, take-append_seam}
-use Rattle.cube_cli.specs.ReplyEnds.{ends_from, whole_within}
+use Rattle.std.proofs.Math.Seq.{take-append-add, take-append_seam, drop-append_seam}
+use Rattle.cube_cli.specs.ReplyEnds.{IsCut, cut_at_ends, ends_from, whole_within}
 
 pub length-ends_from : (start : ℕ) (texts : List (List ℕ)) → length (ends_from start texts) ≡ length texts
 length-ends_from start [] = refl
 length-ends_from start (text ∷ texts) = ap suc (length-ends_from (start + length text) texts)
+
+-- the ends of some replies cut their text into them
+cut_ends : (start : ℕ) (texts : List (List ℕ)) → cut_at_ends start (ends_from start texts) (concat texts) ≡ texts
+cut_ends start [] = refl
+cut_ends start (text ∷ texts) =
+    let end = start + length text in
+    let len : end - start ≡ length text = omega arith in
+    rw (len, take-append_seam text (concat texts), drop-append_seam text (concat texts)) (ap (λ ts. text ∷ ts) (cut_ends end texts))
+
+-- ends and a text that are those of some replies
+pub cut_of : (texts : List (List ℕ)) (ends text : List ℕ) → text ≡ concat texts → ends ≡ ends_from 0 texts → cut_at_ends 0 ends text ≡ texts
+cut_of texts ends text is_text are_ends = rw (is_text, are_ends) (cut_ends 0 texts)
+
+pub is_cut_of : (texts : List (List ℕ)) (ends text : List ℕ) → text ≡ concat texts → ends ≡ ends_from 0 texts → IsCut ends text
+is_cut_of texts ends text is_text are_ends =
+    let same = cut_of texts ends text is_text are_ends in
+    record {
+      text_is = is_text ∙ ap concat (sym same);
+      ends_are = are_ends ∙ ap (ends_from 0) (sym same);
+    }
+
+-- there are as many replies as ends
+pub length_cut : (ends text : List ℕ) → IsCut ends text → length ends ≡ length (cut_at_ends 0 ends text)
+length_cut ends text cut = ap length cut.ends_are ∙ length-ends_from 0 (cut_at_ends 0 ends text)
 
 -- one reply more ends where all of them end
 pub ends_from-push : (start : ℕ) (texts : List (List ℕ)) (text : List ℕ) (end : ℕ) → end ≡ start + length (concat texts) + length text
@@ -20,6 +44,31 @@ pub ends_from-push : (start : ℕ) (texts : List (List ℕ)) (text : List ℕ) (
 ends_from-push start [] text end last = ap (λ n. n ∷ []) (omega arith)
 ends_from-push start (first ∷ texts) text end last =
     ap (λ ends. (start + length first) ∷ ends) (ends_from-push (start + length first) texts text end (omega (arith, length-append first (concat texts))))
+
+-- one reply more makes up one text more
+concat-push : (texts : List (List ℕ)) (more : List ℕ) → concat (texts ++ more ∷ []) ≡ concat texts ++ more
+concat-push [] more = append-nil more
+concat-push (text ∷ texts) more = ap (λ l. text ++ l) (concat-push texts more) ∙ sym (append_assoc text (concat texts) more)
+
+text-push : (texts : List (List ℕ)) (text more text_after : List ℕ) → text ≡ concat texts → text_after ≡ text ++ more → text_after ≡ concat (texts ++ more ∷ [])
+text-push texts text more text_after is_text more_text = more_text ∙ ap (λ l. l ++ more) is_text ∙ sym (concat-push texts more)
+
+ends-push : (texts : List (List ℕ)) (text ends more text_after ends_after : List ℕ) → text ≡ concat texts → ends ≡ ends_from 0 texts → text_after ≡ text ++ more → ends_after ≡ ends ++ length text_after ∷ []
+    → ends_after ≡ ends_from 0 (texts ++ more ∷ [])
+ends-push texts text ends more text_after ends_after is_text are_ends more_text more_ends =
+    let last : length text_after ≡ 0 + length (concat texts) + length more = omega (arith, ap length more_text, length-append text more, ap length is_text) in
+    more_ends ∙ ap (λ l. l ++ length text_after ∷ []) are_ends ∙ sym (ends_from-push 0 texts more (length text_after) last)
+
+-- the text of one reply more and its end, behind those of others
+pub is_cut-push : (ends text ends_after text_after more : List ℕ) → IsCut ends text → text_after ≡ text ++ more → ends_after ≡ ends ++ length text_after ∷ [] → IsCut ends_after text_after
+is_cut-push ends text ends_after text_after more cut more_text more_ends =
+    let texts = cut_at_ends 0 ends text in
+    is_cut_of (texts ++ more ∷ []) ends_after text_after (text-push texts text more text_after cut.text_is more_text) (ends-push texts text ends more text_after ends_after cut.text_is cut.ends_are more_text more_ends)
+
+pub cut-push : (ends text ends_after text_after more : List ℕ) → IsCut ends text → text_after ≡ text ++ more → ends_after ≡ ends ++ length text_after ∷ [] → cut_at_ends 0 ends_after text_after ≡ cut_at_ends 0 ends text ++ more ∷ []
+cut-push ends text ends_after text_after more cut more_text more_ends =
+    let texts = cut_at_ends 0 ends text in
+    cut_of (texts ++ more ∷ []) ends_after text_after (text-push texts text more text_after cut.text_is more_text) (ends-push texts text ends more text_after ends_after cut.text_is cut.ends_are more_text more_ends)
 
 -- a reply that ends within the bytes counts
 whole_within-whole : (bytes end : ℕ) (ends : List ℕ) → end ≤ bytes → whole_within bytes (end ∷ ends) ≡ suc (whole_within bytes ends)
@@ -92,3 +141,7 @@ cut_at (text ∷ texts) start p bytes sum part =
           let ends : whole_within bytes (end ∷ later) ≡ suc (whole_within bytes later) = whole_within-whole bytes end later (omega arith) in
           rw ends (cut_later text texts p q _ split (cut_at texts end q bytes (omega arith) (omega (arith, length-append text (concat texts)))))
     ]
+
+-- fewer replies are whole than there are, where the text is cut
+pub whole-lt : (texts : List (List ℕ)) (p whole : ℕ) → p < length (concat texts) → whole ≡ whole_within p (ends_from 0 texts) → whole < length texts
+whole-lt texts p whole part is_whole = rw is_whole (cut_at texts 0 p p (omega arith) part).more

@@ -1,126 +1,100 @@
--- What an outbox's steps do to the replies that it has gathered and to what the sink took.
-use Rattle.std.proofs.Common.{◌≡◌, ℕ, ◌+◌, ◌<◌, ◌≤◌, List, [], ◌∷◌, ◌++◌, length, take, drop, Option, Some, None, Err, refl, sym, ap, ◌∙◌, subst, append-nil, arith, length-append, length-drop}
+-- What writing does to the replies that are gathered and to what the sink took.
+use Rattle.std.proofs.Common.{◌≡◌, ℕ, ◌+◌, ◌-◌, ◌<◌, ◌≤◌, List, [], ◌∷◌, ◌++◌, length, take, drop, Option, Some, None, refl, sym, ap, ◌∙◌, subst, append-nil, append_assoc, arith, length-append}
 use Rattle.std.specs.List.{concat}
 use Rattle.std.specs.Io.KnownBytes.{Appends}
-use Rattle.std.proofs.KnownBytes.{Appends-trans}
-use Rattle.std.proofs.lemmas.List.{take_all, drop_all, take-append-le, drop-append-le}
+use Rattle.std.proofs.KnownBytes.{Appends-trans, starts_with_rest}
 use Rattle.std.proofs.Math.Seq.{take-append_seam, drop-append_seam}
-use Rattle.cube_base.specs.Outside.{CountsSinkFault}
 use Rattle.cube_base.specs.declared.fault.SinkError.{SinkError}
 use Rattle.cube_base.specs.declared.fault.SinkError.TheVariants as sink_error
-use Rattle.cube_cli.specs.declared.outbox.Outbox.{Outbox}
-use Rattle.cube_cli.specs.declared.end.End.{End}
-use Rattle.cube_cli.specs.declared.end.End.TheVariants.{Finished, Usage, Schema, ReadFault, WriteFault, Memory, TooLong}
-use Rattle.cube_cli.specs.Broken.{end_of_sink}
-use Rattle.cube_cli.specs.End.{Broken, Stopped, Wrote}
+use Rattle.cube_cli.specs.declared.break_off.BreakOff.{BreakOff}
+use Rattle.cube_cli.specs.declared.break_off.BreakOff.TheVariants.{Write, SinkMemory, Memory}
+use Rattle.cube_cli.specs.End.{Broken, Gathered}
+use Rattle.cube_cli.specs.Progress.{BreaksOff, CountsCut, HasGathered, break_off_at}
 use Rattle.cube_cli.specs.ReplyEnds.{ends_from, whole_within}
-use Rattle.cube_cli.specs.Progress.{BreaksOff, HasGathered}
-use Rattle.cube_cli.proofs.ReplyEnds.{length-ends_from, ends_from-push}
-use Rattle.cube_cli.proofs.Texts.{concat-append, concat-take-drop, broken_at, stopped_before, stopped-more, broken-more}
+use Rattle.cube_cli.specs.Seen.{NoWriteFault, SinkSeen, Wrote, seen_since}
+use Rattle.cube_cli.proofs.Texts.{broken-more, broken_at, broken_behind, concat-append, gathered-more, gathered_before}
 
 -- what was appended was written
-wrote : (before after : Option (List ℕ)) (bytes : List ℕ) (P : List ℕ → Type 0) → Appends before after bytes → P bytes → Wrote before after P
+pub wrote : (before after : Option (List ℕ)) (bytes : List ℕ) (P : List ℕ → Type 0) → Appends before after bytes → P bytes → Wrote before after P
 wrote None after bytes P appends here = tt
 wrote (Some xs) None bytes P appends here = absurd appends
 wrote (Some xs) (Some ys) bytes P appends here = (rw appends (take-append_seam xs bytes), subst P (sym (ap (drop (length xs)) appends ∙ drop-append_seam xs bytes)) here)
 
 -- of what was written something weaker holds
-wrote-weaker : (before after : Option (List ℕ)) (P Q : List ℕ → Type 0) → ((bytes : List ℕ) → P bytes → Q bytes) → Wrote before after P → Wrote before after Q
+pub wrote-weaker : (before after : Option (List ℕ)) (P Q : List ℕ → Type 0) → ((bytes : List ℕ) → P bytes → Q bytes) → Wrote before after P → Wrote before after Q
 wrote-weaker None after P Q weaker written = tt
 wrote-weaker (Some xs) None P Q weaker written = written
 wrote-weaker (Some xs) (Some ys) P Q weaker written = (written.0, weaker _ written.1)
 
--- the replies that were gathered are the others
-ends_of_rest : (texts : List (List ℕ)) (k : ℕ) (ends : List ℕ) → k ≤ length texts → ends ≡ ends_from 0 (drop k texts) → k + length ends ≡ length texts
-ends_of_rest texts k ends le is_rest =
-    omega (arith, ap length is_rest ∙ length-ends_from 0 (drop k texts), length-drop k texts)
+-- what was written behind other bytes
+wrote_behind : (start a b : Option (List ℕ)) (front : List ℕ) (P Q : List ℕ → Type 0) → Appends start a front → Wrote a b P → ((bytes : List ℕ) → P bytes → Q (front ++ bytes)) → Wrote start b Q
+wrote_behind None a b front P Q appends written behind = tt
+wrote_behind (Some xs) None b front P Q appends written behind = absurd appends
+wrote_behind (Some xs) (Some ys) None front P Q appends written behind = absurd written
+wrote_behind (Some xs) (Some ys) (Some zs) front P Q appends written behind =
+    let bytes = drop (length ys) zs in
+    let all : zs ≡ xs ++ (front ++ bytes) = starts_with_rest zs ys written.0 ∙ ap (λ l. l ++ bytes) appends ∙ append_assoc xs front bytes in
+    wrote (Some xs) (Some zs) (front ++ bytes) Q all (behind bytes written.1)
 
--- the sink took the gathered replies
-pub took_all : (texts : List (List ℕ)) (start a b : Option (List ℕ)) (outbox : Outbox) → HasGathered texts start a outbox → Appends a b outbox.text.items → Appends start b (concat texts)
-took_all texts start a b outbox gathered bytes =
-    let front = concat (take outbox.lines texts) in
-    let whole : front ++ outbox.text.items ≡ concat texts = ap (λ l. front ++ l) gathered.text ∙ concat-take-drop outbox.lines texts in
-    subst (Appends start b) whole (Appends-trans start a b front outbox.text.items gathered.bytes bytes)
+-- where a sink took p bytes of some replies, one is broken
+pub wrote_part : (texts : List (List ℕ)) (before after : Option (List ℕ)) (p whole : ℕ) → p < length (concat texts) → Appends before after (take p (concat texts)) → whole ≡ whole_within p (ends_from 0 texts)
+    → Wrote before after (Broken texts (whole + 1))
+wrote_part texts before after p whole part bytes is_whole = wrote before after (take p (concat texts)) (Broken texts (whole + 1)) bytes (rw is_whole (broken_at texts p part))
 
-pub gathered_sent : (texts : List (List ℕ)) (start a b : Option (List ℕ)) (old new : Outbox) → HasGathered texts start a old → new.text.items ≡ [] → new.ends.items ≡ [] → new.taken ≡ 0
-    → new.lines ≡ old.lines + length old.ends.items → Appends a b old.text.items → HasGathered texts start b new
-gathered_sent texts start a b old new gathered empty no_ends none_in_part sent bytes =
-    let all : new.lines ≡ length texts = sent ∙ ends_of_rest texts old.lines old.ends.items gathered.among gathered.ends in
-    record {
-      among = omega arith;
-      none_in_part = none_in_part;
-      text = rw (empty, all, drop_all (length texts) texts (omega arith)) refl;
-      ends = rw (no_ends, all, drop_all (length texts) texts (omega arith)) refl;
-      bytes = rw (all, take_all (length texts) texts (omega arith)) (took_all texts start a b old gathered bytes);
-    }
-
--- a part of the gathered replies was taken
-pub breaks_off-part : (texts : List (List ℕ)) (start a b : Option (List ℕ)) (old : Outbox) (error : SinkError) (p faults faults_after broken : ℕ) → HasGathered texts start a old
-    → p < length old.text.items → Appends a b (take p old.text.items) → CountsSinkFault {T = ℕ} faults faults_after (Err error)
-    → broken ≡ old.lines + whole_within p old.ends.items + 1 → BreaksOff texts start b faults faults_after (end_of_sink error broken)
-breaks_off-part texts start a b old error p faults faults_after broken gathered part bytes counts is_broken =
-    let k = old.lines in
-    let text = old.text.items in
-    let whole = whole_within p (ends_from 0 (drop k texts)) in
-    let at : Broken texts broken (concat (take k texts) ++ take p text) =
-    rw (is_broken, gathered.ends)
-    (subst (λ l. p < length l → Broken texts (k + whole + 1) (concat (take k texts) ++ take p l)) (sym gathered.text) (broken_at texts k p gathered.among) part) in
-    let taken : Appends start b (concat (take k texts) ++ take p text) = Appends-trans start a b (concat (take k texts)) (take p text) gathered.bytes bytes in
-    ends error counts (wrote start b _ (Broken texts broken) taken at) (wrote start b _ (Stopped texts broken) taken at.stopped)
-  where
-    ends : (e : SinkError) → CountsSinkFault {T = ℕ} faults faults_after (Err e) → Wrote start b (Broken texts broken) → Wrote start b (Stopped texts broken)
-        → BreaksOff texts start b faults faults_after (end_of_sink e broken)
-    ends sink_error.Failed rose broken stopped = (rose, broken)
-    ends sink_error.Memory same broken stopped = (same, stopped)
-
--- all replies were taken, and memory is wanting: for one more reply, or for another thing
-pub breaks_off-whole : (texts later : List (List ℕ)) (start b : Option (List ℕ)) (done faults faults_after : ℕ) → Appends start b (concat texts) → length later ≤ 1 → done ≡ length texts + length later
-    → faults_after ≡ faults → BreaksOff (texts ++ later) start b faults faults_after (Memory done)
-breaks_off-whole texts later start b done faults faults_after bytes few count same =
-    (same, wrote start b (concat texts) (Stopped (texts ++ later) done) bytes (stopped_before texts later done few count))
-
--- a run that breaks off among some replies does among more
-pub breaks_off-more : (texts more : List (List ℕ)) (start b : Option (List ℕ)) (faults faults_after : ℕ) (end : End) → BreaksOff texts start b faults faults_after end → BreaksOff (texts ++ more) start b faults faults_after end
-breaks_off-more texts more start b faults faults_after (WriteFault done) off = (off.0, wrote-weaker start b (Broken texts done) (Broken (texts ++ more) done) (broken-more texts more done) off.1)
-breaks_off-more texts more start b faults faults_after (Memory done) off = (off.0, wrote-weaker start b (Stopped texts done) (Stopped (texts ++ more) done) (stopped-more texts more done) off.1)
-breaks_off-more texts more start b faults faults_after (Finished refused) off = off
-breaks_off-more texts more start b faults faults_after Usage off = off
-breaks_off-more texts more start b faults faults_after (Schema _ _) off = off
-breaks_off-more texts more start b faults faults_after (ReadFault done) off = off
-breaks_off-more texts more start b faults faults_after (TooLong done) off = off
-
--- what is gathered stays so where the outbox stays as it was
-pub gathered-same : (texts : List (List ℕ)) (start a : Option (List ℕ)) (old new : Outbox) → HasGathered texts start a old
-    → new.lines ≡ old.lines → new.taken ≡ old.taken → new.text.items ≡ old.text.items → new.ends.items ≡ old.ends.items → HasGathered texts start a new
-gathered-same texts start a old new gathered same_lines same_taken same_text same_ends = record {
-  among = rw same_lines gathered.among;
-  none_in_part = same_taken ∙ gathered.none_in_part;
-  text = rw (same_text, same_lines) gathered.text;
-  ends = rw (same_ends, same_lines) gathered.ends;
-  bytes = rw same_lines gathered.bytes;
-}
+-- no reply is gathered yet
+pub gathered_none : (start : Option (List ℕ)) → Appends start start [] → HasGathered [] start start []
+gathered_none start none = record { sent = []; all = refl; bytes = none }
 
 -- one reply more is gathered
-rest-push : (texts : List (List ℕ)) (k : ℕ) (text : List ℕ) → k ≤ length texts → concat (drop k (texts ++ text ∷ [])) ≡ concat (drop k texts) ++ text
-rest-push texts k text le = rw (drop-append-le k texts (text ∷ []) le, concat-append, append-nil) refl
+pub gathered-push : (replies gathered : List (List ℕ)) (text : List ℕ) (start taken : Option (List ℕ)) → HasGathered replies start taken gathered → HasGathered (replies ++ text ∷ []) start taken (gathered ++ text ∷ [])
+gathered-push replies gathered text start taken has = record {
+  sent = has.sent;
+  all = ap (λ l. l ++ text ∷ []) has.all ∙ append_assoc has.sent gathered (text ∷ []);
+  bytes = has.bytes;
+}
 
-ends-push : (texts : List (List ℕ)) (k : ℕ) (text : List ℕ) (end : ℕ) → k ≤ length texts → end ≡ length (concat (drop k texts) ++ text)
-    → ends_from 0 (drop k (texts ++ text ∷ [])) ≡ ends_from 0 (drop k texts) ++ end ∷ []
-ends-push texts k text end le last =
-    rw (drop-append-le k texts (text ∷ []) le) (ends_from-push 0 (drop k texts) text end (omega (arith, last, length-append (concat (drop k texts)) text)))
+-- the sink took the gathered replies
+pub took_all : (replies gathered : List (List ℕ)) (start a b : Option (List ℕ)) → HasGathered replies start a gathered → Appends a b (concat gathered) → Appends start b (concat replies)
+took_all replies gathered start a b has bytes =
+    let whole : concat has.sent ++ concat gathered ≡ concat replies = sym (ap concat has.all ∙ concat-append has.sent gathered) in
+    subst (Appends start b) whole (Appends-trans start a b (concat has.sent) (concat gathered) has.bytes bytes)
 
-pub gathered-push : (texts : List (List ℕ)) (text : List ℕ) (start a : Option (List ℕ)) (old new : Outbox) → HasGathered texts start a old
-    → new.lines ≡ old.lines → new.taken ≡ old.taken → new.text.items ≡ old.text.items ++ text → new.ends.items ≡ old.ends.items ++ length new.text.items ∷ []
-    → HasGathered (texts ++ text ∷ []) start a new
-gathered-push texts text start a old new gathered same_lines same_taken more_text more_ends =
-    let k = old.lines in
-    let le = gathered.among in
-    let text_now : new.text.items ≡ concat (drop k texts) ++ text = more_text ∙ ap (λ l. l ++ text) gathered.text in
-    let ends_now : new.ends.items ≡ ends_from 0 (drop k texts) ++ length new.text.items ∷ [] = more_ends ∙ ap (λ es. es ++ length new.text.items ∷ []) gathered.ends in
-    record {
-      among = omega (arith, gathered.among, length-append texts (text ∷ []));
-      none_in_part = same_taken ∙ gathered.none_in_part;
-      text = text_now ∙ rw same_lines (sym (rest-push texts k text le));
-      ends = ends_now ∙ rw same_lines (sym (ends-push texts k text (length new.text.items) le (ap length text_now)));
-      bytes = rw (same_lines, take-append-le k texts (text ∷ []) le) gathered.bytes;
-    }
+pub gathered_sent : (replies gathered : List (List ℕ)) (start a b : Option (List ℕ)) → HasGathered replies start a gathered → Appends a b (concat gathered) → HasGathered replies start b []
+gathered_sent replies gathered start a b has bytes = record {
+  sent = replies;
+  all = sym (append-nil replies);
+  bytes = took_all replies gathered start a b has bytes;
+}
+
+-- where nothing is gathered the sink took all replies
+pub all_sent : (replies : List (List ℕ)) (start taken : Option (List ℕ)) → HasGathered replies start taken [] → Appends start taken (concat replies)
+all_sent replies start taken has = subst (λ l. Appends start taken (concat l)) (sym (has.all ∙ append-nil has.sent)) has.bytes
+
+-- a part of the gathered replies was taken
+pub breaks_off_part : (replies gathered : List (List ℕ)) (start : Option (List ℕ)) (sink : SinkSeen) (error : SinkError) (whole done line : ℕ) → HasGathered replies start sink.taken gathered
+    → Wrote sink.taken sink.taken_after (Broken gathered (whole + 1)) → CountsCut sink error → done ≡ length replies → line ≡ done - length gathered + whole + 1
+    → BreaksOff replies (seen_since sink start) (break_off_at error line)
+breaks_off_part replies gathered start sink error whole done line has cut counts is_done is_line =
+    let is_count : line ≡ length has.sent + (whole + 1) = omega (arith, ap length has.all, length-append has.sent gathered) in
+    let broken : (bytes : List ℕ) → Broken gathered (whole + 1) bytes → Broken replies line (concat has.sent ++ bytes) =
+    λ bytes b. rw (has.all, is_count) (broken_behind has.sent gathered (whole + 1) bytes (omega arith) b) in
+    by_error error counts (wrote_behind start sink.taken sink.taken_after (concat has.sent) (Broken gathered (whole + 1)) (Broken replies line) has.bytes cut broken)
+  where
+    by_error : (e : SinkError) → CountsCut sink e → Wrote start sink.taken_after (Broken replies line) → BreaksOff replies (seen_since sink start) (break_off_at e line)
+    by_error sink_error.Failed rose written = (rose, written)
+    by_error sink_error.Memory same written = (same, written)
+
+-- all replies were taken, and memory is wanting: for one more reply, or for another thing
+pub breaks_off_whole : (replies later : List (List ℕ)) (start : Option (List ℕ)) (sink : SinkSeen) (done : ℕ) → Appends start sink.taken_after (concat replies) → length later ≤ 1 → done ≡ length replies + length later
+    → NoWriteFault sink → BreaksOff (replies ++ later) (seen_since sink start) (Memory done)
+breaks_off_whole replies later start sink done bytes few count same =
+    (same, wrote start sink.taken_after (concat replies) (Gathered (replies ++ later) done) bytes (gathered_before replies later done few count))
+
+-- a run that breaks off among some replies does among more
+pub breaks_off-more : (replies more : List (List ℕ)) (sink : SinkSeen) (off : BreakOff) → BreaksOff replies sink off → BreaksOff (replies ++ more) sink off
+breaks_off-more replies more sink (Write line) off =
+    (off.0, wrote-weaker sink.taken sink.taken_after (Broken replies line) (Broken (replies ++ more) line) (broken-more replies more line) off.1)
+breaks_off-more replies more sink (SinkMemory line) off =
+    (off.0, wrote-weaker sink.taken sink.taken_after (Broken replies line) (Broken (replies ++ more) line) (broken-more replies more line) off.1)
+breaks_off-more replies more sink (Memory done) off =
+    (off.0, wrote-weaker sink.taken sink.taken_after (Gathered replies done) (Gathered (replies ++ more) done) (gathered-more replies more done) off.1)

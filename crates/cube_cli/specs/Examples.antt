@@ -1,19 +1,30 @@
--- Two small inputs, and what they give, worked out by hand.
+-- Small inputs, and what they give, worked out by hand.
 use Rattle.std.specs.Prelude.{◌≡◌, ℕ, List, [], ◌∷◌, ◌++◌, codes, IsSomeAnd}
 use Rattle.std.specs.List.{concat}
-use Rattle.cube_model.specs.Text.{line_text}
+use Rattle.text_lines.specs.Text.{line_text}
 use Rattle.cube_cli.specs.End.{outcome_of}
 
--- a state of two cities
-abbrev pub texas : List ℕ
-texas =
+-- a state of two cities, with a policy, and lines of measures
+abbrev pub two_cities : List (List ℕ) → List ℕ → List ℕ
+two_cities policy measures =
     line_text (codes "cube") (codes "1" ∷ [])
-    ++ line_text (codes "policy") (codes "uniform" ∷ [])
+    ++ line_text (codes "policy") policy
+    ++ measures
     ++ line_text (codes "dimension") (codes "Place" ∷ [])
     ++ line_text (codes "node") (codes "0" ∷ codes "TX" ∷ [])
     ++ line_text (codes "node") (codes "1" ∷ codes "Austin" ∷ [])
     ++ line_text (codes "node") (codes "1" ∷ codes "Dallas" ∷ [])
     ++ line_text (codes "end") []
+
+-- without a measure; with a distribution; and with a number by whose sum the cities weigh
+abbrev pub texas : List ℕ
+texas = two_cities (codes "uniform" ∷ []) []
+
+abbrev pub graded : List ℕ
+graded = two_cities (codes "uniform" ∷ []) (line_text (codes "parts") (codes "Quality" ∷ codes "100" ∷ codes "good" ∷ codes "bad" ∷ []))
+
+abbrev pub weighed : List ℕ
+weighed = two_cities (codes "weight" ∷ codes "Hours" ∷ []) (line_text (codes "number") (codes "Hours" ∷ []))
 
 -- a fact in a city, one somewhere in the state, and the count at the city
 abbrev pub city_and_state : List ℕ
@@ -50,6 +61,42 @@ refused_and_skipped_replies =
     ++ line_text (codes "error") (codes "command" ∷ [])
     ++ line_text (codes "terms") (codes "1" ∷ codes "2" ∷ codes "2" ∷ [])
     ++ line_text (codes "error") (codes "missing" ∷ [])
+
+-- a fact in a city with its parts, one somewhere in the state, parts that do not add up to 100, and the parts at the city
+abbrev pub parts_of_outcomes : List ℕ
+parts_of_outcomes =
+    graded
+    ++ line_text (codes "insert") (codes "1" ∷ codes "Austin" ∷ codes "80:20" ∷ [])
+    ++ line_text (codes "insert") (codes "2" ∷ codes "TX" ∷ codes "50:50" ∷ [])
+    ++ line_text (codes "insert") (codes "3" ∷ codes "TX" ∷ codes "80:21" ∷ [])
+    ++ line_text (codes "terms") (codes "Austin" ∷ [])
+
+-- one half of the state's parts is the city's
+abbrev pub parts_of_outcomes_replies : List ℕ
+parts_of_outcomes_replies =
+    line_text (codes "ok") (codes "1" ∷ [])
+    ++ line_text (codes "ok") (codes "1" ∷ [])
+    ++ line_text (codes "error") (codes "parts" ∷ [])
+    ++ line_text (codes "terms") (codes "2" ∷ codes "1" ∷ codes "1" ∷ codes "80" ∷ codes "20" ∷ codes "2" ∷ codes "1" ∷ codes "50" ∷ codes "50" ∷ [])
+
+-- three hours in a city, one in the other, some in the state, hours below 0, and how the state's fact is spread
+abbrev pub hours : List ℕ
+hours =
+    weighed
+    ++ line_text (codes "insert") (codes "1" ∷ codes "Austin" ∷ codes "3" ∷ [])
+    ++ line_text (codes "insert") (codes "2" ∷ codes "Dallas" ∷ codes "1" ∷ [])
+    ++ line_text (codes "insert") (codes "3" ∷ codes "TX" ∷ codes "5" ∷ [])
+    ++ line_text (codes "insert") (codes "4" ∷ codes "TX" ∷ codes "-1" ∷ [])
+    ++ line_text (codes "rows") (codes "3" ∷ [])
+
+-- three quarters of it are the first city's
+abbrev pub hours_replies : List ℕ
+hours_replies =
+    line_text (codes "ok") (codes "1" ∷ [])
+    ++ line_text (codes "ok") (codes "1" ∷ [])
+    ++ line_text (codes "ok") (codes "1" ∷ [])
+    ++ line_text (codes "error") (codes "value" ∷ [])
+    ++ line_text (codes "rows") (codes "4" ∷ codes "2" ∷ codes "Austin" ∷ codes "3" ∷ codes "Dallas" ∷ codes "1" ∷ [])
 
 -- an input gives these replies, and this many of its lines are refused
 abbrev pub Gives : List ℕ → List ℕ → ℕ → Type 0

@@ -1,9 +1,10 @@
-pub mod Broken
+pub mod Command
 pub mod End
 pub mod Examples
 pub mod Input
 pub mod Progress
 pub mod ReplyEnds
 pub mod Run
-pub mod RunsScript
+pub mod RunEnd
+pub mod Seen
 pub mod Status

@@ -1,40 +1,71 @@
 -- Where a run stands between two lines, and how it may break off.
-use Rattle.std.specs.Prelude.{◌≡◌, ℕ, ◌≤◌, List, [], length, take, drop, Option}
+use Rattle.std.specs.Prelude.{◌≡◌, ℕ, ◌<◌, List, ◌++◌, length, Option, Err}
 use Rattle.std.specs.List.{concat}
 use Rattle.std.specs.Io.KnownBytes.{Appends}
-use Rattle.cube_base.specs.Outside.{Rose}
-use Rattle.cube_model.specs.Allocation.{Policy}
+use Rattle.cube_base.specs.Outside.{CountsSinkFault}
+use Rattle.cube_base.specs.declared.fault.SinkError.{SinkError}
+use Rattle.cube_base.specs.declared.fault.SinkError.TheVariants as sink_error
+use Rattle.cube_core.specs.Cube.{CubeValue}
+use Rattle.cube_model.specs.declared.statistic.CellStat.{CellStat}
 use Rattle.schema_text.specs.Schema.{SchemaValue}
-use Rattle.cube_cli.specs.Run.{run}
-use Rattle.cube_cli.specs.ReplyEnds.{ends_from}
-use Rattle.cube_cli.specs.End.{Broken, Stopped, Wrote}
-use Rattle.cube_cli.specs.declared.outbox.Outbox.{Outbox}
-use Rattle.cube_cli.specs.declared.script_run.ScriptRun.{ScriptRun}
-use Rattle.cube_cli.specs.declared.end.End.{End}
-use Rattle.cube_cli.specs.declared.end.End.TheVariants.{Finished, Usage, Schema, ReadFault, WriteFault, Memory, TooLong}
+use Rattle.cube_cli.specs.Run.{Outcome, State, run, schema_at}
+use Rattle.cube_cli.specs.End.{Broken, Gathered}
+use Rattle.cube_cli.specs.Seen.{NoWriteFault, SinkSeen, WriteFailed, Wrote}
+use Rattle.cube_cli.specs.declared.break_off.BreakOff.{BreakOff}
+use Rattle.cube_cli.specs.declared.break_off.BreakOff.TheVariants.{Write, SinkMemory, Memory}
 
--- Of these replies the sink, which had `start` before, has taken the first whole, and the others are gathered.
-pub record HasGathered (texts : List (List ℕ)) (start taken : Option (List ℕ)) (outbox : Outbox) : Type 0 where
-  pub among : outbox.lines ≤ length texts
-  pub none_in_part : outbox.taken ≡ 0
-  pub text : outbox.text.items ≡ concat (drop outbox.lines texts)
-  pub ends : outbox.ends.items ≡ ends_from 0 (drop outbox.lines texts)
-  pub bytes : Appends start taken (concat (take outbox.lines texts))
+-- how many bytes of replies are gathered before they are written: 32 KiB
+abbrev pub MARK_BYTES : ℕ
+MARK_BYTES = 32768
 
--- these lines are done, and their replies are gathered or taken
-pub record HasDone {P : Type 0} (weigh : Policy) (schema : SchemaValue) (lines : List (List ℕ)) (start taken : Option (List ℕ)) (script_run : ScriptRun P) : Type 0 where
-  pub same_schema : script_run.cube.schema ≡ schema
-  pub facts : script_run.cube.facts ≡ (run weigh schema [] lines).facts
-  pub done : script_run.done ≡ length lines
-  pub refused : script_run.refused ≡ (run weigh schema [] lines).refused
-  pub gathered : HasGathered (run weigh schema [] lines).replies start taken script_run.outbox
+-- how many lines' replies are gathered before they are written, however short they are
+abbrev pub MARK_LINES : ℕ
+MARK_LINES = 4096
 
--- how a run breaks off among its lines
-abbrev pub BreaksOff : List (List ℕ) → Option (List ℕ) → Option (List ℕ) → ℕ → ℕ → End → Type 0
-BreaksOff texts start taken faults faults_after (WriteFault done) = Rose faults faults_after × Wrote start taken (Broken texts done)
-BreaksOff texts start taken faults faults_after (Memory done) = (faults_after ≡ faults) × Wrote start taken (Stopped texts done)
-BreaksOff texts start taken faults faults_after (Finished refused) = ⊥
-BreaksOff texts start taken faults faults_after Usage = ⊥
-BreaksOff texts start taken faults faults_after (Schema _ _) = ⊥
-BreaksOff texts start taken faults faults_after (ReadFault done) = ⊥
-BreaksOff texts start taken faults faults_after (TooLong done) = ⊥
+-- the gathered replies are too few for a write
+pub record AreFew (gathered : List (List ℕ)) : Type 0 where
+  pub bytes : length (concat gathered) < MARK_BYTES
+  pub lines : length gathered < MARK_LINES
+
+-- of these replies the sink, which had `start` before, has taken the first whole, and the others are gathered
+pub record HasGathered (replies : List (List ℕ)) (start taken : Option (List ℕ)) (gathered : List (List ℕ)) : Type 0 where
+  pub sent : List (List ℕ)
+  pub all : replies ≡ sent ++ gathered
+  pub bytes : Appends start taken (concat sent)
+
+-- what a cube at work is: the cube, the replies that are gathered, and how many lines are answered and refused
+pub record Working (P : Type 0) : Type 0 where
+  pub cube : CubeValue P
+  pub gathered : List (List ℕ)
+  pub done : ℕ
+  pub refused : ℕ
+
+-- these lines are done from a first state on, and their replies are gathered or taken
+pub record HasDone {P : Type 0} (weigh : CellStat → ℕ) (schema : SchemaValue) (first : State) (lines : List (List ℕ)) (start taken : Option (List ℕ)) (working : Working P) : Type 0 where
+  pub schema_now : working.cube.schema ≡ schema_at schema (run weigh schema first lines).state
+  pub facts : working.cube.facts ≡ (run weigh schema first lines).state.facts
+  pub done : working.done ≡ length lines
+  pub refused : working.refused ≡ (run weigh schema first lines).refused
+  pub gathered : HasGathered (run weigh schema first lines).replies start taken working.gathered
+
+-- the count of faults where a sink took a part of a text
+abbrev pub CountsCut : SinkSeen → SinkError → Type 0
+CountsCut sink error = CountsSinkFault {T = ℕ} sink.faults sink.faults_after (Err error)
+
+-- how a run breaks off whose sink took a part of the reply to a line
+abbrev pub break_off_at : SinkError → ℕ → BreakOff
+break_off_at sink_error.Failed line = Write line
+break_off_at sink_error.Memory line = SinkMemory line
+
+-- How a run breaks off among its lines: a write failed, or the sink wanted memory, within the reply to a line; or memory was
+-- wanting when so many lines were done, and the gathered replies are written.
+abbrev pub BreaksOff : List (List ℕ) → SinkSeen → BreakOff → Type 0
+BreaksOff replies sink (Write line) = WriteFailed sink × Wrote sink.taken sink.taken_after (Broken replies line)
+BreaksOff replies sink (SinkMemory line) = NoWriteFault sink × Wrote sink.taken sink.taken_after (Broken replies line)
+BreaksOff replies sink (Memory done) = NoWriteFault sink × Wrote sink.taken sink.taken_after (Gathered replies done)
+
+-- the whole run was done and written
+pub record Done (outcome : Outcome) (sink : SinkSeen) (refused : ℕ) : Type 0 where
+  pub bytes : Appends sink.taken sink.taken_after (concat outcome.replies)
+  pub count : refused ≡ outcome.refused
+  pub no_fault : NoWriteFault sink

@@ -1,60 +1,71 @@
 -- What a script does, line by line.
-use Rattle.std.specs.Prelude.{ℕ, ◌+◌, List, [], ◌∷◌, length, Option, Some, None, Result, Ok, Err}
+use Rattle.std.specs.Prelude.{◌≡◌, ℕ, ◌+◌, List, [], ◌∷◌, ◌++◌, length, Option, Some, None, Result, Ok, Err}
 use Rattle.std.specs.Option.{option_map_or}
 use Rattle.cube_base.specs.declared.code.Code.{Code}
 use Rattle.cube_base.specs.declared.code.Code.TheVariants.{Missing}
 use Rattle.cube_model.specs.declared.edit.Fact.{Fact}
 use Rattle.cube_model.specs.declared.edit.Edit.{Edit}
-use Rattle.cube_model.specs.Allocation.{Allocation, ExtendedFact, Policy, by_count, extended, uniform}
+use Rattle.cube_model.specs.declared.statistic.CellStat.{CellStat}
+use Rattle.cube_model.specs.Allocation.{Allocation, ExtendedFact, allocation_of}
 use Rattle.cube_model.specs.Answer.{answer}
 use Rattle.cube_model.specs.Difference.{refreshed}
 use Rattle.cube_model.specs.Facts.{after}
 use Rattle.cube_model.specs.Tree.{Dimension}
+use Rattle.fact_records.specs.Judge.{judge}
 use Rattle.fact_records.specs.Shape.{width_of_all}
-use Rattle.schema_text.specs.declared.word.PolicyWord.{PolicyWord}
-use Rattle.schema_text.specs.declared.word.PolicyWord.TheVariants as policy_word
-use Rattle.schema_text.specs.Schema.{SchemaValue}
+use Rattle.schema_text.specs.Schema.{SchemaValue, over_dims, policy_in, shape_of, weigh_of}
 use Rattle.script_text.specs.declared.line.Line.{Line}
 use Rattle.script_text.specs.declared.line.Line.TheVariants as line
 use Rattle.script_text.specs.declared.reply.Reply.{Reply}
 use Rattle.script_text.specs.declared.reply.Reply.TheVariants as reply
 use Rattle.script_text.specs.Reply.{reply_text}
 use Rattle.script_text.specs.ScriptLine.{line_of}
-use Rattle.cube_core.specs.Cube.{allocation_of}
-use Rattle.cube_core.specs.Judge.{judge}
+use Rattle.cube_core.specs.Cube.{CubeValue, rows_over}
 
--- the policy of a word
-abbrev pub weigh_of : PolicyWord → Policy
-weigh_of policy_word.Uniform = uniform
-weigh_of policy_word.Count = by_count
-
--- the rows of all facts
-abbrev pub rows_of : Policy → SchemaValue → List Fact → List ExtendedFact
-rows_of weigh schema facts = extended weigh schema.dims facts
-
--- what a line does: its reply, if it has one, and the facts after it
-pub record Step : Type 0 where
-  pub reply : Option Reply
+-- the dimensions and the facts as they stand between two lines
+pub record State : Type 0 where
+  pub dims : List Dimension
   pub facts : List Fact
 
--- a line that leaves the facts
-abbrev pub replied : List Fact → Reply → Step
-replied facts answer = record { reply = Some answer; facts = facts }
+-- what a cube stands at
+abbrev pub state_of : {P : Type 0} → CubeValue P → State
+state_of cube = record { dims = cube.schema.dims; facts = cube.facts }
+
+-- a schema over the dimensions of a state
+abbrev pub schema_at : SchemaValue → State → SchemaValue
+schema_at schema state = over_dims schema state.dims
+
+-- a cube put at a state
+abbrev pub cube_at : {P : Type 0} → CubeValue P → State → CubeValue P
+cube_at cube state = record cube { schema = schema_at cube.schema state; facts = state.facts }
+
+-- the rows of a state's facts
+abbrev pub rows_at : (CellStat → ℕ) → SchemaValue → State → List ExtendedFact
+rows_at weigh schema state = rows_over weigh (schema_at schema state) state.facts
+
+-- what a line does: its reply, if it has one, and the state after it
+pub record Step : Type 0 where
+  pub reply : Option Reply
+  pub state : State
+
+-- a line that leaves the state
+abbrev pub replied : State → Reply → Step
+replied state answer = record { reply = Some answer; state = state }
 
 -- an accepted edit answers how many facts it refreshes
-abbrev pub accepted : Policy → SchemaValue → List Fact → List Fact → Step
-accepted weigh schema facts later = record { reply = Some (reply.Ok (length (refreshed weigh schema.dims facts later))); facts = later }
+abbrev pub accepted : (CellStat → ℕ) → SchemaValue → State → List Fact → Step
+accepted weigh schema state later = record { reply = Some (reply.Ok (length (refreshed (policy_in weigh schema) state.dims state.facts later))); state = record state { facts = later } }
 
 -- an edit is done unless it is refused
-abbrev pub edited : Policy → SchemaValue → List Fact → Edit → Step
-edited weigh schema facts edit =
-    option_map_or (λ refusal. replied facts (reply.Error refusal)) (judge weigh schema.measures schema.dims edit facts) (accepted weigh schema facts (after edit facts))
+abbrev pub edited : (CellStat → ℕ) → SchemaValue → State → Edit → Step
+edited weigh schema state edit =
+    option_map_or (λ refusal. replied state (reply.Error refusal)) (judge (policy_in weigh schema) (shape_of schema) state.dims edit state.facts) (accepted weigh schema state (after edit state.facts))
 
 -- what the facts add up to inside a region
-abbrev pub terms_at : Policy → SchemaValue → List Fact → List ℕ → Reply
-terms_at weigh schema facts region = reply.Terms (record {
+abbrev pub terms_at : (CellStat → ℕ) → SchemaValue → State → List ℕ → Reply
+terms_at weigh schema state region = reply.Terms (record {
   columns = width_of_all schema.measures + 1;
-  terms = answer (width_of_all schema.measures) schema.dims (rows_of weigh schema facts) region;
+  terms = answer (width_of_all schema.measures) state.dims (rows_at weigh schema state) region;
 })
 
 -- how a fact is spread
@@ -63,19 +74,20 @@ rows_reply None = reply.Error Missing
 rows_reply (Some a) = reply.Rows a.den a.rows
 
 -- what a line that is read does
-abbrev pub step_of : Policy → SchemaValue → List Fact → Line → Step
-step_of weigh schema facts line.Nothing = record { reply = None; facts = facts }
-step_of weigh schema facts (line.Edit edit) = edited weigh schema facts edit
-step_of weigh schema facts (line.Terms region) = replied facts (terms_at weigh schema facts region)
-step_of weigh schema facts (line.Rows id) = replied facts (rows_reply (allocation_of id (rows_of weigh schema facts)))
+abbrev pub step_of : (CellStat → ℕ) → SchemaValue → State → Line → Step
+step_of weigh schema state line.Nothing = record { reply = None; state = state }
+step_of weigh schema state (line.Edit edit) = edited weigh schema state edit
+step_of weigh schema state (line.Terms region) = replied state (terms_at weigh schema state region)
+step_of weigh schema state (line.Rows id) = replied state (rows_reply (allocation_of id (rows_at weigh schema state)))
 
 -- a line that is not read is refused
-abbrev pub step_from : Policy → SchemaValue → List Fact → Result Line Code → Step
-step_from weigh schema facts (Ok said) = step_of weigh schema facts said
-step_from weigh schema facts (Err refusal) = replied facts (reply.Error refusal)
+abbrev pub step_from : (CellStat → ℕ) → SchemaValue → State → Result Line Code → Step
+step_from weigh schema state (Ok said) = step_of weigh schema state said
+step_from weigh schema state (Err refusal) = replied state (reply.Error refusal)
 
-unfoldable pub step : Policy → SchemaValue → List Fact → List ℕ → Step
-step weigh schema facts bytes = step_from weigh schema facts (line_of schema.dims schema.measures bytes)
+-- what the bytes of a line do, which are read over the dimensions of the state
+unfoldable pub step : (CellStat → ℕ) → SchemaValue → State → List ℕ → Step
+step weigh schema state bytes = step_from weigh schema state (line_of (schema_at schema state) bytes)
 
 -- the text of a reply, if there is one
 abbrev pub text_of : List Dimension → Option Reply → List ℕ
@@ -90,20 +102,32 @@ refusals_in (Some (reply.Error _)) = 1
 refusals_in (Some (reply.Terms _)) = 0
 refusals_in (Some (reply.Rows _ _)) = 0
 
--- What lines do: the text of the reply to each, which is empty where there is none, the facts at the end, and the
--- number of refusals.
+-- What lines do: the text of the reply to each, which is empty where there is none, the state at the end, and the number of
+-- refusals.
 pub record Outcome : Type 0 where
   pub replies : List (List ℕ)
-  pub facts : List Fact
+  pub state : State
   pub refused : ℕ
 
-abbrev pub run : Policy → SchemaValue → List Fact → List (List ℕ) → Outcome
-run weigh schema facts [] = record { replies = []; facts = facts; refused = 0 }
-run weigh schema facts (line ∷ lines) =
-    let now = step weigh schema facts line in
-    let later = run weigh schema now.facts lines in
-    record { replies = text_of schema.dims now.reply ∷ later.replies; facts = later.facts; refused = refusals_in now.reply + later.refused }
+-- the lines done one after the other from a first state on
+abbrev pub run : (CellStat → ℕ) → SchemaValue → State → List (List ℕ) → Outcome
+run weigh schema state [] = record { replies = []; state = state; refused = 0 }
+run weigh schema state (line ∷ lines) =
+    let now = step weigh schema state line in
+    let later = run weigh schema now.state lines in
+    record { replies = text_of now.state.dims now.reply ∷ later.replies; state = later.state; refused = refusals_in now.reply + later.refused }
 
--- the run of a whole script from no facts on, under the policy of the schema
+-- the dimensions of a schema, and no facts
+abbrev pub empty_state : SchemaValue → State
+empty_state schema = record { dims = schema.dims; facts = [] }
+
+-- the run of a whole script from no facts on, where cells weigh as the policy of the schema says
 abbrev pub run_of : SchemaValue → List (List ℕ) → Outcome
-run_of schema lines = run (weigh_of schema.policy) schema [] lines
+run_of schema lines = run (weigh_of schema.policy) schema (empty_state schema) lines
+
+-- A run stops after its first lines in a state from which the other lines go on: the replies stand one after the other, and the
+-- refusals add up.
+pub record RunsInParts (weigh : CellStat → ℕ) (schema : SchemaValue) (first : State) (lines more : List (List ℕ)) : Type 0 where
+  pub replies : (run weigh schema first (lines ++ more)).replies ≡ (run weigh schema first lines).replies ++ (run weigh schema (run weigh schema first lines).state more).replies
+  pub state : (run weigh schema first (lines ++ more)).state ≡ (run weigh schema (run weigh schema first lines).state more).state
+  pub refused : (run weigh schema first (lines ++ more)).refused ≡ (run weigh schema first lines).refused + (run weigh schema (run weigh schema first lines).state more).refused

@@ -1,18 +1,29 @@
-//! The top call.
-ghost use Rattle.std.specs.Prelude.{◌≡◌, ◌≤◌, length, map, string_bytes};
-ghost use Rattle.cube_model.specs.Text.{lines_of};
-ghost use Rattle.cube_cli.specs.End.{Says, IsComplete, is_command, seen_of};
-ghost use Rattle.cube_cli.specs.Run.{weigh_of};
-ghost use Rattle.cube_cli.specs.RunsScript.{RunsScript};
+//! The commands, and the top call.
+ghost use Rattle.std.specs.Prelude.{◌≡◌, ◌≤◌, length, map, string_bytes, IfErr, IfOk};
+ghost use Rattle.text_lines.specs.Text.{lines_of};
+ghost use Rattle.cube_cli.specs.Command.{command_of};
+ghost use Rattle.cube_cli.specs.End.{IsComplete, IsCompleteTry, Says, SaysOfTry, TookFew};
+ghost use Rattle.cube_cli.specs.Progress.{BreaksOff, Done};
+ghost use Rattle.cube_cli.specs.Run.{empty_state, run, run_of};
+ghost use Rattle.cube_cli.specs.Seen.{seen_of, sink_seen, source_seen};
 
 use crate::End;
+use crate::break_off::{BreakOff, end_of_run};
 use crate::input::{InputStop, MAX_INPUT, take_input};
 use crate::script_run::ScriptRun;
-use cell_weight::{ByCount, Uniform, WeightPolicy};
+use cell_weight::{ByCount, BySum, Uniform, WeightPolicy};
 use cube_base::{Sink, Source};
 use cube_core::Cube;
-use schema_text::{PolicyWord, Schema, SchemaFault, first_line_of, read_schema};
+use schema_text::{PolicyWord, Schema, SchemaFault, read_schema};
 use std::alloc::Global;
+use text_lines::first_line_of;
+
+/// A command of the program.
+#[derive(Clone, Copy, Debug, PartialEq, Eq)]
+pub enum Command {
+    /// A schema and a script, done on a cube without a store.
+    Try,
+}
 
 /// Runs the program: the words of the command line without the program's name, the input, and where replies go.
 ///
@@ -23,70 +34,81 @@ use std::alloc::Global;
 pub fn cube<S: Source, K: Sink>(alloc: Global, words: &[String], source: &mut S, out: &mut K) -> End
     ensures says { Says (map string_bytes words.now) (seen_of S.left S.faults K.taken K.faults source.old source.new out.old out.new) result }
     ensures complete { IsComplete (map string_bytes words.now) (seen_of S.left S.faults K.taken K.faults source.old source.new out.old out.new) result }
+    ensures few { TookFew (source_seen S.left S.faults source.old source.new) result }
 {
-    if !is_command(words) {
-        return End::Usage;
+    match command_of(words) {
+        None => End::Usage,
+        Some(Command::Try) => try_input(alloc, source, out),
     }
-    let input = match take_input(alloc, source) {
+}
+
+// The command that the words name, if they are those of one.
+fn command_of(words: &[String]) -> Option<Command>
+    ensures { result ≡ command_of (map string_bytes words.now) }
+{
+    match words {
+        [word] if word.as_str() == "try" => Some(Command::Try),
+        _ => None,
+    }
+}
+
+// Takes the input, and does the script behind its schema.
+fn try_input<S: Source, K: Sink>(alloc: Global, source: &mut S, out: &mut K) -> End
+    ensures says { SaysOfTry (seen_of S.left S.faults K.taken K.faults source.old source.new out.old out.new) result }
+    ensures complete { IsCompleteTry (seen_of S.left S.faults K.taken K.faults source.old source.new out.old out.new) result }
+    ensures few { TookFew (source_seen S.left S.faults source.old source.new) result }
+{
+    let input = match take_input(alloc, source, MAX_INPUT) {
         Ok(input) => input,
         Err(InputStop::Fault) => return End::ReadFault { done: 0 },
         Err(InputStop::TooLong) => return End::TooLong { done: 0 },
         Err(InputStop::Memory) => return End::Memory { done: 0 },
     };
     match read_schema(alloc, &input) {
-        Ok((schema, size)) => run_schema_script(alloc, schema, &input[size..], out),
+        Ok((schema, size)) => end_of_run(run_schema_script(alloc, schema, &input[size..], out)),
         Err(SchemaFault::Bad { line, code }) => End::Schema { line, code },
         Err(SchemaFault::Memory) => End::Memory { done: 0 },
     }
 }
 
-// Whether the words are those of a command.
-fn is_command(words: &[String]) -> bool
-    ensures { result ≡ is_command (map string_bytes words.now) }
-{
-    match words {
-        [word] => word.as_str() == "try",
-        _ => false,
-    }
-}
-
-// Does the lines of a script on a cube of the schema and its policy, and writes their replies.
-fn run_schema_script<K: Sink>(alloc: Global, schema: Schema, script: &[u8], out: &mut K) -> End
+// Does the lines of a script on a cube of the schema and its policy, writes their replies, and says how many are refused.
+fn run_schema_script<K: Sink>(
+    alloc: Global,
+    schema: Schema,
+    script: &[u8],
+    out: &mut K,
+) -> Result<u64, BreakOff>
     requires { length script.now ≤ MAX_INPUT }
-    ensures { RunsScript (weigh_of schema.policy) schema (lines_of script.now) (K.taken out.old) (K.taken out.new) (K.faults out.old) (K.faults out.new) result }
+    ensures done { IfOk result (Done (run_of schema (lines_of script.now)) (sink_seen K.taken K.faults out.old out.new)) }
+    ensures broken { IfErr result (BreaksOff (run_of schema (lines_of script.now)).replies (sink_seen K.taken K.faults out.old out.new)) }
 {
     match schema.policy() {
         PolicyWord::Uniform => run_script(alloc, schema, Uniform, script, out),
         PolicyWord::Count => run_script(alloc, schema, ByCount, script, out),
+        PolicyWord::Weight(_) => run_script(alloc, schema, BySum, script, out),
     }
 }
 
-// Does the lines of a script on a cube of the schema under a policy, and writes their replies.
+// Does the lines of a script on a cube of the schema under a policy, writes their replies, and says how many are refused.
 fn run_script<P: WeightPolicy + Drop, K: Sink>(
     alloc: Global,
     schema: Schema,
     policy: P,
     script: &[u8],
     out: &mut K,
-) -> End
+) -> Result<u64, BreakOff>
     requires { length script.now ≤ MAX_INPUT }
-    ensures { RunsScript (P.weigh policy) schema (lines_of script.now) (K.taken out.old) (K.taken out.new) (K.faults out.old) (K.faults out.new) result }
+    ensures done { IfOk result (Done (run (P.weigh policy) schema (empty_state schema) (lines_of script.now)) (sink_seen K.taken K.faults out.old out.new)) }
+    ensures broken { IfErr result (BreaksOff (run (P.weigh policy) schema (empty_state schema) (lines_of script.now)).replies (sink_seen K.taken K.faults out.old out.new)) }
 {
     let Ok(cube) = Cube::new(alloc, schema, policy) else {
-        return End::Memory { done: 0 };
+        return Err(BreakOff::Memory { done: 0 });
     };
     let mut run = ScriptRun::new(alloc, cube);
     let mut rest = script;
     while let Some((line, after)) = first_line_of(rest) {
-        if let Err(end) = run.do_line(line, out) {
-            return end;
-        }
+        run.do_line(line, out)?;
         rest = after;
     }
-    match run.outbox.send(out) {
-        Ok(()) => End::Finished {
-            refused: run.refused,
-        },
-        Err(end) => end,
-    }
+    run.finish(out)
 }

@@ -1,9 +1,12 @@
 //! How a run of the program ends.
-ghost use Rattle.std.specs.Prelude.{◌≡◌};
+ghost use Rattle.std.specs.Prelude.{◌≡◌, ◌≤◌, ◌↔◌, IfSome, IsSome};
 ghost use Rattle.cube_cli.specs.Status.{status_of};
 
 use cube_base::Code;
 use std::fmt;
+
+/// The last status of a run that was done to its end.
+const LAST_DONE: u8 = 1;
 
 /// How a run ended. Of a run that stops, a part of the replies to the first `done` script lines is written, with all
 /// but the last of them whole.
@@ -15,13 +18,15 @@ pub enum End {
     Usage,
     /// The schema is refused: its first faulty line, counted from 1, and why.
     Schema { line: u64, code: Code },
-    /// Reading failed. The whole input is read before a line is done, so `done` is 0.
+    /// Reading failed when `done` lines were done, and their replies are written. The whole input is read before a line
+    /// is done, so `done` is 0.
     ReadFault { done: u64 },
     /// Writing failed. The reply to line `done`, counted from 1, is not whole; lines behind it may have been done.
     WriteFault { done: u64 },
     /// An allocation was refused. Lines behind the first `done` may have been done.
     Memory { done: u64 },
-    /// The input has more than 2^30 bytes. No line was done, and `done` is 0.
+    /// The input has more than 2^30 bytes. The replies to the `done` lines that were done are written. The whole input is
+    /// read before a line is done, so `done` is 0.
     TooLong { done: u64 },
 }
 
@@ -41,6 +46,31 @@ impl End {
             End::Memory { done: _ } => 9,
             End::TooLong { done: _ } => 10,
         }
+    }
+
+    /// What the program tells of the end: its exit status, and the line that it writes on standard error, which is
+    /// there exactly where the status is 2 or more.
+    pub fn told(self) -> (u8, Option<ErrorLine>)
+        ensures status { result.0 ≡ status_of self }
+        ensures there { IsSome result.1 ↔ (2 ≤ status_of self) }
+        ensures line { IfSome result.1 (λ line. line ≡ record { 0 = self }) }
+    {
+        let status = self.status();
+        if status > LAST_DONE {
+            (status, Some(ErrorLine(self)))
+        } else {
+            (status, None)
+        }
+    }
+}
+
+/// The line on standard error that tells of an end.
+#[derive(Clone, Copy, Debug, PartialEq, Eq)]
+pub struct ErrorLine(End);
+
+impl fmt::Display for ErrorLine {
+    fn fmt<W: fmt::Write>(&self, f: &mut fmt::Formatter<W>) -> fmt::Result {
+        write!(f, "cube: {}", self.0)
     }
 }
 

@@ -1,7 +1,7 @@
 //! Taking the whole input.
-ghost use Rattle.std.specs.Prelude.{◌≡◌, ◌+◌, ◌<◌, ◌≤◌, ◌++◌, ℕ, length, take, IfOk, OnOk, IfErr, OnErr};
+ghost use Rattle.std.specs.Prelude.{◌≡◌, ◌+◌, ◌<◌, ◌≤◌, ◌^◌, ◌++◌, ℕ, List, Option, length, take, IfOk, OnOk, IfErr, OnErr};
 ghost use Rattle.std.specs.Io.KnownBytes.{Consumes, IsAtEnd, Keeps};
-ghost use Rattle.cube_cli.specs.Input.{FailsReading, Reads, StopsReading, Taken};
+ghost use Rattle.cube_cli.specs.Input.{Reads, StopsReading, Taken};
 
 use cube_base::{Failed, Source};
 use std::alloc::{AllocError, Global};
@@ -15,8 +15,11 @@ const PIECE: usize = 1 << 16;
 /// Why the input was not taken whole.
 #[derive(Clone, Copy, Debug, PartialEq, Eq)]
 pub enum InputStop {
+    /// A read failed.
     Fault,
+    /// The input goes on behind the most bytes that it may have.
     TooLong,
+    /// Memory was wanting for an input that is not too long so far.
     Memory,
 }
 
@@ -30,20 +33,26 @@ impl From<AllocError> for InputStop {
     }
 }
 
-/// Takes the input to its end, or 2^30 bytes and one more.
-pub fn take_input<S: Source>(alloc: Global, source: &mut S) -> Result<Vec<u8>, InputStop>
-    ensures whole { IfOk result (λ input. Taken (S.left source.old) (S.left source.new) input.items) }
+/// Takes the input to its end, of which so many bytes are the most: one more is taken of an input that is longer, and then
+/// it is too long, whatever memory there is. It is not read again after its end.
+pub fn take_input<S: Source>(
+    alloc: Global,
+    source: &mut S,
+    limit: usize,
+) -> Result<Vec<u8>, InputStop>
+    requires { limit < 2 ^ 62 }
+    ensures whole { IfOk result (λ input. Taken limit (S.left source.old) (S.left source.new) input.items) }
     ensures count { OnOk result (S.faults source.new ≡ S.faults source.old) }
-    ensures stopped { IfErr result (StopsReading (S.left source.old) (S.left source.new) (S.faults source.old) (S.faults source.new)) }
+    ensures stopped { IfErr result (StopsReading limit (S.left source.old) (S.left source.new) (S.faults source.old) (S.faults source.new)) }
 {
     let mut buffer = zeros(alloc, PIECE)?;
     let mut input = Vec::new(alloc);
-    while input.len() <= MAX_INPUT {
-        if take_piece(source, &mut buffer, &mut input)? == 0 {
+    'pieces: loop {
+        let len = take_piece(source, &mut buffer, limit, &mut input)?;
+        if len == 0 {
             return Ok(input);
         }
     }
-    Err(InputStop::TooLong)
 }
 
 // A buffer of a length.
@@ -53,24 +62,33 @@ fn zeros(alloc: Global, len: usize) -> Result<Vec<u8>, AllocError>
     vec![in alloc; 0u8; len]
 }
 
-// Takes one piece, no longer than the buffer and what is left up to 2^30 bytes and one more, and says how long
-// it is: 0 at the end.
+// Takes one piece, no longer than the buffer and what is left up to the limit and one byte more, and says how long
+// it is: 0 at the end. Whether the input is too long is judged before memory is asked for.
 fn take_piece<S: Source>(
     source: &mut S,
     buffer: &mut [u8],
+    limit: usize,
     input: &mut Vec<u8>,
 ) -> Result<usize, InputStop>
     requires room { 0 < length buffer.old }
-    requires short { length input.old.items ≤ MAX_INPUT }
-    ensures bytes { IfOk result (Reads (S.left source.old) (S.left source.new) input.old.items input.new.items) }
+    requires moderate { limit < 2 ^ 62 }
+    requires short { length input.old.items ≤ limit }
+    ensures bytes { IfOk result (Reads limit (S.left source.old) (S.left source.new) input.old.items input.new.items) }
     ensures count { OnOk result (S.faults source.new ≡ S.faults source.old) }
-    ensures stopped { IfErr result (FailsReading (S.faults source.old) (S.faults source.new)) }
+    ensures stopped { (start : Option (List ℕ)) → Consumes start (S.left source.old) input.old.items
+        → IfErr result (StopsReading limit start (S.left source.new) (S.faults source.old) (S.faults source.new)) }
 {
-    let room = (MAX_INPUT + 1 - input.len()).min(buffer.len());
+    let left = limit - input.len();
+    let room = (left + 1).min(buffer.len());
     let piece = &mut buffer[..room];
     let Ok(len) = source.read(piece) else {
         return Err(InputStop::Fault);
     };
-    input.extend_from_slice(&piece[..len])?;
+    if len > left {
+        return Err(InputStop::TooLong);
+    }
+    if input.extend_from_slice(&piece[..len]).is_err() {
+        return Err(InputStop::Memory);
+    }
     Ok(len)
 }

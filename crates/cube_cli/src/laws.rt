@@ -1,5 +1,9 @@
 //! Runs that are computed from the definitions. The function does nothing: the law is its contract.
-ghost use Rattle.cube_cli.specs.Examples.{Gives, city_and_state, city_and_state_replies, refused_and_skipped, refused_and_skipped_replies};
+ghost use Rattle.std.specs.Prelude.{ℕ, List};
+ghost use Rattle.cube_model.specs.declared.statistic.CellStat.{CellStat};
+ghost use Rattle.schema_text.specs.Schema.{SchemaValue};
+ghost use Rattle.cube_cli.specs.Run.{RunsInParts, State};
+ghost use Rattle.cube_cli.specs.Examples.{Gives, city_and_state, city_and_state_replies, hours, hours_replies, parts_of_outcomes, parts_of_outcomes_replies, refused_and_skipped, refused_and_skipped_replies};
 
 /// Two inputs worked out by hand. A fact in a city and one somewhere in its state: the count at the city has a term for
 /// each. A fact somewhere in a state counts two halves there, a repeated insert, an unknown line and a question about no
@@ -7,4 +11,16 @@ ghost use Rattle.cube_cli.specs.Examples.{Gives, city_and_state, city_and_state_
 pub fn worked_examples()
     ensures city_and_state { Gives city_and_state city_and_state_replies 0 }
     ensures refusals { Gives refused_and_skipped refused_and_skipped_replies 3 }
+{}
+
+/// Two more with measures. The parts of a distribution at a city are its own and one half of its state's, and parts that do
+/// not add up are refused. A fact somewhere in a state lies by the hours of its cities, which are not below 0.
+pub fn worked_measures()
+    ensures distribution { Gives parts_of_outcomes parts_of_outcomes_replies 1 }
+    ensures weight { Gives hours hours_replies 1 }
+{}
+
+/// The state after some lines is that of the run of these lines, and the other lines are done from there.
+pub fn run_in_two_parts()
+    ensures { (weigh : CellStat → ℕ) (schema : SchemaValue) (first : State) (lines more : List (List ℕ)) → RunsInParts weigh schema first lines more }
 {}

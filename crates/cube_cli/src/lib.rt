@@ -1,6 +1,7 @@
 //! The program as a library: the top call, from the bytes that come in to the bytes that go out.
 #![tactic(auto)]
 
+mod break_off;
 mod command;
 mod end;
 mod input;
@@ -8,9 +9,8 @@ mod laws;
 mod outbox;
 mod script;
 mod script_run;
-#[cfg(test)]
-mod tests;
 
-pub use command::cube;
-pub use end::End;
-pub use laws::worked_examples;
+pub use command::{Command, cube};
+pub use end::{End, ErrorLine};
+pub use input::{InputStop, take_input};
+pub use laws::{run_in_two_parts, worked_examples, worked_measures};

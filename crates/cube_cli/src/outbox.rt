@@ -1,19 +1,19 @@
 //! Replies on their way to the sink, gathered into larger writes.
-ghost use Rattle.std.specs.Prelude.{◌≡◌, ◌+◌, ◌<◌, ◌≤◌, ◌^◌, ◌++◌, ℕ, List, [], ◌∷◌, Option, length, take, vec_len, vec_capacity, IfErr, IfSome, OnOk, OnErr};
+ghost use Rattle.std.specs.Prelude.{◌≡◌, ◌+◌, ◌<◌, ◌++◌, false, [], ◌∷◌, length, IfErr, IfSome, OnOk, OnErr};
 ghost use Rattle.std.specs.Io.KnownBytes.{Appends};
 ghost use Rattle.std.specs.List.{concat};
-ghost use Rattle.cube_base.specs.Outside.{CountsSinkFault};
 ghost use Rattle.script_text.specs.Reply.{NamesCells};
-ghost use Rattle.cube_cli.specs.Broken.{end_of_sink};
-ghost use Rattle.cube_cli.specs.ReplyEnds.{whole_within};
+ghost use Rattle.cube_cli.specs.End.{Broken};
+ghost use Rattle.cube_cli.specs.Progress.{AreFew, CountsCut};
+ghost use Rattle.cube_cli.specs.ReplyEnds.{ends_from, whole_within};
 ghost use Rattle.cube_cli.specs.Run.{text_of};
-ghost use Rattle.cube_cli.specs.Progress.{BreaksOff, HasGathered};
+ghost use Rattle.cube_cli.specs.Seen.{Wrote, sink_seen};
 
-use crate::End;
 use cube_base::{Memory, Sink, SinkError, write_from};
 use schema_text::Schema;
 use script_text::{Reply, append_reply};
 use std::alloc::Global;
+use std::marker::Model;
 
 /// How many bytes are gathered before they are written.
 const GATHERED: usize = 1 << 15;
@@ -21,152 +21,110 @@ const GATHERED: usize = 1 << 15;
 /// How many lines' replies are gathered before they are written, however short they are.
 const GATHERED_LINES: usize = 1 << 12;
 
-/// Replies that the sink has not taken whole. A line's reply may be empty.
+/// Replies that are not written. A line's reply may be empty. Contracts see the list of their texts.
 #[derive(Drop)]
 pub struct Outbox {
-    /// The replies, one after the other.
-    pub text: Vec<u8>,
-    /// For each line whose reply is gathered, the length of `text` up to the reply's end.
-    pub ends: Vec<usize>,
-    /// How many bytes of `text` the sink has taken.
-    pub taken: usize,
-    /// How many lines' replies it took before these.
-    pub lines: u64,
+    // The replies, one after the other.
+    text: Vec<u8>,
+    // For each reply, the length of `text` up to its end.
+    ends: Vec<usize>,
+}
+
+impl Model for Outbox {
+    ghost use Rattle.std.specs.Prelude.{ℕ, List};
+    ghost use Rattle.cube_cli.specs.ReplyEnds.{IsCut, cut_at_ends};
+
+    ghost Value = { List (List ℕ) };
+
+    ghost view = { λ o. cut_at_ends 0 o.ends.items o.text.items };
+
+    ghost invariant = { λ o. IsCut o.ends.items o.text.items };
+}
+
+/// Where a sink broke off.
+#[derive(Clone, Copy, Debug, PartialEq, Eq)]
+pub struct CutOff {
+    /// Why it took no more.
+    pub error: SinkError,
+    /// How many of the replies it took whole.
+    pub whole: u64,
 }
 
 impl Outbox {
     /// No replies.
     pub fn new(alloc: Global) -> Self
-        ensures { (start : Option (List ℕ)) → HasGathered [] start start result }
+        ensures { result ≡ [] }
     {
         Outbox {
             text: Vec::new(alloc),
             ends: Vec::new(alloc),
-            taken: 0,
-            lines: 0,
         }
+    }
+
+    /// The number of the replies.
+    pub fn len(&self) -> u64
+        ensures { result ≡ length self.now }
+    {
+        self.ends.len() as u64
     }
 
     /// Whether enough is gathered for a write.
-    pub fn is_full(&self) -> bool {
+    pub fn is_full(&self) -> bool
+        ensures { result ≡ false → AreFew self.now }
+    {
         self.text.len() >= GATHERED || self.ends.len() >= GATHERED_LINES
     }
 
-    /// Makes room for the end of one more reply. The replies stay as they are.
-    pub fn make_room(&mut self) -> Result<(), Memory>
-        ensures room { OnOk result (vec_len self.new.ends < vec_capacity self.new.ends) }
-        ensures same_ends { self.new.ends.items ≡ self.old.ends.items }
-        ensures same_text { self.new.text ≡ self.old.text }
-        ensures same_taken { self.new.taken ≡ self.old.taken }
-        ensures same_lines { self.new.lines ≡ self.old.lines }
+    /// Gathers the reply to one more line. An error, which is want of memory, leaves the replies as they were.
+    pub fn gather(&mut self, schema: &Schema, reply: &Option<Reply>) -> Result<(), Memory>
+        requires { IfSome reply.now (NamesCells schema.now.dims) }
+        ensures gathered { OnOk result (self.new ≡ self.old ++ text_of schema.now.dims reply.now ∷ []) }
+        ensures same { OnErr result (self.new ≡ self.old) }
     {
         self.ends.reserve(1)?;
-        Ok(())
-    }
-
-    /// Gathers the reply to one more line, whose end has its room. An error leaves the replies as they were.
-    pub fn gather(&mut self, schema: &Schema, reply: &Option<Reply>) -> Result<(), Memory>
-        requires room { vec_len self.old.ends < vec_capacity self.old.ends }
-        requires cells { IfSome reply.now (NamesCells schema.now.dims) }
-        ensures text { OnOk result (self.new.text.items ≡ self.old.text.items ++ text_of schema.now.dims reply.now) }
-        ensures ends { OnOk result (self.new.ends.items ≡ self.old.ends.items ++ length self.new.text.items ∷ []) }
-        ensures kept_text { OnErr result (self.new.text.items ≡ self.old.text.items) }
-        ensures kept_ends { OnErr result (self.new.ends.items ≡ self.old.ends.items) }
-        ensures same_taken { self.new.taken ≡ self.old.taken }
-        ensures same_lines { self.new.lines ≡ self.old.lines }
-    {
-        if let Some(reply) = reply {
-            append_reply(&mut self.text, schema, reply)?;
-        }
+        append_some(&mut self.text, schema, reply)?;
         self.ends.push_reserved(self.text.len());
         Ok(())
     }
 
-    /// Writes the replies, of which the sink has taken none in part.
-    pub fn send<K: Sink>(&mut self, out: &mut K) -> Result<(), End>
-        requires few { self.old.lines < 2 ^ 63 }
-        requires none_in_part { self.old.taken ≡ 0 }
-        ensures done { (texts : List (List ℕ)) (start : Option (List ℕ)) → HasGathered texts start (K.taken out.old) self.old
-            → OnOk result (HasGathered texts start (K.taken out.new) self.new) }
-        ensures all { (texts : List (List ℕ)) (start : Option (List ℕ)) → HasGathered texts start (K.taken out.old) self.old
-            → OnOk result (Appends start (K.taken out.new) (concat texts)) }
+    /// Writes the replies. On an error the sink took a part of them, and they are there as before.
+    pub fn send<K: Sink>(&mut self, out: &mut K) -> Result<(), CutOff>
+        ensures bytes { OnOk result (Appends (K.taken out.old) (K.taken out.new) (concat self.old)) }
+        ensures empty { OnOk result (self.new ≡ []) }
         ensures count { OnOk result (K.faults out.new ≡ K.faults out.old) }
-        ensures broken { (texts : List (List ℕ)) (start : Option (List ℕ)) → HasGathered texts start (K.taken out.old) self.old
-            → IfErr result (BreaksOff texts start (K.taken out.new) (K.faults out.old) (K.faults out.new)) }
+        ensures same { OnErr result (self.new ≡ self.old) }
+        ensures within { IfErr result (λ cut. cut.whole < length self.old) }
+        ensures cut { IfErr result (λ cut. Wrote (K.taken out.old) (K.taken out.new) (Broken self.old (cut.whole + 1))) }
+        ensures cause { IfErr result (λ cut. CountsCut (sink_seen K.taken K.faults out.old out.new) cut.error) }
     {
-        match self.write(out) {
-            Ok(()) => Ok(()),
-            Err(error) => Err(broken(error, self.broken_line())),
+        let mut taken = 0;
+        if let Err(error) = write_from(out, &self.text, &mut taken) {
+            return Err(CutOff {
+                error,
+                whole: self.whole(taken),
+            });
         }
-    }
-
-    /// Writes the replies that are gathered, of which the sink has taken none in part, and ends for want of memory when
-    /// so many lines were done: those of the replies, or one more, whose reply could not be gathered.
-    pub fn give_up<K: Sink>(&mut self, out: &mut K, done: u64) -> End
-        requires few { self.old.lines < 2 ^ 63 }
-        requires none_in_part { self.old.taken ≡ 0 }
-        ensures { (texts later : List (List ℕ)) (start : Option (List ℕ)) → HasGathered texts start (K.taken out.old) self.old
-            → length later ≤ 1 → done ≡ length texts + length later
-            → BreaksOff (texts ++ later) start (K.taken out.new) (K.faults out.old) (K.faults out.new) result }
-    {
-        match self.send(out) {
-            Ok(()) => End::Memory { done },
-            Err(end) => end,
-        }
-    }
-
-    // Writes the replies, of which the sink has taken none. On an error it took a part of them.
-    fn write<K: Sink>(&mut self, out: &mut K) -> Result<(), SinkError>
-        requires none_in_part { self.old.taken ≡ 0 }
-        requires few { self.old.lines < 2 ^ 63 }
-
-        ensures bytes { OnOk result (Appends (K.taken out.old) (K.taken out.new) self.old.text.items) }
-        ensures empty { OnOk result (self.new.text.items ≡ []) }
-        ensures no_ends { OnOk result (self.new.ends.items ≡ []) }
-        ensures none_in_part { OnOk result (self.new.taken ≡ 0) }
-        ensures lines { OnOk result (self.new.lines ≡ self.old.lines + length self.old.ends.items) }
-
-        ensures part { OnErr result (Appends (K.taken out.old) (K.taken out.new) (take self.new.taken self.old.text.items)) }
-        ensures some_left { OnErr result (self.new.taken < length self.old.text.items) }
-        ensures same_text { OnErr result (self.new.text.items ≡ self.old.text.items) }
-        ensures same_ends { OnErr result (self.new.ends.items ≡ self.old.ends.items) }
-        ensures same_lines { OnErr result (self.new.lines ≡ self.old.lines) }
-
-        ensures count { CountsSinkFault (K.faults out.old) (K.faults out.new) result }
-    {
-        write_from(out, &self.text, &mut self.taken)?;
-        self.lines += self.ends.len() as u64;
         self.text.clear();
         self.ends.clear();
-        self.taken = 0;
         Ok(())
     }
 
-    // The number of the line, from 1, whose reply the sink has taken in part or not at all: the first of which something
-    // is left.
-    fn broken_line(&self) -> u64
-        requires few { self.now.lines < 2 ^ 63 }
-        ensures { result ≡ self.now.lines + whole_within self.now.taken self.now.ends.items + 1 }
+    // How many of the replies end within so many bytes.
+    fn whole(&self, taken: usize) -> u64
+        ensures { result ≡ whole_within taken (ends_from 0 self.now) }
     {
-        self.lines + self.whole() + 1
-    }
-
-    // How many of the gathered replies the sink has taken whole.
-    fn whole(&self) -> u64
-        ensures whole { result ≡ whole_within self.now.taken self.now.ends.items }
-        ensures most { result ≤ length self.now.ends.items }
-    {
-        let taken = self.taken;
         self.ends.iter().filter(|end| **end <= taken).count() as u64
     }
 }
 
-// How a run ends whose sink took a part of the reply to a line.
-fn broken(error: SinkError, done: u64) -> End
-    ensures { result ≡ end_of_sink error done }
+// Appends the text of a reply, if there is one. An error leaves the text as it was.
+fn append_some(text: &mut Vec<u8>, schema: &Schema, reply: &Option<Reply>) -> Result<(), Memory>
+    requires { IfSome reply.now (NamesCells schema.now.dims) }
+    ensures ok { OnOk result (text.new.items ≡ text.old.items ++ text_of schema.now.dims reply.now) }
+    ensures err { OnErr result (text.new.items ≡ text.old.items) }
 {
-    match error {
-        SinkError::Failed => End::WriteFault { done },
-        SinkError::Memory => End::Memory { done },
+    match reply {
+        Some(reply) => append_reply(text, schema, reply),
+        None => Ok(()),
     }
 }

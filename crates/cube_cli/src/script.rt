@@ -1,9 +1,11 @@
 //! Doing a line of a script on a cube.
 ghost use Rattle.std.specs.Prelude.{◌≡◌, if◌then◌else◌, IfOk, IfSome, OnErr, OnOk, Some};
 ghost use Rattle.std.specs.Option.{option_copied};
-ghost use Rattle.script_text.specs.LineOf.{IsEditOf, IsLineOf};
+ghost use Rattle.fact_records.specs.Valid.{IsEditOf};
+ghost use Rattle.schema_text.specs.Schema.{shape_of};
+ghost use Rattle.script_text.specs.LineOf.{IsLineOf};
 ghost use Rattle.script_text.specs.Reply.{NamesCells};
-ghost use Rattle.cube_cli.specs.Run.{edited, refusals_in, rows_reply, step, step_of};
+ghost use Rattle.cube_cli.specs.Run.{cube_at, edited, refusals_in, rows_reply, state_of, step, step_of};
 
 use alloc_rows::Alloc;
 use cell_weight::WeightPolicy;
@@ -19,12 +21,12 @@ pub fn do_line<P: WeightPolicy + Drop>(
     cube: &mut Cube<P>,
     line: &[u8],
 ) -> Result<Option<Reply>, Memory>
-    ensures reply { IfOk result (λ reply. reply ≡ (step (P.weigh cube.old.policy) cube.old.schema cube.old.facts line.now).reply) }
-    ensures facts { OnOk result (cube.new ≡ record cube.old { facts = (step (P.weigh cube.old.policy) cube.old.schema cube.old.facts line.now).facts }) }
-    ensures cells { IfOk result (λ reply. IfSome reply (NamesCells cube.old.schema.dims)) }
+    ensures reply { IfOk result (λ reply. reply ≡ (step (P.weigh cube.old.policy) cube.old.schema (state_of cube.old) line.now).reply) }
+    ensures state { OnOk result (cube.new ≡ cube_at cube.old (step (P.weigh cube.old.policy) cube.old.schema (state_of cube.old) line.now).state) }
+    ensures cells { IfOk result (λ reply. IfSome reply (NamesCells cube.new.schema.dims)) }
     ensures same { OnErr result (cube.new ≡ cube.old) }
 {
-    match read_line(cube.schema(), line) {
+    match read_line(alloc, cube.schema(), line) {
         Ok(said) => do_said(alloc, cube, said),
         Err(LineFault::Code(code)) => Ok(Some(Reply::Error(code))),
         Err(LineFault::Memory) => Err(Memory),
@@ -37,10 +39,10 @@ fn do_said<P: WeightPolicy + Drop>(
     cube: &mut Cube<P>,
     said: Line,
 ) -> Result<Option<Reply>, Memory>
-    requires { IsLineOf cube.old.schema.dims cube.old.schema.measures said }
-    ensures reply { IfOk result (λ reply. reply ≡ (step_of (P.weigh cube.old.policy) cube.old.schema cube.old.facts said).reply) }
-    ensures facts { OnOk result (cube.new ≡ record cube.old { facts = (step_of (P.weigh cube.old.policy) cube.old.schema cube.old.facts said).facts }) }
-    ensures cells { IfOk result (λ reply. IfSome reply (NamesCells cube.old.schema.dims)) }
+    requires { IsLineOf cube.old.schema said }
+    ensures reply { IfOk result (λ reply. reply ≡ (step_of (P.weigh cube.old.policy) cube.old.schema (state_of cube.old) said).reply) }
+    ensures state { OnOk result (cube.new ≡ cube_at cube.old (step_of (P.weigh cube.old.policy) cube.old.schema (state_of cube.old) said).state) }
+    ensures cells { IfOk result (λ reply. IfSome reply (NamesCells cube.new.schema.dims)) }
     ensures same { OnErr result (cube.new ≡ cube.old) }
 {
     match said {
@@ -53,10 +55,10 @@ fn do_said<P: WeightPolicy + Drop>(
 
 /// Does an edit: `ok` with the number of the facts that it refreshed, or why it is refused.
 fn do_edit<P: WeightPolicy + Drop>(cube: &mut Cube<P>, edit: &Edit) -> Result<Reply, Memory>
-    requires { IsEditOf cube.old.schema.dims cube.old.schema.measures edit.now }
-    ensures reply { IfOk result (λ reply. Some reply ≡ (edited (P.weigh cube.old.policy) cube.old.schema cube.old.facts edit.now).reply) }
-    ensures facts { OnOk result (cube.new ≡ record cube.old { facts = (edited (P.weigh cube.old.policy) cube.old.schema cube.old.facts edit.now).facts }) }
-    ensures cells { IfOk result (NamesCells cube.old.schema.dims) }
+    requires { IsEditOf (shape_of cube.old.schema) cube.old.schema.dims edit.now }
+    ensures reply { IfOk result (λ reply. Some reply ≡ (edited (P.weigh cube.old.policy) cube.old.schema (state_of cube.old) edit.now).reply) }
+    ensures state { OnOk result (cube.new ≡ cube_at cube.old (edited (P.weigh cube.old.policy) cube.old.schema (state_of cube.old) edit.now).state) }
+    ensures cells { IfOk result (NamesCells cube.new.schema.dims) }
     ensures same { OnErr result (cube.new ≡ cube.old) }
 {
     match cube.edit(edit) {

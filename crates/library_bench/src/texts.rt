@@ -5,9 +5,10 @@ use crate::cells::spread_once;
 use anyhow::{Context, Result};
 use cell_weight::Uniform;
 use cube_base::Pairs;
-use schema_text::{Schema, first_line_of, read_schema};
+use schema_text::{Schema, read_schema};
 use script_text::{Reply, read_line, write_reply};
 use std::alloc::Global;
+use text_lines::first_line_of;
 
 /// Reads the schema with which a text begins, so many times: the number of its dimensions, and of its bytes.
 pub fn schemas(alloc: Global, rounds: u32, text: &str) -> Result<(u64, u64)> {
@@ -24,7 +25,7 @@ pub fn lines(alloc: Global, rounds: u32, text: &str) -> Result<(u64, u64)> {
     let (schema, size) = schema_of(alloc, text)?;
     let mut seen = (0, 0);
     for _ in 0..rounds {
-        seen = read_lines(&schema, &text.as_bytes()[size..]);
+        seen = read_lines(alloc, &schema, &text.as_bytes()[size..]);
     }
     Ok(seen)
 }
@@ -50,13 +51,13 @@ fn schema_of(alloc: Global, text: &str) -> Result<(Schema, usize)>
 }
 
 /// How many lines are accepted, and how many are not.
-fn read_lines(schema: &Schema, text: &[u8]) -> (u64, u64) {
+fn read_lines(alloc: Global, schema: &Schema, text: &[u8]) -> (u64, u64) {
     let mut accepted = 0u64;
     let mut refused = 0u64;
     let mut rest = text;
     while let Some((line, behind)) = first_line_of(rest) {
         rest = behind;
-        if read_line(schema, line).is_ok() {
+        if read_line(alloc, schema, line).is_ok() {
             accepted = accepted.wrapping_add(1);
         } else {
             refused = refused.wrapping_add(1);

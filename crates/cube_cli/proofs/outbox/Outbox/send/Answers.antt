@@ -1,17 +1,21 @@
-use Rattle.std.proofs.Common.{refl, ◌∙◌}
-use Rattle.cube_cli.proofs.Writing.{breaks_off-part, gathered_sent, took_all}
+use Rattle.std.proofs.Common.{◌≡◌, ◌<◌, length, take, ap, ◌∙◌, subst}
+use Rattle.std.specs.List.{concat}
+use Rattle.std.specs.Io.KnownBytes.{Appends}
+use Rattle.cube_cli.proofs.ReplyEnds.{whole-lt}
+use Rattle.cube_cli.proofs.Writing.{wrote_part}
 use Rattle.cube_cli.proofs.outbox.Outbox.send.Goals as goal
 
-pub returns-in-Ok-clause-done : goal.returns-in-Ok-clause-done
-returns-in-Ok-clause-done g c = λ texts start gathered.
-    let sent = c.in-Ok.ensures in
-    gathered_sent texts start _ _ c.args.self.now _ gathered sent.empty sent.no_ends sent.none_in_part sent.lines sent.bytes
+pub returns-in-Err-clause-within : goal.returns-in-Err-clause-within
+returns-in-Err-clause-within g c =
+    let texts = c.args.self.now in
+    let all : c.deref.result.now ≡ concat texts = c.deref.ensures.value ∙ c.self.invariant.text_is ∙ ap concat c.self.view_is in
+    whole-lt texts c.write_from.new.sent c.whole.result (subst (λ t. c.write_from.new.sent < length t) all c.in-Err.ensures.err) c.whole.ensures
 
-pub returns-in-Ok-clause-all : goal.returns-in-Ok-clause-all
-returns-in-Ok-clause-all g c = λ texts start gathered. took_all texts start _ _ c.args.self.now gathered c.in-Ok.ensures.bytes
-
-pub returns-in-Err-clause-broken : goal.returns-in-Err-clause-broken
-returns-in-Err-clause-broken g c = λ texts start gathered.
-    let kept = c.in-Err.ensures in
-    rw c.broken.ensures (breaks_off-part texts start _ _ c.args.self.now c.in-Err.error c.write.new.self.taken _ _ c.broken_line.result gathered kept.some_left kept.part kept.count
-    (c.broken_line.ensures ∙ rw (kept.same_lines, kept.same_ends) refl))
+pub returns-in-Err-clause-cut : goal.returns-in-Err-clause-cut
+returns-in-Err-clause-cut g c =
+    let texts = c.args.self.now in
+    let p = c.write_from.new.sent in
+    let before = g.K.Sink.taken c.args.out.now in
+    let after = g.K.Sink.taken c.write_from.new.out in
+    let all : c.deref.result.now ≡ concat texts = c.deref.ensures.value ∙ c.self.invariant.text_is ∙ ap concat c.self.view_is in
+    wrote_part texts before after p c.whole.result (subst (λ t. p < length t) all c.in-Err.ensures.err) (subst (λ t. Appends before after (take p t)) all c.in-Err.ensures.bytes) c.whole.ensures

@@ -1,10 +1,11 @@
 use mir.Val.{bool_byte}
-use Rattle.std.proofs.Common.{◌≡◌, ◌+◌, ◌++◌, ◌∷◌, [], Bool, true, false, length, refl, ap, ◌∙◌, arith, rules}
-use Rattle.std.proofs.lemmas.Result.{on_ok_weaker}
-use Rattle.std.specs.Prelude.{if◌then◌else◌}
-use Rattle.cube_cli.specs.Run.{run, text_of}
-use Rattle.cube_cli.proofs.Doing.{breaks_off-before, count_done, gathered_here, has_done-push, text_here}
-use Rattle.cube_cli.proofs.Writing.{gathered-same}
+use Rattle.std.proofs.Common.{◌≡◌, ℕ, ◌+◌, ◌++◌, ◌∷◌, [], Bool, true, false, List, Option, refl, ap, ◌∙◌, subst, arith, rules}
+use Rattle.std.specs.Prelude.{IfErr, OnOk, if◌then◌else◌}
+use Rattle.schema_text.specs.Schema.{SchemaValue}
+use Rattle.cube_cli.specs.Run.{State, run, text_of}
+use Rattle.cube_cli.specs.Progress.{BreaksOff, HasDone, Working}
+use Rattle.cube_cli.specs.Seen.{seen_since, sink_seen}
+use Rattle.cube_cli.proofs.Doing.{breaks_off-before, count_done, has_done-sent, line_done, on_ok_both, replies_here}
 use Rattle.cube_cli.proofs.script_run.ScriptRun.do_line.Goals as goal
 
 -- what `u64::from` makes of a `bool`
@@ -12,81 +13,79 @@ byte : (b : Bool) → bool_byte b ≡ (if b then 1 else 0)
 byte true = refl
 byte false = refl
 
-pub returns-then-is_err-clause-broken : goal.returns-then-is_err-clause-broken
-returns-then-is_err-clause-broken g c = λ schema lines start done.
-    let old = c.args.self.now in
-    let weigh = g.P.WeightPolicy.weigh old.cube.policy in
-    let texts = (run weigh schema [] lines).replies in
-    let room = c.make_room.ensures in
-    let gathered = gathered-same texts start _ old.outbox c.make_room.new.self done.gathered room.same_lines room.same_taken (ap (λ t. t.items) room.same_text) room.same_ends in
-    breaks_off-before weigh schema lines c.args.line.now start _ _ _ _
-    (c.give_up.ensures texts [] start gathered (omega arith) (omega (arith, count_done weigh schema lines start _ old done)))
-
 pub returns-in_default-clause-broken : goal.returns-in_default-clause-broken
-returns-in_default-clause-broken g c = λ schema lines start done.
-    let old = c.args.self.now in
-    let weigh = g.P.WeightPolicy.weigh old.cube.policy in
-    let texts = (run weigh schema [] lines).replies in
-    let room = c.make_room.ensures in
-    let gathered = gathered-same texts start _ old.outbox c.make_room.new.self done.gathered room.same_lines room.same_taken (ap (λ t. t.items) room.same_text) room.same_ends in
-    breaks_off-before weigh schema lines c.args.line.now start _ _ _ _
-    (c.give_up-in_default.ensures texts [] start gathered (omega arith) (omega (arith, count_done weigh schema lines start _ old done)))
+returns-in_default-clause-broken g c =
+    let line = c.args.line.now in
+    let taken = g.K.Sink.taken c.args.out.now in
+    let sink = sink_seen g.K.Sink.taken g.K.Sink.faults c.args.out.now c.give_up.new.out in
+    let Claim : Working g.row.P.Denot → Type 0 = λ w. (schema : SchemaValue) (first : State) (lines : List (List ℕ)) (start : Option (List ℕ)) → HasDone {P = g.row.P.Denot} (g.P.WeightPolicy.weigh w.cube.policy) schema first lines start taken w
+    → BreaksOff (run (g.P.WeightPolicy.weigh w.cube.policy) schema first (lines ++ line ∷ [])).replies (seen_since sink start) c.give_up.result in
+    subst Claim c.self.view_is
+    (λ schema first lines start done.
+    let weigh = g.P.WeightPolicy.weigh c.self.inside.cube.policy in
+    let count = count_done weigh schema first lines start taken _ done in
+    breaks_off-before weigh schema first lines line (seen_since sink start) c.give_up.result
+    (c.give_up.ensures.broken (run weigh schema first lines).replies [] start done.gathered count (omega arith) (omega (arith, count))))
 
-pub returns-then-is_err-2-clause-broken : goal.returns-then-is_err-2-clause-broken
-returns-then-is_err-2-clause-broken g c = λ schema lines start done.
-    let old = c.args.self.now in
-    let weigh = g.P.WeightPolicy.weigh old.cube.policy in
-    let texts = (run weigh schema [] lines).replies in
-    let said = c.in-Ok.reply in
-    let room = c.make_room.ensures in
-    let kept = c.gather.ensures in
-    let kept_text : c.gather.new.self.text.items ≡ c.make_room.new.self.text.items = search rules in
-    let kept_ends : c.gather.new.self.ends.items ≡ c.make_room.new.self.ends.items = search rules in
-    let gathered = gathered-same texts start _ old.outbox c.gather.new.self done.gathered (kept.same_lines ∙ room.same_lines) (kept.same_taken ∙ room.same_taken)
-    (kept_text ∙ ap (λ t. t.items) room.same_text) (kept_ends ∙ room.same_ends) in
-    let text = text_of old.cube.schema.dims said in
-    rw (text_here weigh schema lines c.args.line.now start _ old said done c.in-Ok.ensures.reply)
-    (c.give_up-then-is_err-2.ensures texts (text ∷ []) start gathered (omega arith) (omega (arith, count_done weigh schema lines start _ old done)))
+pub returns-then-is_err-clause-broken : goal.returns-then-is_err-clause-broken
+returns-then-is_err-clause-broken g c =
+    let line = c.args.line.now in
+    let taken = g.K.Sink.taken c.args.out.now in
+    let sink = sink_seen g.K.Sink.taken g.K.Sink.faults c.args.out.now c.give_up-then-is_err.new.out in
+    let kept : c.gather.new.self ≡ c.self.inside.outbox = search rules in
+    let Claim : Working g.row.P.Denot → Type 0 = λ w. (schema : SchemaValue) (first : State) (lines : List (List ℕ)) (start : Option (List ℕ)) → HasDone {P = g.row.P.Denot} (g.P.WeightPolicy.weigh w.cube.policy) schema first lines start taken w
+    → BreaksOff (run (g.P.WeightPolicy.weigh w.cube.policy) schema first (lines ++ line ∷ [])).replies (seen_since sink start) c.give_up-then-is_err.result in
+    subst Claim c.self.view_is
+    (λ schema first lines start done.
+    let weigh = g.P.WeightPolicy.weigh c.self.inside.cube.policy in
+    let count = count_done weigh schema first lines start taken _ done in
+    let text = text_of c.do_line.new.cube.schema.dims c.in-Ok.reply in
+    rw (replies_here weigh schema first lines line start taken _ c.do_line.new.cube c.in-Ok.reply done c.in-Ok.ensures.reply c.in-Ok.ensures.state)
+    (c.give_up-then-is_err.ensures.broken (run weigh schema first lines).replies (text ∷ []) start (rw kept done.gathered) count (omega arith) (omega (arith, count))))
 
 pub returns-then-is_full-clause-done : goal.returns-then-is_full-clause-done
-returns-then-is_full-clause-done g c = λ schema lines start done.
-    let old = c.args.self.now in
-    let said = c.in-Ok.reply in
-    let room = c.make_room.ensures in
-    let more = c.gather.ensures in
-    let same_schema : c.schema.result.now ≡ old.cube.schema = c.schema.ensures ∙ ap (λ cube. cube.schema) c.in-Ok.ensures.facts in
-    let text : c.gather.new.self.text.items ≡ c.make_room.new.self.text.items ++ text_of c.schema.result.now.dims said = search rules in
-    let ends : c.gather.new.self.ends.items ≡ c.make_room.new.self.ends.items ++ length c.gather.new.self.text.items ∷ [] = search rules in
-    let gathered = gathered_here (g.P.WeightPolicy.weigh old.cube.policy) schema lines c.args.line.now start _ old said c.gather.new.self done c.in-Ok.ensures.reply (more.same_lines ∙ room.same_lines)
-    (more.same_taken ∙ room.same_taken) (text ∙ rw (room.same_text, same_schema) refl) (ends ∙ rw room.same_ends refl) in
-    on_ok_weaker c.send.result
-    (λ sent. has_done-push (g.P.WeightPolicy.weigh old.cube.policy) schema lines c.args.line.now start _ _ old _ said done c.in-Ok.ensures.reply c.in-Ok.ensures.facts refl
-    (ap (λ n. old.refused + n) (c.from.ensures ∙ byte _ ∙ c.is_refusal.ensures)) sent)
-    (c.send.ensures.done _ start gathered)
+returns-then-is_full-clause-done g c =
+    let line = c.args.line.now in
+    let taken = g.K.Sink.taken c.args.out.now in
+    let taken_after = g.K.Sink.taken c.send.new.out in
+    let kept : c.gather.new.self ≡ c.self.inside.outbox ++ text_of c.schema.result.now.dims c.in-Ok.reply ∷ [] = search rules in
+    let more = kept ∙ ap (λ (s : SchemaValue). c.self.inside.outbox ++ text_of s.dims c.in-Ok.reply ∷ []) c.schema.ensures in
+    let refused = ap (λ n. c.self.inside.refused + n) (c.from.ensures ∙ byte _ ∙ c.is_refusal.ensures) in
+    let Claim : Working g.row.P.Denot → Type 0 = λ w. (schema : SchemaValue) (first : State) (lines : List (List ℕ)) (start : Option (List ℕ)) → HasDone {P = g.row.P.Denot} (g.P.WeightPolicy.weigh w.cube.policy) schema first lines start taken w
+    → OnOk c.send.result (HasDone {P = g.row.P.Denot} (g.P.WeightPolicy.weigh w.cube.policy) schema first (lines ++ line ∷ []) start taken_after c.send.new.self) in
+    subst Claim c.self.view_is
+    (λ schema first lines start done.
+    let weigh = g.P.WeightPolicy.weigh c.self.inside.cube.policy in
+    let now = line_done weigh schema first lines line start taken _ c.do_line.new.cube c.in-Ok.reply c.gather.new.self _ done c.in-Ok.ensures.reply c.in-Ok.ensures.state more refused in
+    on_ok_both c.send.result (λ bytes empty. has_done-sent weigh schema first (lines ++ line ∷ []) start taken taken_after _ c.send.new.self now empty bytes)
+    (c.send.ensures.all (run weigh schema first (lines ++ line ∷ [])).replies start now.gathered) c.send.ensures.empty)
 
 pub returns-then-is_full-clause-broken : goal.returns-then-is_full-clause-broken
-returns-then-is_full-clause-broken g c = λ schema lines start done.
-    let old = c.args.self.now in
-    let said = c.in-Ok.reply in
-    let room = c.make_room.ensures in
-    let more = c.gather.ensures in
-    let same_schema : c.schema.result.now ≡ old.cube.schema = c.schema.ensures ∙ ap (λ cube. cube.schema) c.in-Ok.ensures.facts in
-    let text : c.gather.new.self.text.items ≡ c.make_room.new.self.text.items ++ text_of c.schema.result.now.dims said = search rules in
-    let ends : c.gather.new.self.ends.items ≡ c.make_room.new.self.ends.items ++ length c.gather.new.self.text.items ∷ [] = search rules in
-    let gathered = gathered_here (g.P.WeightPolicy.weigh old.cube.policy) schema lines c.args.line.now start _ old said c.gather.new.self done c.in-Ok.ensures.reply (more.same_lines ∙ room.same_lines)
-    (more.same_taken ∙ room.same_taken) (text ∙ rw (room.same_text, same_schema) refl) (ends ∙ rw room.same_ends refl) in
-    c.send.ensures.broken _ start gathered
+returns-then-is_full-clause-broken g c =
+    let line = c.args.line.now in
+    let taken = g.K.Sink.taken c.args.out.now in
+    let sink = sink_seen g.K.Sink.taken g.K.Sink.faults c.args.out.now c.send.new.out in
+    let kept : c.gather.new.self ≡ c.self.inside.outbox ++ text_of c.schema.result.now.dims c.in-Ok.reply ∷ [] = search rules in
+    let more = kept ∙ ap (λ (s : SchemaValue). c.self.inside.outbox ++ text_of s.dims c.in-Ok.reply ∷ []) c.schema.ensures in
+    let refused = ap (λ n. c.self.inside.refused + n) (c.from.ensures ∙ byte _ ∙ c.is_refusal.ensures) in
+    let Claim : Working g.row.P.Denot → Type 0 = λ w. (schema : SchemaValue) (first : State) (lines : List (List ℕ)) (start : Option (List ℕ)) → HasDone {P = g.row.P.Denot} (g.P.WeightPolicy.weigh w.cube.policy) schema first lines start taken w
+    → IfErr c.send.result (BreaksOff (run (g.P.WeightPolicy.weigh w.cube.policy) schema first (lines ++ line ∷ [])).replies (seen_since sink start)) in
+    subst Claim c.self.view_is
+    (λ schema first lines start done.
+    let weigh = g.P.WeightPolicy.weigh c.self.inside.cube.policy in
+    let now = line_done weigh schema first lines line start taken _ c.do_line.new.cube c.in-Ok.reply c.gather.new.self _ done c.in-Ok.ensures.reply c.in-Ok.ensures.state more refused in
+    c.send.ensures.broken (run weigh schema first (lines ++ line ∷ [])).replies start now.gathered (count_done weigh schema first (lines ++ line ∷ []) start taken _ now))
 
 pub returns-clause-done : goal.returns-clause-done
-returns-clause-done g c = λ schema lines start done.
-    let old = c.args.self.now in
-    let said = c.in-Ok.reply in
-    let room = c.make_room.ensures in
-    let more = c.gather.ensures in
-    let same_schema : c.schema.result.now ≡ old.cube.schema = c.schema.ensures ∙ ap (λ cube. cube.schema) c.in-Ok.ensures.facts in
-    let text : c.gather.new.self.text.items ≡ c.make_room.new.self.text.items ++ text_of c.schema.result.now.dims said = search rules in
-    let ends : c.gather.new.self.ends.items ≡ c.make_room.new.self.ends.items ++ length c.gather.new.self.text.items ∷ [] = search rules in
-    let gathered = gathered_here (g.P.WeightPolicy.weigh old.cube.policy) schema lines c.args.line.now start _ old said c.gather.new.self done c.in-Ok.ensures.reply (more.same_lines ∙ room.same_lines)
-    (more.same_taken ∙ room.same_taken) (text ∙ rw (room.same_text, same_schema) refl) (ends ∙ rw room.same_ends refl) in
-    has_done-push (g.P.WeightPolicy.weigh old.cube.policy) schema lines c.args.line.now start _ _ old _ said done c.in-Ok.ensures.reply c.in-Ok.ensures.facts refl
-    (ap (λ n. old.refused + n) (c.from.ensures ∙ byte _ ∙ c.is_refusal.ensures)) gathered
+returns-clause-done g c =
+    let line = c.args.line.now in
+    let taken = g.K.Sink.taken c.args.out.now in
+    let kept : c.gather.new.self ≡ c.self.inside.outbox ++ text_of c.schema.result.now.dims c.in-Ok.reply ∷ [] = search rules in
+    let more = kept ∙ ap (λ (s : SchemaValue). c.self.inside.outbox ++ text_of s.dims c.in-Ok.reply ∷ []) c.schema.ensures in
+    let refused = ap (λ n. c.self.inside.refused + n) (c.from.ensures ∙ byte _ ∙ c.is_refusal.ensures) in
+    let after : Working g.row.P.Denot = record { cube = c.do_line.new.cube; gathered = c.gather.new.self; done = c.self.inside.done + 1; refused = c.self.inside.refused + c.from.result } in
+    let Claim : Working g.row.P.Denot → Type 0 = λ w. (schema : SchemaValue) (first : State) (lines : List (List ℕ)) (start : Option (List ℕ)) → HasDone {P = g.row.P.Denot} (g.P.WeightPolicy.weigh w.cube.policy) schema first lines start taken w
+    → HasDone {P = g.row.P.Denot} (g.P.WeightPolicy.weigh w.cube.policy) schema first (lines ++ line ∷ []) start taken after in
+    subst Claim c.self.view_is
+    (λ schema first lines start done.
+    line_done (g.P.WeightPolicy.weigh c.self.inside.cube.policy) schema first lines line start taken _ c.do_line.new.cube c.in-Ok.reply c.gather.new.self _ done c.in-Ok.ensures.reply c.in-Ok.ensures.state more refused)
