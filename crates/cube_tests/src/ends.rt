@@ -1,0 +1,131 @@
+//! Command lines, and what is told of each end.
+use crate::runs::{ALL, REPAIRS, WHOLE, run};
+use cube_base::{Bytes, Code, Ids, MemSource};
+use cube_cli::{End, InputStop, take_input};
+use std::alloc::{AllocError, Global};
+use std::test::Fail;
+
+/// Words of no command.
+const NO_COMMANDS: [&[&str]; 9] = [
+    &["run"],
+    &["help"],
+    &["drill", "0"],
+    &["drill", "01"],
+    &["drill", "100001"],
+    &["run", ""],
+    &["try", "x"],
+    &["--help"],
+    &[],
+];
+
+/// Whether the words are refused before anything is read or written.
+fn is_usage(alloc: Global, words: &[&str]) -> Result<bool, AllocError> {
+    let ran = run(alloc, words, REPAIRS.as_bytes(), &WHOLE)?;
+    Ok(ran.is(End::Usage, "") && ran.left == REPAIRS.len())
+}
+
+#[test]
+fn words_of_no_command(rt: HostRuntime) -> Result<(), Fail> {
+    for words in &NO_COMMANDS {
+        let refused = is_usage(rt.alloc(), words)?;
+        assert!(rt; refused);
+    }
+    Ok(())
+}
+
+/// Each end, its status, and the line on standard error; no line is written where it is empty.
+const ENDS: [(End, u8, &str); 8] = [
+    (End::Finished { refused: 0 }, 0, ""),
+    (End::Finished { refused: 2 }, 1, ""),
+    (
+        End::Usage,
+        2,
+        "cube: usage: cube try, init NAME, run NAME, check NAME, import NAME, export NAME, drill N",
+    ),
+    (
+        End::Schema {
+            line: 7,
+            code: Code::Depth,
+        },
+        3,
+        "cube: schema line 7: depth",
+    ),
+    (
+        End::ReadFault { done: 2 },
+        6,
+        "cube: read fault after line 2",
+    ),
+    (
+        End::WriteFault { done: 2 },
+        7,
+        "cube: write fault after line 2",
+    ),
+    (
+        End::Memory { done: 2 },
+        9,
+        "cube: out of memory after line 2",
+    ),
+    (
+        End::TooLong { done: 2 },
+        10,
+        "cube: input too long after line 2",
+    ),
+];
+
+/// Whether this is told of an end.
+fn is_told(alloc: Global, row: &(End, u8, &str)) -> Result<bool, AllocError> {
+    let (end, status, text) = *row;
+    let (told, line) = end.told();
+    let said = match line {
+        Some(line) => line.to_string(alloc)?,
+        None => String::new(alloc),
+    };
+    Ok(told == status && said.as_str() == text)
+}
+
+#[test]
+fn statuses_and_lines_of_ends(rt: HostRuntime) -> Result<(), Fail> {
+    for row in &ENDS {
+        let told = is_told(rt.alloc(), row)?;
+        assert!(rt; told);
+    }
+    Ok(())
+}
+
+/// An input, the most bytes that it may have, how many bytes a read gives, the read that fails, and what is taken of it.
+type Take = (&'static str, usize, usize, u64, Result<usize, InputStop>);
+
+const TAKES: [Take; 8] = [
+    ("", 0, ALL, 0, Ok(0)),
+    ("abcd", 4, ALL, 0, Ok(4)),
+    ("abcd", 4, 1, 0, Ok(4)),
+    ("abcde", 4, ALL, 0, Err(InputStop::TooLong)),
+    ("abcde", 4, 1, 0, Err(InputStop::TooLong)),
+    ("abcdefgh", 4, 3, 0, Err(InputStop::TooLong)),
+    ("abcd", 4, 2, 3, Err(InputStop::Fault)),
+    // The read behind the end is not made.
+    ("abcd", 4, 2, 4, Ok(4)),
+];
+
+/// Whether so much is taken of an input.
+fn takes(alloc: Global, row: &Take) -> Result<bool, AllocError> {
+    let (input, limit, step, fails, taken) = *row;
+    let bytes = Bytes::from(Vec::from_slice(alloc, input.as_bytes())?);
+    let fails = Ids::from(Vec::from_slice(alloc, &[fails])?);
+    let mut source = MemSource::new(alloc, bytes, step.max(1), fails);
+    let result = take_input(alloc, &mut source, limit.min(ALL));
+    Ok(match (result, taken) {
+        (Ok(bytes), Ok(len)) => bytes.len() == len,
+        (Err(stop), Err(expected)) => stop == expected,
+        _ => false,
+    })
+}
+
+#[test]
+fn inputs_up_to_a_limit(rt: HostRuntime) -> Result<(), Fail> {
+    for row in &TAKES {
+        let taken = takes(rt.alloc(), row)?;
+        assert!(rt; taken);
+    }
+    Ok(())
+}

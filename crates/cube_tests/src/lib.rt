@@ -1,0 +1,21 @@
+//! Tests of the program as a library: inputs worked out by hand, what they write and how they end.
+#![tactic(auto)]
+
+#[cfg(test)]
+mod distributions;
+#[cfg(test)]
+mod ends;
+#[cfg(test)]
+mod faults;
+#[cfg(test)]
+mod limits;
+#[cfg(test)]
+mod lines;
+#[cfg(test)]
+mod replies;
+#[cfg(test)]
+mod runs;
+#[cfg(test)]
+mod schemas;
+#[cfg(test)]
+mod weights;

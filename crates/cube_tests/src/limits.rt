@@ -1,0 +1,140 @@
+//! The limits on nodes, cells and rows.
+use crate::runs::{WHOLE, joined, run};
+use cube_base::Code;
+use cube_cli::End;
+use std::alloc::{AllocError, Global};
+use std::fmt::Write;
+use std::test::Fail;
+
+/// Nodes of this depth, named by a letter and numbers from 1 on.
+fn push_nodes(text: &mut String, depth: u32, letter: char, count: u32) -> Result<(), AllocError> {
+    for number in 1..=count {
+        write!(text, "node\t{depth}\t{letter}{number}\n")?;
+    }
+    Ok(())
+}
+
+/// A dimension of 1,024 leaves, and one of 1,025 of which 1,024 are under S.
+fn large_schema(alloc: Global) -> Result<String, AllocError> {
+    let mut text = String::from_str(
+        alloc,
+        "cube\t1\npolicy\tcount\ndimension\tLeft\nnode\t0\tL\n",
+    )?;
+    push_nodes(&mut text, 1, 'l', 1024)?;
+    text.push_str("dimension\tRight\nnode\t0\tR\nnode\t1\tS\n")?;
+    push_nodes(&mut text, 2, 's', 1024)?;
+    text.push_str("node\t1\tt\nend\n")?;
+    Ok(text)
+}
+
+/// Facts up to the most cells of one and the most rows of all.
+const SCRIPT: &str =
+    "insert\t1\tL\tR\ninsert\t1\tL\tS\ninsert\t2\tL\tS\ninsert\t3\tl1\tt\ninsert\t3\tl1\ts1\ninsert\t4\tL\tS\nwithdraw\t3\nwithdraw\t4\nwithdraw\t3\n";
+
+const REPLIES: &str =
+    "error\tregion\nok\t1\nok\t1\nerror\trows\nok\t3\nok\t1\nerror\trows\nok\t0\nok\t2\n";
+
+/// Whether the most cells and rows are told.
+fn has_limits(alloc: Global) -> Result<bool, AllocError> {
+    let input = joined(alloc, &large_schema(alloc)?, SCRIPT)?;
+    let ran = run(alloc, &["try"], input.as_bytes(), &WHOLE)?;
+    Ok(ran.is(End::Finished { refused: 3 }, REPLIES))
+}
+
+#[test]
+fn most_cells_and_rows(rt: HostRuntime) -> Result<(), Fail> {
+    let held = has_limits(rt.alloc())?;
+    assert!(rt; held);
+    Ok(())
+}
+
+/// The number of leaves under a root, what is written of a script about them, and the end.
+const WIDTHS: [(u32, &str, End); 2] = [
+    (
+        65_535,
+        "ok\t1\nok\t1\nterms\t2\t1\t1\t65535\t1\n",
+        End::Finished { refused: 0 },
+    ),
+    (
+        65_536,
+        "",
+        End::Schema {
+            line: 65_540,
+            code: Code::Limit,
+        },
+    ),
+];
+
+/// Whether a dimension of so many leaves is taken so.
+fn is_wide(alloc: Global, row: &(u32, &str, End)) -> Result<bool, AllocError> {
+    let (leaves, replies, end) = *row;
+    let mut input = String::from_str(
+        alloc,
+        "cube\t1\npolicy\tuniform\ndimension\tPlace\nnode\t0\tAll\n",
+    )?;
+    push_nodes(&mut input, 1, 'n', leaves)?;
+    input.push_str("end\ninsert\t1\tn65535\ninsert\t2\tAll\nterms\tn65535\n")?;
+    let ran = run(alloc, &["try"], input.as_bytes(), &WHOLE)?;
+    Ok(ran.is(end, replies))
+}
+
+#[test]
+fn most_nodes(rt: HostRuntime) -> Result<(), Fail> {
+    for row in &WIDTHS {
+        let wide = is_wide(rt.alloc(), row)?;
+        assert!(rt; wide);
+    }
+    Ok(())
+}
+
+/// How many dimensions there are, how many leaves each has under its root, and how a schema of them ends.
+const PRODUCTS: [(u32, u32, End); 5] = [
+    (6, 1, End::Finished { refused: 0 }),
+    (
+        7,
+        1,
+        End::Schema {
+            line: 21,
+            code: Code::Limit,
+        },
+    ),
+    (6, 1289, End::Finished { refused: 0 }),
+    (
+        6,
+        1290,
+        End::Schema {
+            line: 7755,
+            code: Code::Nodes,
+        },
+    ),
+    (
+        6,
+        1291,
+        End::Schema {
+            line: 7761,
+            code: Code::Cells,
+        },
+    ),
+];
+
+/// Whether a schema of such dimensions ends so.
+fn is_product(alloc: Global, row: &(u32, u32, End)) -> Result<bool, AllocError> {
+    let (dims, leaves, end) = *row;
+    let mut input = String::from_str(alloc, "cube\t1\npolicy\tuniform\n")?;
+    for dim in 0..dims {
+        write!(input, "dimension\td{dim}\nnode\t0\tAll\n")?;
+        push_nodes(&mut input, 1, 'n', leaves)?;
+    }
+    input.push_str("end\n")?;
+    let ran = run(alloc, &["try"], input.as_bytes(), &WHOLE)?;
+    Ok(ran.is(end, ""))
+}
+
+#[test]
+fn products_of_dimensions(rt: HostRuntime) -> Result<(), Fail> {
+    for row in &PRODUCTS {
+        let told = is_product(rt.alloc(), row)?;
+        assert!(rt; told);
+    }
+    Ok(())
+}

@@ -1,0 +1,264 @@
+//! Lines that are refused before they are done.
+use crate::runs::{Case, REPAIRS, WHOLE, expect_each, run};
+use cube_base::Code;
+use cube_cli::End;
+use std::alloc::{AllocError, Global};
+use std::test::Fail;
+
+/// The most bytes of a line.
+const MAX_LINE: usize = 4096;
+
+/// A line over the schema of repairs, and why it is refused.
+const REFUSED: [(&[u8], Code); 154] = [
+    (b"insert\t1\tAustin\tCam\x01ry\t1", Code::Text),
+    (b"insert\t1\tAus\xfftin\tCamry\t1", Code::Text),
+    (b"insert\t1\tAustin\tCamry\t1\x7f", Code::Text),
+    (b"insert\t1\tAustin\tCamry\t1\r\r", Code::Text),
+    (b"Insert\t1\tAustin\tCamry\t1", Code::Command),
+    (b"inserts\t1\tAustin\tCamry\t1", Code::Command),
+    (b"inser\t1\tAustin\tCamry\t1", Code::Command),
+    (b"insert", Code::Fields),
+    (b"insert\t1\tAustin\tCamry", Code::Fields),
+    (b"insert\t1\tAustin\tCamry\t1\t", Code::Fields),
+    (b"insert\t0\tAustin\tCamry\t1", Code::Id),
+    (b"insert\t\tAustin\tCamry\t1", Code::Id),
+    (b"insert\t01\tAustin\tCamry\t1", Code::Id),
+    (b"insert\t+1\tAustin\tCamry\t1", Code::Id),
+    (b"insert\t-1\tAustin\tCamry\t1", Code::Id),
+    (b"insert\t9223372036854775808\tAustin\tCamry\t1", Code::Id),
+    (b"insert\t18446744073709551617\tAustin\tCamry\t1", Code::Id),
+    (b"insert\t1\tWaco\tCamry\t1", Code::Node),
+    (b"insert\t1\tAustin\tCorolla\t1", Code::Node),
+    (b"insert\t1\tCamry\tAustin\t1", Code::Node),
+    (b"insert\t1\t\tCamry\t1", Code::Node),
+    (b"insert\t1\taustin\tCamry\t1", Code::Node),
+    (b"insert\t1\tLA\tCivic\t1000000000001", Code::Value),
+    (b"insert\t1\tLA\tCivic\t-1000000000001", Code::Value),
+    (b"insert\t1\tLA\tCivic\t18446744073709551617", Code::Value),
+    (b"insert\t1\tLA\tCivic\t+5", Code::Value),
+    (b"insert\t1\tLA\tCivic\t05", Code::Value),
+    (b"insert\t1\tLA\tCivic\t-0", Code::Value),
+    (b"insert\t1\tLA\tCivic\t", Code::Value),
+    (b"insert\t1\tLA\tCivic\t-", Code::Value),
+    (b"change\t1\tAustin\tCamry\t1\x01", Code::Text),
+    (b"change\t1\tAustin\tCamry\xc3\t1", Code::Text),
+    (b"change\x7f\t1\tAustin\tCamry\t1", Code::Text),
+    (b"Change\t1\tAustin\tCamry\t1", Code::Command),
+    (b"changes\t1\tAustin\tCamry\t1", Code::Command),
+    (b"chang\t1\tAustin\tCamry\t1", Code::Command),
+    (b"change", Code::Fields),
+    (b"change\t1\tAustin\tCamry", Code::Fields),
+    (b"change\t1\tAustin\tCamry\t1\t1", Code::Fields),
+    (b"change\t0\tAustin\tCamry\t1", Code::Id),
+    (b"change\t 1\tAustin\tCamry\t1", Code::Id),
+    (b"change\t00\tAustin\tCamry\t1", Code::Id),
+    (b"change\t9223372036854775808\tAustin\tCamry\t1", Code::Id),
+    (b"change\t1\tWaco\tCamry\t1", Code::Node),
+    (b"change\t1\tAustin\tWaco\t1", Code::Node),
+    (b"change\t1\tAustin\t\t1", Code::Node),
+    (b"change\t1\tAustin \tCamry\t1", Code::Node),
+    (b"change\t1\tAustin\tCamry\t+5", Code::Value),
+    (b"change\t1\tAustin\tCamry\t1000000000001", Code::Value),
+    (b"change\t1\tAustin\tCamry\t-1000000000001", Code::Value),
+    (b"change\t1\tAustin\tCamry\t-01", Code::Value),
+    (b"change\t1\tAustin\tCamry\t1.0", Code::Value),
+    (b"change\t1\tAustin\tCamry\t", Code::Value),
+    (b"withdraw\t1\x01", Code::Text),
+    (b"withdraw\t\xff", Code::Text),
+    (b"withdraw\t1\x7f", Code::Text),
+    (b"Withdraw\t1", Code::Command),
+    (b"withdraws\t1", Code::Command),
+    (b"withdra\t1", Code::Command),
+    (b"withdraw", Code::Fields),
+    (b"withdraw\t1\t", Code::Fields),
+    (b"withdraw\t0", Code::Id),
+    (b"withdraw\t", Code::Id),
+    (b"withdraw\t01", Code::Id),
+    (b"withdraw\t-1", Code::Id),
+    (b"withdraw\t1 ", Code::Id),
+    (b"withdraw\t9223372036854775808", Code::Id),
+    (b"terms\tAustin\tCam\x01", Code::Text),
+    (b"terms\tAus\xfftin\tCamry", Code::Text),
+    (b"terms\tAustin\tCamry\x7f", Code::Text),
+    (b"terms\r\tAustin\tCamry", Code::Text),
+    (b"Terms\tAustin\tCamry", Code::Command),
+    (b"term\tAustin\tCamry", Code::Command),
+    (b"terms \tAustin\tCamry", Code::Command),
+    (b"terms", Code::Fields),
+    (b"terms\tAustin", Code::Fields),
+    (b"terms\tAustin\tCamry\t", Code::Fields),
+    (b"terms\tWaco\tCamry", Code::Node),
+    (b"terms\tAustin\tWaco", Code::Node),
+    (b"terms\tCamry\tAustin", Code::Node),
+    (b"terms\t\tCamry", Code::Node),
+    (b"terms\tAustin\t", Code::Node),
+    (b"terms\taustin\tCamry", Code::Node),
+    (b"rows\t1\x01", Code::Text),
+    (b"rows\t\xc3", Code::Text),
+    (b"rows\t\x7f", Code::Text),
+    (b"Rows\t1", Code::Command),
+    (b"row\t1", Code::Command),
+    (b" rows\t1", Code::Command),
+    (b"rows", Code::Fields),
+    (b"rows\t1\t1", Code::Fields),
+    (b"rows\t0", Code::Id),
+    (b"rows\t", Code::Id),
+    (b"rows\t01", Code::Id),
+    (b"rows\t+1", Code::Id),
+    (b"rows\tone", Code::Id),
+    (b"rows\t9223372036854775808", Code::Id),
+    (b"Insert\t1\tAustin\tCamry\t1\x01", Code::Text),
+    (b"insert\t1\tAustin\tCam\x01ry", Code::Text),
+    (b"insert\t1\x01\tAustin\tCamry\t1", Code::Text),
+    (b"insert\t1\tAustin\tCamry\t\x7f", Code::Text),
+    (b"Insert\t1\tAustin\tCamry", Code::Command),
+    (b"Insert\t0\tAustin\tCamry\t1", Code::Command),
+    (b"Insert\t1\tWaco\tCamry\t1", Code::Command),
+    (b"Insert\t1\tAustin\tCamry\t+5", Code::Command),
+    (b"insert\t0\tAustin\tCamry", Code::Fields),
+    (b"insert\t1\tAustin\tWaco", Code::Fields),
+    (b"insert\t1\tAustin\tCamry\t+5\t", Code::Fields),
+    (b"insert\t0\tAustin\tWaco\t1", Code::Id),
+    (b"insert\t0\tAustin\tCamry\t+5", Code::Id),
+    (b"insert\t0\tWaco\tCamry\t+5", Code::Id),
+    (b"insert\t1\tWaco\tCamry\t+5", Code::Node),
+    (b"insert\t1\tAustin\tWaco\t+5", Code::Node),
+    (b"Change\t1\tAustin\tCamry\t1\x01", Code::Text),
+    (b"change\t1\tAustin\tCam\x01ry", Code::Text),
+    (b"change\t1\x01\tAustin\tCamry\t1", Code::Text),
+    (b"change\t1\tAus\xfftin\tCamry\t1", Code::Text),
+    (b"change\t1\tAustin\tCamry\t\x7f", Code::Text),
+    (b"Change\t1\tAustin\tCamry", Code::Command),
+    (b"Change\t0\tAustin\tCamry\t1", Code::Command),
+    (b"Change\t1\tWaco\tCamry\t1", Code::Command),
+    (b"Change\t1\tAustin\tCamry\t+5", Code::Command),
+    (b"change\t0\tAustin\tCamry", Code::Fields),
+    (b"change\t1\tAustin\tWaco", Code::Fields),
+    (b"change\t1\tAustin\tCamry\t+5\t", Code::Fields),
+    (b"change\t0\tAustin\tWaco\t1", Code::Id),
+    (b"change\t0\tAustin\tCamry\t+5", Code::Id),
+    (b"change\t0\tWaco\tCamry\tx", Code::Id),
+    (b"change\t1\tWaco\tCamry\t+5", Code::Node),
+    (b"change\t1\tAustin\tWaco\t+5", Code::Node),
+    (b"Withdraw\t1\x01", Code::Text),
+    (b"withdraw\t1\t\x01", Code::Text),
+    (b"Withdraw", Code::Command),
+    (b"Withdraw\t0", Code::Command),
+    (b"withdraw\t0\tx", Code::Fields),
+    (b"withdraw\tx\t1", Code::Fields),
+    (b"Terms\tAustin\tCamry\x01", Code::Text),
+    (b"terms\tAustin\x01", Code::Text),
+    (b"terms\tAustin\tCam\x7fry", Code::Text),
+    (b"Terms\tAustin", Code::Command),
+    (b"Terms\tWaco\tCamry", Code::Command),
+    (b"terms\tWaco", Code::Fields),
+    (b"terms\tAustin\tWaco\t", Code::Fields),
+    (b"Rows\t1\x01", Code::Text),
+    (b"rows\t1\t\x01", Code::Text),
+    (b"rows\t\xff", Code::Text),
+    (b"Rows", Code::Command),
+    (b"Rows\t0", Code::Command),
+    (b"rows\t0\tx", Code::Fields),
+    (b"rows\tx\t1", Code::Fields),
+    (b"\xff", Code::Text),
+    (b"count\r\tAustin\tCamry", Code::Text),
+    (b"\t", Code::Command),
+    (b"count\tAustin\tCamry", Code::Command),
+];
+
+/// Whether a line of the schema of repairs is refused for a code.
+fn is_refused(alloc: Global, line: &[u8], code: Code) -> Result<bool, AllocError> {
+    let mut input = Vec::from_slice(alloc, REPAIRS.as_bytes())?;
+    input.extend_from_slice(line)?;
+    input.push(b'\n')?;
+    let mut reply = String::from_str(alloc, "error\t")?;
+    reply.push_str(code.word())?;
+    reply.push('\n')?;
+    let ran = run(alloc, &["try"], &input, &WHOLE)?;
+    Ok(ran.is(End::Finished { refused: 1 }, &reply))
+}
+
+#[test]
+fn refused_lines(rt: HostRuntime) -> Result<(), Fail> {
+    for (line, code) in &REFUSED {
+        let refused = is_refused(rt.alloc(), line, *code)?;
+        assert!(rt; refused);
+    }
+    Ok(())
+}
+
+/// A line whose middle is one byte many times: what stands before it, the byte, what stands behind it, and why the line
+/// is refused where it has as many bytes as a line may have.
+type Filled = (&'static [u8], u8, &'static [u8], Code);
+
+const FILLED: [Filled; 27] = [
+    (b"insert\t1\tAustin\tCamry\t", b'1', b"", Code::Value),
+    (b"insert\t", b'1', b"\tAustin\tCamry\t1", Code::Id),
+    (b"insert\t1\t", b'a', b"\tCamry\t1", Code::Node),
+    (b"insert\t1\tAustin\t", b'a', b"\t1", Code::Node),
+    (b"insert\t1\tAustin\tCamry", b'y', b"", Code::Fields),
+    (b"Insert\t1\tAustin\tCamry\t", b'1', b"", Code::Command),
+    (b"insert\t1\tAustin\tCamry\t", b'1', b"\xff", Code::Text),
+    (b"change\t1\tAustin\tCamry\t", b'1', b"", Code::Value),
+    (b"change\t", b'1', b"\tAustin\tCamry\t1", Code::Id),
+    (b"change\t1\t", b'a', b"\tCamry\t1", Code::Node),
+    (b"change\t1\tAustin\tCamry", b'y', b"", Code::Fields),
+    (b"Change\t1\tAustin\tCamry\t", b'1', b"", Code::Command),
+    (b"change\t1\tAustin\tCamry\t", b'1', b"\x01", Code::Text),
+    (b"withdraw\t", b'1', b"", Code::Id),
+    (b"withdraw\t1\t", b'1', b"", Code::Fields),
+    (b"Withdraw\t", b'1', b"", Code::Command),
+    (b"withdraw\t", b'1', b"\xff", Code::Text),
+    (b"terms\t", b'a', b"\tCamry", Code::Node),
+    (b"terms\tAustin\t", b'a', b"", Code::Node),
+    (b"terms\t", b'a', b"", Code::Fields),
+    (b"Terms\tAustin\t", b'a', b"", Code::Command),
+    (b"terms\tAustin\t", b'a', b"\x7f", Code::Text),
+    (b"rows\t", b'1', b"", Code::Id),
+    (b"rows\t1\t", b'1', b"", Code::Fields),
+    (b"Rows\t", b'1', b"", Code::Command),
+    (b"rows\t", b'1', b"\x01", Code::Text),
+    (b"terms\t", b'a', b"\r", Code::Fields),
+];
+
+/// The line with so many bytes in all.
+fn filled(alloc: Global, row: &Filled, len: usize) -> Result<Vec<u8>, AllocError> {
+    let (front, byte, back, _) = *row;
+    let middle = len.saturating_sub(front.len()).saturating_sub(back.len());
+    let mut line = Vec::from_slice(alloc, front)?;
+    for _ in 0..middle {
+        line.push(byte)?;
+    }
+    line.extend_from_slice(back)?;
+    Ok(line)
+}
+
+/// Whether the line is refused for its code, and with a byte more for its length.
+fn is_refused_filled(alloc: Global, row: &Filled) -> Result<bool, AllocError> {
+    let code = row.3;
+    let longest = filled(alloc, row, MAX_LINE)?;
+    let longer = filled(alloc, row, MAX_LINE + 1)?;
+    Ok(is_refused(alloc, &longest, code)? && is_refused(alloc, &longer, Code::Long)?)
+}
+
+#[test]
+fn longest_lines(rt: HostRuntime) -> Result<(), Fail> {
+    for row in &FILLED {
+        let refused = is_refused_filled(rt.alloc(), row)?;
+        assert!(rt; refused);
+    }
+    Ok(())
+}
+
+/// Lines that are taken as they stand.
+const TAKEN: [Case; 1] = [(
+    REPAIRS,
+    "insert\t4\tTX\tCamry\t600\nchange\t3\tHouston\tCamry\t50\ninsert\t9223372036854775807\tAustin\tCamry\t1\nterms\tAustin\tCamry\nterms\tAustin\tCamry\r\nrows\t4\nwithdraw\t4\n\n\r\n#x\ncount\tAll\tAll\nsum\tRepair\tAll\tAll\navg\tRepair\tAll\tAll\npool\tRepair\tAll\tAll\nview\tstate\nworlds\tAll\tAll\n",
+    "ok\t1\nerror\tmissing\nok\t2\nterms\t1\t1\t2\t601\nterms\t1\t1\t2\t601\nrows\t1\t1\tAustin\tCamry\t1\nok\t0\nerror\tcommand\nerror\tcommand\nerror\tcommand\nerror\tcommand\nerror\tcommand\nerror\tcommand\n",
+    End::Finished { refused: 7 },
+)];
+
+#[test]
+fn taken_lines(rt: HostRuntime) -> Result<(), Fail> {
+    expect_each(&rt, &TAKEN)
+}
