@@ -34,7 +34,7 @@ WRONG_NAMES = [b"", b"A", b"a ", b"Waco", b"x" * 128, b"x" * 129, b"\xc3\xbc" * 
 VALUES = [b"0", b"1", b"2", b"-1", b"-3", b"7", b"100", b"1000000000000", b"-1000000000000"]
 WRONG_VALUES = [
     *(b"", b"-", b"-0", b"+5", b"05", b"-05", b" 5", b"5 ", b"1.5", b"1e3", b"--1"),
-    *(b"1000000000001", b"-1000000000001", b"9" * 40, "٣".encode()),
+    *(b"1000000000001", b"-1000000000001", b"9" * 40, "٣".encode(), b"1:1", b"50:50", b"100:0", b":", b"1:", b"0:1:0"),
 ]
 IDS = [b"1", b"2", b"3", b"4", b"5", b"6", b"7", b"8", b"9223372036854775807"]
 WRONG_IDS = [b"", b"0", b"-1", b"+1", b"01", b"9223372036854775808", b"18446744073709551617", b"x", b"1 "]
@@ -42,7 +42,7 @@ WRONG_DEPTHS = [b"", b"-1", b"01", b"9", b"10", b"x", b"256", b"4294967296"]
 WRONG_LINES = [
     *(b"count", b"sum\ta", b"avg\ta\tb", b"pool\ta\tb", b"view\tx", b"view\tx\t1", b"worlds\ta"),
     *(b"Insert\t1\ta", b"insert", b"withdraw", b"rows", b"terms", b"\t", b"x", b"error\tid", b"end", b"node\t1\tz"),
-    *(b"parts\tQ\t100\tgood\tbad", b"policy\tem", b"policy\tweight\ta", b"cube\t2", b"dimension\t", b"number\t"),
+    *(b"parts\tQ\t100\tgood\tbad", b"parts\tQ\t0\tx\ty", b"parts\tQ\t1\tx\tx", b"parts\tQ\t1\tx", b"policy\tem", b"policy\tweight\ta", b"policy\tweight", b"cube\t2", b"cube\t3", b"node\t1\tz\t1", b"dimension\t", b"number\t"),
 ]
 SKIPPED = [b"", b"\r", b"#", b"# insert\t1", b"#\xff\x00\r", b"#" + b"x" * 5000]
 HOSTILE = [
@@ -60,13 +60,57 @@ class Tree:
             self.depths.append(random.randint(1, min(self.depths[-1] + 1, plain_model.MAX_DEPTH)))
         self.names = random.sample(NAMES, len(self.depths))
 
-    def lines(self):
-        return [b"node\t%d\t%s" % node for node in zip(self.depths, self.names)]
+    def lines(self, random=None):
+        """The lines of the nodes, with numbers of their own where they are made at random: now and then wrong ones."""
+        lines = [b"node\t%d\t%s" % node for node in zip(self.depths, self.names)]
+        if random is None:
+            return lines
+        numbers = self.numbers(random)
+        if random.random() < 0.05:
+            numbers[random.randrange(len(numbers))] = random.choice([0, 1, len(numbers), 65_535, 65_536])
+        return [b"%s\t%d" % line for line in zip(lines, numbers)]
+
+    def numbers(self, random):
+        """An order in which the nodes may have been made: each after its parent."""
+        parents = plain_model.parents_of(self.depths)
+        numbers, waiting = {}, {0}
+        while waiting:
+            node = random.choice(sorted(waiting))
+            numbers[node] = len(numbers)
+            waiting = waiting - {node} | {child for child, parent in enumerate(parents) if parent == node}
+        return [numbers[node] for node in range(len(self.depths))]
 
     def node(self, random):
         """A name, mostly of a leaf, so that precise facts are frequent."""
         leaves = [name for name, here, below in zip(self.names, self.depths, [*self.depths[1:], 0]) if below <= here]
         return random.choice(leaves if random.random() < 0.5 else self.names)
+
+
+class MadeMeasure:
+    """A measure of a made schema: one of some four is a distribution."""
+
+    def __init__(self, random, name):
+        self.random = random
+        self.name = name
+        self.is_weight = False
+        self.outcomes = random.sample(NAMES, random.choice([2, 2, 2, 3, 7])) if random.random() < 0.25 else []
+        self.scale = random.choice([1, 2, 100, 1_000_000])
+
+    def line(self):
+        if not self.outcomes:
+            return b"number\t" + self.name
+        return b"\t".join([b"parts", self.name, b"%d" % self.scale, *self.outcomes])
+
+    def value(self):
+        """A value, mostly a right one."""
+        if not self.outcomes:
+            values = [value for value in VALUES if not value.startswith(b"-")] if self.is_weight else VALUES
+            return self.random.choice(values if self.random.random() < 0.95 else VALUES)
+        cuts = sorted(self.random.randint(0, self.scale) for _ in self.outcomes[1:])
+        parts = [high - low for low, high in zip([0, *cuts], [*cuts, self.scale])]
+        if self.random.random() < 0.08:
+            parts[-1] += self.random.choice([-1, 1, self.scale])
+        return b":".join(b"%d" % part for part in parts)
 
 
 class Made:
@@ -76,17 +120,27 @@ class Made:
         self.random = random
         dimensions = random.choices(list(MOST_NODES), [20, 30, 20, 10, 1, 1])[0]
         self.trees = [Tree(random, MOST_NODES[dimensions]) for _ in range(dimensions)]
-        self.measures = random.sample(NAMES, random.choices([0, 1, 2, 3, 7, 8], [20, 20, 10, 10, 1, 1])[0])
+        names = random.sample(NAMES, random.choices([0, 1, 2, 3, 7, 8], [20, 20, 10, 10, 1, 1])[0])
+        self.measures = [MadeMeasure(random, name) for name in names]
         self.ids = IDS[-random.choice([3, 6, 9]) :]
         self.schema = self.schema_lines()
         self.script = [self.script_line() for _ in range(random.choice([0, 10, 20, 40]))]
 
     def schema_lines(self):
-        lines = [b"cube\t1", b"policy\t" + self.random.choice([b"uniform", b"count"])]
-        lines += [b"number\t" + name for name in self.measures]
+        has_numbers = self.random.random() < 0.3
+        lines = [b"cube\t2" if has_numbers else b"cube\t1", b"policy\t" + self.policy()]
+        lines += [measure.line() for measure in self.measures]
         for name, tree in zip(self.random.sample(NAMES, len(self.trees)), self.trees):
-            lines += [b"dimension\t" + name, *tree.lines()]
+            lines += [b"dimension\t" + name, *tree.lines(self.random if has_numbers else None)]
         return [*lines, b"end"]
+
+    def policy(self):
+        """By a measure's sum where there is one that is not a distribution, and now and then by any name."""
+        numbers = [measure.name for measure in self.measures if not measure.outcomes]
+        if numbers and self.random.random() < 0.4:
+            self.measures[[m.name for m in self.measures].index(numbers[0])].is_weight = True
+            return b"weight\t" + numbers[0]
+        return self.random.choice([b"uniform", b"count", b"weight\t" + self.random.choice(NAMES)] + [b"count"] * 20)
 
     def script_line(self):
         """A line, one of some eight of which has a wrong field, or a field too many or too few."""
@@ -100,7 +154,7 @@ class Made:
         word = random.choices([b"insert", b"change", b"withdraw", b"terms", b"rows"], [12, 4, 2, 6, 4])[0]
         id = [random.choice(self.ids)]
         nodes = [tree.node(random) for tree in self.trees]
-        values = [random.choice(VALUES) for _ in self.measures]
+        values = [measure.value() for measure in self.measures]
         if word == b"terms":
             return [word, *nodes]
         return [word, *id, *nodes, *values] if word in (b"insert", b"change") else [word, *id]

@@ -20,6 +20,8 @@ MAX_NODES = 65_536  # of a dimension
 MAX_DEPTH = 8  # of a node; the root has 0
 MAX_VALUES = 7  # of a fact, its count not among them
 MAX_VALUE = 10**12  # absolute
+MAX_SCALE = 10**6  # of a distribution
+OUTCOMES = range(2, 8)  # how many a distribution may have
 MAX_ID = 2**63 - 1
 MAX_PRODUCT = 2**62  # the products of leaves and of nodes are below it
 MAX_CELLS = 2**20  # of a fact's region
@@ -121,15 +123,23 @@ def value_in(text):
 
 
 class Dimension(NamedTuple):
-    """A tree. Nodes are numbered from 0 in the order of their lines, each parent before its children."""
+    """A tree. Nodes go by their places in the order of their lines, each parent before its children. The numbers that a
+    text of version 2 gives them are judged and then forgotten, since no reply depends on them."""
 
     names: list  # of each node
     leaves_under: list  # of each node: the leaves that are it or lie below it, in order
 
 
+class Measure(NamedTuple):
+    name: bytes
+    scale: int | None  # of a distribution; None for whole numbers
+    columns: int  # how many values it has
+
+
 class Schema(NamedTuple):
-    weight: Callable  # what a cell weighs by its number of precise facts
-    measures: list  # names
+    weight: Callable  # what a cell weighs by its number of precise facts, and by the sum of the weight measure over them
+    weight_measure: int | None  # its place among the measures
+    measures: list
     dimensions: list
 
 
@@ -138,51 +148,86 @@ class Draft:
 
     def __init__(self):
         self.last_word = None
+        self.has_numbers = False  # of its nodes, as in version 2
         self.weight = None
+        self.weight_name = None  # of the measure by which cells weigh
         self.measures = []
         self.dimensions = []  # names
         self.depths = []  # of each dimension: the depths of its nodes
         self.names = []  # of each dimension: the names of its nodes, as the keys of a dict
+        self.numbers = []  # of each dimension: the numbers of its nodes, as the keys of a dict
 
 
 POLICIES = {
-    b"uniform": lambda count: 1,
-    b"count": lambda count: count,
+    b"uniform": lambda count, total: 1,
+    b"count": lambda count, total: count,
+    b"weight": lambda count, total: total,
 }
 
 
 def read_version(draft, version):
-    refuse_where(version != b"1", "number")
+    refuse_where(version not in (b"1", b"2"), "number")
+    draft.has_numbers = version == b"2"
 
 
-def read_policy(draft, policy):
+def read_policy(draft, policy, name=None):
+    refuse_where(name is not None and not is_name(name), "name")
     refuse_where(policy not in POLICIES, "policy")
-    draft.weight = POLICIES[policy]
+    draft.weight, draft.weight_name = POLICIES[policy], name
 
 
-def read_measure(draft, name):
-    refuse_where(not is_name(name) or name in draft.measures, "name")
-    refuse_where(len(draft.measures) == MAX_VALUES, "limit")
-    draft.measures.append(name)
+def refuse_columns(draft, columns):
+    refuse_where(sum(measure.columns for measure in draft.measures) + columns > MAX_VALUES, "limit")
+
+
+def is_wrong_measure(draft, name):
+    return not is_name(name) or any(measure.name == name for measure in draft.measures)
+
+
+def read_number(draft, name):
+    refuse_where(is_wrong_measure(draft, name), "name")
+    refuse_columns(draft, 1)
+    draft.measures.append(Measure(name, None, 1))
+
+
+def read_parts(draft, name, scale_text, *outcomes):
+    are_names = all(map(is_name, outcomes)) and len(set(outcomes)) == len(outcomes)
+    refuse_where(is_wrong_measure(draft, name) or not are_names, "name")
+    scale = number_in(1, MAX_SCALE, scale_text)
+    refuse_where(scale is None, "number")
+    refuse_columns(draft, len(outcomes))
+    draft.measures.append(Measure(name, scale, len(outcomes)))
 
 
 def read_dimension(draft, name):
     refuse_where(not is_name(name) or name in draft.dimensions, "name")
+    refuse_broken_numbers(draft)
     refuse_where(len(draft.dimensions) == MAX_DIMENSIONS, "limit")
     draft.dimensions.append(name)
     draft.depths.append([])
     draft.names.append({})
+    draft.numbers.append({})
 
 
-def read_node(draft, depth_text, name):
-    depths, names = draft.depths[-1], draft.names[-1]
+def refuse_broken_numbers(draft):
+    """The numbers of the dimension that ends are below their count, and each is above that of the node's parent."""
+    numbers, depths = (list(draft.numbers[-1]), draft.depths[-1]) if draft.numbers else ([], [])
+    for number, parent in zip(numbers, parents_of(depths)):
+        refuse_where(number >= len(numbers), "number")
+        refuse_where(parent is not None and numbers[parent] >= number, "number")
+
+
+def read_node(draft, depth_text, name, number_text=None):
+    depths, names, numbers = draft.depths[-1], draft.names[-1], draft.numbers[-1]
     refuse_where(not is_name(name) or name in names, "name")
     depth = number_in(0, MAX_DEPTH, depth_text)
-    refuse_where(depth is None, "number")
+    number = len(numbers) if number_text is None else number_in(0, MAX_NODES - 1, number_text)
+    refuse_where(depth is None or number is None or number in numbers, "number")
     refuse_where(not may_follow(depths, depth), "depth")
     refuse_where(len(depths) == MAX_NODES, "limit")
     depths.append(depth)
     names[name] = len(names)
+    numbers[number] = None
 
 
 def may_follow(depths, depth):
@@ -191,24 +236,33 @@ def may_follow(depths, depth):
 
 
 def read_end(draft):
+    refuse_broken_numbers(draft)
+    refuse_where(draft.weight_name is not None and weight_measure_of(draft) is None, "policy")
     dimensions = dimensions_of(draft)
     refuse_where(prod(len(dim.leaves_under[0]) for dim in dimensions) >= MAX_PRODUCT, "cells")
     refuse_where(prod(len(dim.names) for dim in dimensions) >= MAX_PRODUCT, "nodes")
 
 
+def weight_measure_of(draft):
+    """The place of the measure of whole numbers by which cells weigh, if there is one."""
+    places = [k for k, m in enumerate(draft.measures) if m.name == draft.weight_name and m.scale is None]
+    return places[0] if places else None
+
+
 class SchemaWord(NamedTuple):
     follows: tuple  # the words of the line before; None where there is none
-    fields: int  # the word counted
+    counts: Callable  # how many fields a line may have, the word counted
     read: Callable  # judges and adds the fields behind the word
 
 
 SCHEMA_WORDS = {
-    b"cube": SchemaWord((None,), 2, read_version),
-    b"policy": SchemaWord((b"cube",), 2, read_policy),
-    b"number": SchemaWord((b"policy", b"number"), 2, read_measure),
-    b"dimension": SchemaWord((b"policy", b"number", b"node"), 2, read_dimension),
-    b"node": SchemaWord((b"dimension", b"node"), 3, read_node),
-    b"end": SchemaWord((b"node",), 1, read_end),
+    b"cube": SchemaWord((None,), lambda draft, fields: [2], read_version),
+    b"policy": SchemaWord((b"cube",), lambda draft, fields: [3 if b"weight" in fields[1:2] else 2], read_policy),
+    b"number": SchemaWord((b"policy", b"number", b"parts"), lambda draft, fields: [2], read_number),
+    b"parts": SchemaWord((b"policy", b"number", b"parts"), lambda draft, fields: [3 + n for n in OUTCOMES], read_parts),
+    b"dimension": SchemaWord((b"policy", b"number", b"parts", b"node"), lambda draft, fields: [2], read_dimension),
+    b"node": SchemaWord((b"dimension", b"node"), lambda draft, fields: [3 + draft.has_numbers], read_node),
+    b"end": SchemaWord((b"node",), lambda draft, fields: [1], read_end),
 }
 
 
@@ -217,7 +271,7 @@ def read_schema_line(draft, line):
     fields = fields_of(line)
     word = SCHEMA_WORDS.get(fields[0])
     refuse_where(word is None or draft.last_word not in word.follows, "order")
-    refuse_where(len(fields) != word.fields, "fields")
+    refuse_where(len(fields) not in word.counts(draft, fields), "fields")
     word.read(draft, *fields[1:])
     draft.last_word = fields[0]
 
@@ -232,7 +286,8 @@ def read_schema(lines):
         except Refused as refused:
             raise SchemaFault(place, refused.code) from None
         if draft.last_word == b"end":
-            return Schema(draft.weight, draft.measures, dimensions_of(draft)), lines[place:]
+            schema = Schema(draft.weight, weight_measure_of(draft), draft.measures, dimensions_of(draft))
+            return schema, lines[place:]
     raise SchemaFault(len(lines) + 1, "cut")
 
 
@@ -272,7 +327,7 @@ def leaves_under(depths):
 class Fact(NamedTuple):
     id: int
     region: tuple  # a node of each dimension
-    values: tuple  # a value of each measure
+    values: tuple  # of each measure a list: one whole number, or a part for each outcome
 
 
 class Allocation(NamedTuple):
@@ -294,8 +349,18 @@ def is_inside(schema, cell, region):
 
 
 def precise_cells(schema, facts):
-    """The cell of each fact whose region is one cell alone, as often as there are such facts."""
-    return [cells_of(schema, fact.region)[0] for fact in facts if cell_count(schema, fact.region) == 1]
+    """Each fact whose region is one cell alone: that cell, and the fact's value of the weight measure, or 0."""
+    place = schema.weight_measure
+    return [
+        (cells_of(schema, fact.region)[0], 0 if place is None else fact.values[place][0])
+        for fact in facts
+        if cell_count(schema, fact.region) == 1
+    ]
+
+
+def weight_of(schema, precise, cell):
+    there = [value for place, value in precise if place == cell]
+    return schema.weight(len(there), sum(there))
 
 
 def evenly(cells):
@@ -307,7 +372,7 @@ def allocate(schema, precise, fact):
     cells = cells_of(schema, fact.region)
     if len(cells) == 1:
         return evenly(cells)
-    rows = [(cell, schema.weight(precise.count(cell))) for cell in cells]
+    rows = [(cell, weight_of(schema, precise, cell)) for cell in cells]
     total = sum(weight for _, weight in rows)
     if total == 0:
         return evenly(cells)
@@ -331,13 +396,13 @@ def weight_inside(schema, allocation, region):
 
 
 def answer(schema, facts, region):
-    """What the facts add up to inside a region: for each denominator, ascending, the count and each measure's sum."""
+    """What the facts add up to inside a region: for each denominator, ascending, the count and each column's sum."""
     table = extended(schema, facts)
     terms = []
     for denominator in sorted({allocation.denominator for _, allocation in table}):
         over = [(fact, weight_inside(schema, a, region)) for fact, a in table if a.denominator == denominator]
         count = sum(weight for _, weight in over)
-        sums = [sum(weight * fact.values[m] for fact, weight in over) for m in range(len(schema.measures))]
+        sums = [sum(column) for column in zip(*([w * v for vs in f.values for v in vs] for f, w in over))]
         if count != 0:
             terms.append([denominator, count, *sums])
     return terms
@@ -363,13 +428,26 @@ def read_region(schema, names):
     return tuple(dim.names.index(name) for dim, name in zip(schema.dimensions, names))
 
 
+def read_values(measure, text, is_weight):
+    """The values of a measure that the text spells, if it spells any."""
+    if measure.scale is None:
+        value = value_in(text)
+        return None if value is None or (is_weight and value < 0) else [value]
+    parts = [number_in(0, measure.scale, part) for part in text.split(b":")]
+    is_distribution = None not in parts and len(parts) == measure.columns and sum(parts) == measure.scale
+    return parts if is_distribution else None
+
+
 def read_fact(schema, id_text, *fields):
-    """The fact of an id, a node of each dimension, and a value of each measure."""
+    """The fact of an id, a node of each dimension, and the values of each measure."""
     id = read_id(id_text)
     region = read_region(schema, fields[: len(schema.dimensions)])
-    values = tuple(value_in(text) for text in fields[len(schema.dimensions) :])
-    refuse_where(None in values, "value")
-    return Fact(id, region, values)
+    texts = zip(schema.measures, fields[len(schema.dimensions) :])
+    values = [read_values(measure, text, k == schema.weight_measure) for k, (measure, text) in enumerate(texts)]
+    wrong = [measure.scale is None for measure, found in zip(schema.measures, values) if found is None]
+    refuse_where(True in wrong, "value")
+    refuse_where(False in wrong, "parts")
+    return Fact(id, region, tuple(values))
 
 
 def has_id(facts, id):

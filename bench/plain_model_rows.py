@@ -66,6 +66,38 @@ node|2|Dallas
 end
 """)
 
+# The cars weighed by their repairs.
+BY_REPAIRS = [line.replace("policy|count", "policy|weight|Repair") for line in CARS]
+
+# A distribution for each fact.
+QUALITY = lines_in("""
+cube|1
+policy|uniform
+parts|Quality|100|good|bad
+dimension|Place
+node|0|All
+node|1|TX
+node|2|Austin
+node|2|Dallas
+node|1|CA
+node|2|LA
+end
+""")
+
+# Nodes with numbers of their own: Waco came last.
+NUMBERED = lines_in("""
+cube|2
+policy|count
+dimension|Place
+node|0|All|0
+node|1|TX|1
+node|2|Austin|2
+node|2|Waco|5
+node|1|CA|3
+node|2|LA|4
+end
+""")
+
 # 1,024 x 1,025 cells, of which 2^20 are at (L, S).
 GRID = [
     *lines_in("cube|1\npolicy|count\ndimension|Left\nnode|0|L"),
@@ -111,6 +143,41 @@ SCRIPTS = [
         ("terms|Austin|Camry", "terms|2|1|2|401|3|2|1200"),
     ]),
     ("no fact", CARS, [("terms|All|All", "terms|0")]),
+    ("a fact lies by the sums of its cells", BY_REPAIRS, [
+        *REPAIRS[:-1],
+        ("rows|4", "rows|450|2|Austin|Camry|400|Dallas|Camry|50"),
+        ("terms|Austin|Camry", "terms|2|1|2|400|450|400|240000"),
+        ("change|2|Austin|Camry|301", "ok|1"),
+        ("rows|4", "rows|451|2|Austin|Camry|401|Dallas|Camry|50"),
+        ("insert|1|LA|Civic|-1", "error|value"),
+        ("change|3|Dallas|Camry|0", "ok|1"),
+        ("rows|4", "rows|401|1|Austin|Camry|401"),
+    ]),
+    ("distributions", QUALITY, [
+        ("insert|1|Austin|80:20", "ok|1"),
+        ("insert|2|TX|50:50", "ok|1"),
+        ("insert|3|LA|80:21", "error|parts"),
+        ("insert|3|LA|80", "error|parts"),
+        ("insert|3|LA|80:20:0", "error|parts"),
+        ("insert|3|LA|080:20", "error|parts"),
+        ("insert|3|LA|120:-20", "error|parts"),
+        ("insert|2|LA|1:1", "error|parts"),
+        ("insert|2|LA|100:0", "error|exists"),
+        ("terms|Austin", "terms|2|1|1|80|20|2|1|50|50"),
+        ("terms|LA", "terms|0"),
+    ]),
+    ("a wrong number comes before wrong parts", ["cube|1", "policy|count", "parts|P|2|x|y", "number|n", *QUALITY[3:]], [
+        ("insert|1|LA|1:2|x", "error|value"),
+        ("insert|1|LA|1:2|1", "error|parts"),
+        ("insert|1|LA|0:2|1", "ok|1"),
+    ]),
+    ("nodes with numbers of their own", NUMBERED, [
+        ("insert|1|Waco", "ok|1"),
+        ("insert|2|TX", "ok|1"),
+        ("rows|2", "rows|1|1|Waco|1"),
+        ("withdraw|1", "ok|1"),
+        ("rows|2", "rows|2|2|Austin|1|Waco|1"),
+    ]),
     ("ids", CARS, [
         ("insert|0|Austin|Camry|1", "error|id"),
         ("insert|9223372036854775808|Austin|Camry|1", "error|id"),
@@ -210,14 +277,19 @@ LIMITED_SCRIPTS = [
 
 # The cars with another line in the place of one, the line that is then at fault, and its code.
 FAULTS = [
-    (1, "cube|2", 1, "number"),
+    (1, "cube|3", 1, "number"),
+    (1, "cube|2", 5, "fields"),
     (1, "cube", 1, "fields"),
     (1, "\ufeffcube|1", 1, "order"),
     (1, "policy|count", 1, "order"),
     (2, "policy", 2, "fields"),
     (2, "policy|em", 2, "policy"),
-    (2, "policy|weight|Repair", 2, "fields"),
-    (3, "parts|Quality|100|good|bad", 3, "order"),
+    (2, "policy|weight", 2, "fields"),
+    (2, "policy|weight|", 2, "name"),
+    (2, "policy|weight|Price", 21, "policy"),
+    (3, "parts|Quality|100|good", 3, "fields"),
+    (3, "parts|Quality|100|good|good", 3, "name"),
+    (3, "parts|Quality|1000001|good|bad", 3, "number"),
     (3, "policy|count", 3, "order"),
     (3, "number|", 3, "name"),
     (4, "number|Repair", 4, "name"),
@@ -255,8 +327,31 @@ def named(name):
     return ["cube|1", "policy|uniform", f"number|{name}"]
 
 
+def renumbered(place, line):
+    """The nodes with numbers, another line in the place of one."""
+    return NUMBERED[: place - 1] + [line] + NUMBERED[place:]
+
+
 # Whole schemas: a name, the lines, the line at fault and its code, or None.
 SCHEMAS = [
+    ("numbers", NUMBERED, None),
+    ("no number", renumbered(7, "node|2|Waco"), (7, "fields")),
+    ("a number too large", renumbered(7, "node|2|Waco|65536"), (7, "number")),
+    ("a number misspelled", renumbered(7, "node|2|Waco|05"), (7, "number")),
+    ("a number twice", renumbered(7, "node|2|Waco|2"), (7, "number")),
+    ("a name twice before a number twice", renumbered(7, "node|2|Austin|2"), (7, "name")),
+    ("a number twice before a depth", renumbered(7, "node|4|Waco|2"), (7, "number")),
+    ("a number not below the count", renumbered(7, "node|2|Waco|6"), (10, "number")),
+    ("a number not above the parent's", [*renumbered(5, "node|1|TX|2")[:5], "node|2|Austin|1", *NUMBERED[6:]], (10, "number")),
+    ("numbers judged where a dimension ends", [*renumbered(7, "node|2|Waco|6")[:-1], "dimension|Auto", "node|0|x|0", "end"], (10, "number")),
+    ("a name before the numbers", [*renumbered(7, "node|2|Waco|6")[:-1], "dimension|Place", "node|0|x|0", "end"], (10, "name")),
+    ("a number in version 1", ["cube|1", *NUMBERED[1:]], (4, "fields")),
+    ("a weight by a distribution", ["cube|1", "policy|weight|Quality", *QUALITY[2:]], (11, "policy")),
+    ("one outcome", ["cube|1", "policy|count", "parts|Q|1|x"], (3, "fields")),
+    ("eight outcomes", ["cube|1", "policy|count", "parts|Q|1|" + "|".join("abcdefgh")], (3, "fields")),
+    ("seven outcomes", ["cube|1", "policy|count", "parts|Q|1|" + "|".join("abcdefg")], (4, "cut")),
+    ("a column beyond seven", ["cube|1", "policy|count", "number|n", "parts|Q|1|" + "|".join("abcdefg")], (4, "limit")),
+    ("no scale", ["cube|1", "policy|count", "parts|Q|0|x|y"], (3, "number")),
     ("nothing", [], (1, "cut")),
     ("skipped lines count", ["", "# a\r", "cube|1", "\r", "policy|em"], (5, "policy")),
     ("a name of 128 bytes", named("x" * 128), (4, "cut")),
