@@ -1,3 +1,4 @@
 pub mod Transfers
 pub mod Names
+pub mod Search
 pub mod Padding

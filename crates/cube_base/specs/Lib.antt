@@ -3,4 +3,5 @@ pub mod InPlace
 pub mod MemoryIo
 pub mod Name
 pub mod Outside
+pub mod Search
 pub mod StandardIo

@@ -11,8 +11,6 @@ mod name;
 mod outside;
 mod plain_list;
 mod standard_io;
-#[cfg(test)]
-mod tests;
 
 pub use code::Code;
 pub use cols::{Cols, MAX_COLS};

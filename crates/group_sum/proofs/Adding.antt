@@ -85,7 +85,7 @@ module _ (terms : List Term) (weight : ℕ) (values : List ℤ) (term : Term) (f
 pub stands_at : (columns : ℕ) (terms : List Term) → are_terms_from columns 1 terms ≡ true → (values at : ℕ) → values + 1 ≡ columns → (term : Term) → at < length terms → term ≡ get_or terms at term → StandsFor terms values term
 stands_at columns terms ok values at whole term within is =
     let here : term_at terms at ≡ term = get_or_default terms at no_term term within ∙ sym is in
-    let place : IsAt terms term.den at = record { in_range = within; has_den = ap (λ (t : Term). t.den) here } in
+    let place : IsAt terms term.den at = record { in_range = within; has_key = ap (λ (t : Term). t.den) here } in
     let found : term_of terms term.den ≡ Some term = term_of_at columns 1 terms ok term.den at place ∙ ap (λ (t : Term). Some t) here in
     let is_whole : is_term columns term ≡ true = ap (λ (t : Term). is_term columns t) (sym here) ∙ is_term_at columns 1 terms ok at within in
     record { count = ap (λ o. option_map_or (λ (t : Term). t.count) o 0) found; columns = grind (arith, nat_tests); sums = λ k. numerator_there terms term.den k term found }
@@ -108,7 +108,7 @@ module _ (list : TermList) (ok : AreTerms list) (den weight : ℕ) (values : Lis
   module _ (place : IsAt list.terms den at) (term : Term) (is : term ≡ get_or list.terms at term) where
     -- the term that is read there has the denominator
     den_here : term.den ≡ den
-    den_here = ap (λ (t : Term). t.den) (is ∙ get_or_default list.terms at term no_term place.in_range) ∙ place.has_den
+    den_here = ap (λ (t : Term). t.den) (is ∙ get_or_default list.terms at term no_term place.in_range) ∙ place.has_key
 
     -- the share fits, and the term stands for its denominator
     fits_here : Fits list.terms term.den weight values

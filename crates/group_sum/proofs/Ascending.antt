@@ -26,7 +26,7 @@ first_then columns least term terms first = grind (arith, nat_tests, first.from,
 
 -- in the others, a place is one lower
 is_at_tail : (term : Term) (terms : List Term) (den i : ℕ) → IsAt (term ∷ terms) den (suc i) → IsAt terms den i
-is_at_tail term terms den i is_at = record { in_range = omega (arith, is_at.in_range); has_den = is_at.has_den }
+is_at_tail term terms den i is_at = record { in_range = omega (arith, is_at.in_range); has_key = is_at.has_key }
 
 is_gap_tail : (term : Term) (terms : List Term) (den i : ℕ) → IsGapFor (term ∷ terms) den (suc i) → IsGapFor terms den i
 is_gap_tail term terms den i gap = record {
@@ -69,27 +69,27 @@ module _ (columns : ℕ) where
   -- a denominator is found at its place
   pub term_of_at : (least : ℕ) (terms : List Term) → are_terms_from columns least terms ≡ true → (den i : ℕ) → IsAt terms den i → term_of terms den ≡ Some (term_at terms i)
   term_of_at least [] ok den i is_at = absurd (omega (arith, is_at.in_range))
-  term_of_at least (term ∷ terms) ok den zero is_at = grind (arith, nat_tests, is_at.has_den)
+  term_of_at least (term ∷ terms) ok den zero is_at = grind (arith, nat_tests, is_at.has_key)
   term_of_at least (term ∷ terms) ok den (suc i) is_at =
       let first = first_is columns least term terms ok in
       let tail = is_at_tail term terms den i is_at in
-      grind (arith, nat_tests, at_least (term.den + 1) terms first.others i tail.in_range, tail.has_den, term_of_at (term.den + 1) terms first.others den i tail)
+      grind (arith, nat_tests, at_least (term.den + 1) terms first.others i tail.in_range, tail.has_key, term_of_at (term.den + 1) terms first.others den i tail)
 
   -- a term written over that of its denominator is found in its place
   pub term_of-set : (least : ℕ) (terms : List Term) → are_terms_from columns least terms ≡ true → (new : Term) (i : ℕ) → IsAt terms new.den i → FindsAfter terms (set terms i new) new
   term_of-set least [] ok new i is_at d = absurd (omega (arith, is_at.in_range))
-  term_of-set least (term ∷ terms) ok new zero is_at d = grind (arith, nat_tests, is_at.has_den)
+  term_of-set least (term ∷ terms) ok new zero is_at d = grind (arith, nat_tests, is_at.has_key)
   term_of-set least (term ∷ terms) ok new (suc i) is_at d =
       let first = first_is columns least term terms ok in
       let tail = is_at_tail term terms new.den i is_at in
-      grind (arith, nat_tests, at_least (term.den + 1) terms first.others i tail.in_range, tail.has_den, term_of-set (term.den + 1) terms first.others new i tail d)
+      grind (arith, nat_tests, at_least (term.den + 1) terms first.others i tail.in_range, tail.has_key, term_of-set (term.den + 1) terms first.others new i tail d)
 
   -- the terms stay in order
   pub are_terms-set : (least : ℕ) (terms : List Term) → are_terms_from columns least terms ≡ true → (new : Term) (i : ℕ) → IsAt terms new.den i → is_term columns new ≡ true → are_terms_from columns least (set terms i new) ≡ true
   are_terms-set least [] ok new i is_at whole = refl
   are_terms-set least (term ∷ terms) ok new zero is_at whole =
       let first = first_is columns least term terms ok in
-      grind (arith, nat_tests, is_at.has_den, first.from, first.others, whole)
+      grind (arith, nat_tests, is_at.has_key, first.from, first.others, whole)
   are_terms-set least (term ∷ terms) ok new (suc i) is_at whole =
       let first = first_is columns least term terms ok in
       first_then columns least term (set terms i new)

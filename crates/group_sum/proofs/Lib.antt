@@ -1,5 +1,4 @@
 pub mod Ascending
-pub mod Search
 pub mod Scaled
 pub mod Adding
 pub mod Determined
@@ -10,4 +9,3 @@ pub mod Merging
 pub mod Merged
 pub mod MergeLaws
 pub mod Subtracting
-pub mod SmallTerms

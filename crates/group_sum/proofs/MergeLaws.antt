@@ -100,7 +100,7 @@ den_bound-append : (xs ys : List Term) → den_bound (xs ++ ys) ≡ max (den_bou
 den_bound-append [] ys = omega arith
 den_bound-append (x ∷ xs) ys = omega (arith, den_bound-append xs ys)
 
-den_bound_below : (count : ℕ → ℕ) (sums : ℕ → List ℤ) (bound : ℕ) → den_bound (terms_below count sums bound) ≤ bound
+pub den_bound_below : (count : ℕ → ℕ) (sums : ℕ → List ℤ) (bound : ℕ) → den_bound (terms_below count sums bound) ≤ bound
 den_bound_below count sums zero = omega arith
 den_bound_below count sums (suc d) =
     let whole = den_bound-append (terms_below count sums d) (part count sums d) in
@@ -116,7 +116,7 @@ beyond_both : (left right : List Term) (d : ℕ) → max (den_bound left) (den_b
 beyond_both left right d le = omega (arith, count_of_bound left d (omega arith), count_of_bound right d (omega arith))
 
 -- Both merged are the terms of any numerators that are those of both added up, below any bound of both.
-merge_is_below : (columns : ℕ) (left right : List Term) (count : ℕ → ℕ) (sum : ℕ → ℕ → ℤ) (bound : ℕ)
+pub merge_is_below : (columns : ℕ) (left right : List Term) (count : ℕ → ℕ) (sum : ℕ → ℕ → ℤ) (bound : ℕ)
     → ((d : ℕ) → count_of left d + count_of right d ≡ count d)
     → ((d k : ℕ) → k < columns → numerator_of left d (k + 1) +ℤ numerator_of right d (k + 1) ≡ sum d k)
     → max (den_bound left) (den_bound right) ≤ bound

@@ -3,6 +3,5 @@ pub mod Share
 pub mod Place
 pub mod Merge
 pub mod Heads
-pub mod Small
 pub mod Examples
 pub mod MergeLaws

@@ -7,8 +7,6 @@ mod laws;
 mod merge;
 mod share;
 mod terms;
-#[cfg(test)]
-mod tests;
 
 pub use cube_model::Term;
 pub use difference::SubFault;

@@ -1,6 +1,0 @@
-use Rattle.group_sum.specs.Small.{AreSmall}
-use Rattle.group_sum.proofs.tests.terms_of.Given as goal
-
--- each share so far adds 1 to a count and less than 2^32 to a sum
-abbrev pub invariant-loop-den : goal.invariant-loop-den
-invariant-loop-den g l = AreSmall l.den-index l.terms
