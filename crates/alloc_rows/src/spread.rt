@@ -8,9 +8,6 @@ ghost use Rattle.cell_weight.specs.Stats.{stat_at};
 ghost use Rattle.region_algebra.specs.Space.{IsRegion};
 ghost use Rattle.alloc_rows.specs.Alloc.{AreFewAt, IsAllocationOf};
 
-#[cfg(test)]
-mod tests;
-
 use crate::Alloc;
 use cell_weight::{StatIndex, WeightPolicy};
 use cube_base::Memory;

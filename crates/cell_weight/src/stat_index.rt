@@ -96,33 +96,3 @@ fn has_facts(stat: CellStat) -> bool
 {
     stat.count != 0 || stat.sum != 0
 }
-
-#[cfg(test)]
-mod tests {
-    use super::*;
-    use std::test::Fail;
-
-    const CHANGES: [(u64, CellStat); 3] = [
-        (0, CellStat { count: 2, sum: 30 }),
-        (4, NO_FACTS),
-        (
-            8,
-            CellStat {
-                count: 1_048_576,
-                sum: 1_048_576_000_000_000_000,
-            },
-        ),
-    ];
-
-    /// The changes are staged, and staged again.
-    fn are_staged(alloc: Global, changes: &[(u64, CellStat)]) -> bool {
-        let mut index = StatIndex::new(alloc);
-        index.stage(changes).is_ok() && index.stage(changes).is_ok()
-    }
-
-    #[test]
-    fn changes_are_staged_where_memory_is_ample(rt: HostRuntime) -> Result<(), Fail> {
-        assert!(rt; are_staged(rt.alloc(), &CHANGES));
-        Ok(())
-    }
-}

@@ -64,22 +64,3 @@ impl Region {
         self.nodes[d as usize]
     }
 }
-
-#[cfg(test)]
-mod tests {
-    use super::*;
-    use std::test::Fail;
-
-    #[test]
-    fn a_region_has_up_to_six_nodes(rt: HostRuntime) -> Result<(), Fail> {
-        let nodes = [7, 0, 65_535, 3, 2, 1, 9];
-        assert_eq!(rt; Region::new(&nodes).is_none(), true);
-        assert_eq!(rt; Region::new(&nodes[..0]).is_some(), true);
-        let region = Region::new(&nodes[..6]).ok_or("six nodes")?;
-        assert_eq!(rt; region.node(0), 7);
-        assert_eq!(rt; region.node(2), 65_535);
-        assert_eq!(rt; region.node(5), 1);
-        assert_eq!(rt; Region::of_node(4).node(0), 4);
-        Ok(())
-    }
-}

@@ -2,7 +2,5 @@
 #![tactic(auto)]
 
 mod staged;
-#[cfg(test)]
-mod tests;
 
 pub use staged::Staged;
