@@ -17,7 +17,7 @@ use Rattle.dim_tree.specs.Outline.{IsOutline, entries_of}
 use Rattle.dim_tree.specs.Places.{leaves_from, parents_from}
 use Rattle.dim_tree.proofs.Climbing.{depths_of, together}
 use Rattle.dim_tree.proofs.Entries.{length-node_lines}
-use Rattle.dim_tree.proofs.Outlines.{all_names-node_lines, all_names-numbered_from, depths_of-entries_of, entries_of_map, entries_of_range, length-entries_of, node_lines-numbered_from, tree_fault_first, tree_fault_none}
+use Rattle.dim_tree.proofs.Outlines.{all_names-node_lines, all_names-numbered_from, depths_of-entries_of, entries_of_map, entries_of_range, length-entries_of, node_lines-numbered_from, numbers-entries_of, tree_fault_first, tree_fault_none}
 use Rattle.dim_tree.proofs.Parents.{length-parents_from}
 use Rattle.dim_tree.proofs.Placing.{is_numbered_above, is_numbered_not, parents_from-within}
 use Rattle.dim_tree.proofs.Renaming.{map-map}
@@ -209,3 +209,10 @@ numbers_judged dim depths ns depths_are numbers_are accepted = in_order dim acce
 pub numbers_fault : (dim : Dimension) (depths ns : List ℕ) → depths ≡ map (λ e. e.depth) dim → ns ≡ numbers dim → 0 < length dim → length dim ≤ MAX_NODES → first_fault [] 0 (node_lines dim) ≡ None → dim_fault dim ≡ (if are_in_order ns depths then None else Some Number)
 numbers_fault dim depths ns depths_are numbers_are some few accepted =
     dim_fault_numbers dim (lines_accepted dim some few accepted) ∙ ap (λ b. if b then None else Some Number) (numbers_judged dim depths ns depths_are numbers_are accepted)
+
+-- nodes of a tree are in order
+pub order_of_outline : (depths : List ℕ) (names : List (List ℕ)) (ns : List ℕ) → IsOutline depths names ns → are_in_order ns depths ≡ true
+order_of_outline depths names ns outline =
+    let made : Dimension = entries_of depths names ns in
+    let depths_are : depths ≡ map (λ (e : Entry). e.depth) made = sym (depths_of-entries_of depths names ns outline.same_names outline.same_numbers) ∙ depths_of_entries made in
+    sym (numbers_judged made depths ns depths_are (sym (numbers-entries_of depths names ns outline.same_names outline.same_numbers)) (accepted_lines made outline.tree)) ∙ outline.tree.numbered

@@ -12,7 +12,7 @@ use Rattle.cube_base.specs.Name.{is_name}
 use Rattle.cube_model.specs.declared.tree.NodeLine.{NodeLine}
 use Rattle.cube_model.specs.declared.tree.DimFault.{DimFault}
 use Rattle.cube_model.specs.declared.tree.DimFault.TheVariants.{Name}
-use Rattle.cube_model.specs.Tree.{Dimension, Entry, line_fault, first_fault, node_lines}
+use Rattle.cube_model.specs.Tree.{line_fault, first_fault}
 use Rattle.dim_tree.specs.Fault.{IsCause}
 use Rattle.dim_tree.specs.Outline.{depth_fault, name_fault}
 
@@ -36,10 +36,6 @@ list_any-reverse p (line ∷ lines) =
 list_any-map_name : (name : List ℕ) (lines : List NodeLine) → list_any (λ earlier. bytes_eq earlier name) (map (λ line. line.name) lines) ≡ list_any (λ line. bytes_eq line.name name) lines
 list_any-map_name name [] = refl
 list_any-map_name name (line ∷ lines) = grind (arith, list_any-map_name name lines)
-
--- the line of a node
-abbrev pub line_of : Entry → NodeLine
-line_of e = record { depth = e.depth; name = e.name }
 
 -- the depth of the nearest line
 abbrev pub nearest_depth : List NodeLine → Option ℕ
@@ -82,8 +78,8 @@ or_cases None second fault is = inr (refl, is)
 or_cases (Some other) second fault is = inl is
 
 -- the line of the node that is read at a place
-pub line_read : (dim : Dimension) (k : ℕ) (e : Entry) → k < length dim → e ≡ get_or dim k e → line_of e ≡ get_or (node_lines dim) k (line_of e)
-line_read dim k e within is = ap line_of is ∙ sym (get_or-map line_of dim k e (line_of e) within)
+pub line_read : {X : Type 0} (line : X → NodeLine) (nodes : List X) (k : ℕ) (node : X) → k < length nodes → node ≡ get_or nodes k node → line node ≡ get_or (map line nodes) k (line node)
+line_read line nodes k node within is = ap line is ∙ sym (get_or-map line nodes k node (line node) within)
 
 module _ (lines : List NodeLine) (k : ℕ) (line : NodeLine) (before : Option ℕ) (names : List (List ℕ)) (judged : IsJudged lines k before names) (within : k < length lines) (at : line ≡ get_or lines k line) where
   -- the line is judged next

@@ -49,7 +49,7 @@ module _ (dim : Dimension) (tree : IsTree dim) where
   leaves_are : leaves dim ≡ map (number_at dim) (leaves_from 0 depths)
   leaves_are = leaves-number_at dim (AreNumbers_of dim tree) ∙ ap (map (number_at dim)) (leaves-places (node_lines dim) (accepted_lines dim tree))
 
-  leaves_counted : length (leaves_from 0 depths) ≡ length (leaves dim)
+  pub leaves_counted : length (leaves_from 0 depths) ≡ length (leaves dim)
   leaves_counted = sym (length-map (leaves_from 0 depths) (number_at dim)) ∙ ap length (sym leaves_are)
 
   leaf_read : (i : ℕ) → i < length (leaves dim) → (slice_get (leaves dim) i ≡ option_map (λ e. e.number) (slice_get dim (get_or (leaves_from 0 depths) i 0))) × (get_or (leaves_from 0 depths) i 0 < length dim)

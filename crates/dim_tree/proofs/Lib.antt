@@ -1,9 +1,13 @@
 pub mod Building
 pub mod Climbing
 pub mod Entries
+pub mod Insertion
 pub mod Judging
 pub mod Kept
 pub mod Leaves
+pub mod MoreLeaves
+pub mod NewKey
+pub mod NewLeaf
 pub mod Nodes
 pub mod Numbers
 pub mod Outlines

@@ -100,7 +100,7 @@ stands_nowhere x k [] none = refl
 stands_nowhere x k (n ∷ ns) none = grind (arith, nat_tests, stands_nowhere x (k + 1) ns)
 
 -- a number above all is not among them
-above_all : (b x : ℕ) (ns : List ℕ) → list_all (λ n. nat_lt n b) ns ≡ true → b ≤ x → list_any (λ m. m == x) ns ≡ false
+pub above_all : (b x : ℕ) (ns : List ℕ) → list_all (λ n. nat_lt n b) ns ≡ true → b ≤ x → list_any (λ m. m == x) ns ≡ false
 above_all b x [] all above = refl
 above_all b x (n ∷ ns) all above = grind (arith, nat_tests, above_all b x ns)
 

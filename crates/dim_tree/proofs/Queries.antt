@@ -21,7 +21,7 @@ use Rattle.dim_tree.proofs.Siblings.{parent_at-within, first_child-place, next_s
 use Rattle.dim_tree.proofs.Renumbering.{plain, number_at, length-numbers, number_at-read, number_at-within, number_at-same, number_at-eqb, number_at-place, number_at-root, entry_of-number_at, is_under-number_at, is_leaf-number_at, leaves-number_at, leaf_places-number_at, first_child-number_at, next_sibling-number_at, in_cut-number_at, option_map-unless, kept_parent, parent-below, accepted_lines, are_numbers}
 
 -- the depth of the node at a place
-depth-read : (dim : Dimension) (i : ℕ) → i < length dim → option_map (λ e. e.depth) (slice_get dim i) ≡ Some (get_or (depths_of (node_lines dim)) i 0)
+pub depth-read : (dim : Dimension) (i : ℕ) → i < length dim → option_map (λ e. e.depth) (slice_get dim i) ≡ Some (get_or (depths_of (node_lines dim)) i 0)
 depth-read [] i within = absurd (omega arith)
 depth-read (e ∷ dim) zero within = refl
 depth-read (e ∷ dim) (suc i) within = depth-read dim i (omega arith)
@@ -127,6 +127,7 @@ module _ (dim : Dimension) (tree : IsTree dim) (n i : ℕ) (found : place_of dim
   -- all of it
   pub node_is : IsNode dim n i (node_at (depths_of (node_lines dim)) (numbers dim) i)
   node_is = record {
+    of_tree = tree;
     depth_is = ap (λ m. option_map (λ (e : Entry). e.depth) (entry_of dim m)) (sym at) ∙ ap (option_map (λ (e : Entry). e.depth)) (entry_of-number_at dim (are_numbers dim tree) i) ∙ depth-read dim i within;
     depth_most = shallow_at depths i (first_fault-shallow [] 0 (node_lines dim) (accepted_lines dim tree)) (omega (arith, few, within));
     number_is = sym (at_within (numbers dim) i (omega (arith, within, length-numbers dim))) ∙ at;

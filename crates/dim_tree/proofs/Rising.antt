@@ -8,12 +8,12 @@ use Rattle.cube_model.specs.Tree.{Entry, line_fault, first_fault, numbered_from,
 use Rattle.dim_tree.proofs.Climbing.{stands, rises_on, depths_of, node_at, together}
 
 -- a line without fault stands behind the others, at most MAX_DEPTH deep
-line_fault-stands : (es : List Entry) (k : ℕ) (line : NodeLine) → line_fault (node_lines es) k line ≡ None → (stands es line.depth ≡ true) × (line.depth ≤ MAX_DEPTH)
+pub line_fault-stands : (es : List Entry) (k : ℕ) (line : NodeLine) → line_fault (node_lines es) k line ≡ None → (stands es line.depth ≡ true) × (line.depth ≤ MAX_DEPTH)
 line_fault-stands [] k line accepted = grind (arith, nat_tests)
 line_fault-stands (e ∷ es) k line accepted = grind (arith, nat_tests)
 
 -- the first of the lines has no fault, and neither have the others
-first_fault-parts : (earlier : List NodeLine) (k : ℕ) (line : NodeLine) (lines : List NodeLine) → first_fault earlier k (line ∷ lines) ≡ None → (line_fault earlier k line ≡ None) × (first_fault (line ∷ earlier) (k + 1) lines ≡ None)
+pub first_fault-parts : (earlier : List NodeLine) (k : ℕ) (line : NodeLine) (lines : List NodeLine) → first_fault earlier k (line ∷ lines) ≡ None → (line_fault earlier k line ≡ None) × (first_fault (line ∷ earlier) (k + 1) lines ≡ None)
 first_fault-parts earlier k line lines accepted = grind arith
 
 -- so the nodes rise one after another

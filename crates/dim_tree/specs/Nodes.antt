@@ -2,13 +2,17 @@
 use Rattle.std.specs.Prelude.{◌≡◌, ℕ, ◌+◌, ◌-◌, ◌<◌, ◌≤◌, Bool, List, [], length, map, position, slice_get, slice_index, nat_le, nat_lt, ◌&&◌, ◌||◌, ◌==◌, if◌then◌else◌, Some, None}
 use Rattle.std.specs.List.{list_all, range_with_len}
 use Rattle.std.specs.Option.{option_map}
-use Rattle.cube_model.specs.Tree.{Dimension, are_distinct, entry_of, is_leaf, is_under, leaves, node_lines, parent, place_of}
+use Rattle.cube_model.specs.Tree.{Dimension, Entry, IsTree, are_distinct, entry_of, is_leaf, is_under, leaves, node_lines, parent, place_of}
 use Rattle.cube_model.specs.Cells.{leaf_places}
 use Rattle.cube_model.specs.Cut.{first_child, in_cut, next_sibling}
 use Rattle.cube_model.specs.Limits.{MAX_DEPTH}
 use Rattle.dim_tree.specs.declared.node.Node.{Node}
 use Rattle.dim_tree.specs.Outline.{IsOutline}
 use Rattle.dim_tree.specs.Places.{parents_from, ends_from, leaf_counts_from, leaves_from}
+
+-- a node
+abbrev pub entry : ℕ → List ℕ → ℕ → Entry
+entry depth name number = record { depth = depth; name = name; number = number }
 
 -- what is kept for the node at a place
 abbrev pub node_at : List ℕ → List ℕ → ℕ → Node
@@ -67,6 +71,7 @@ end_at dim i = slice_index (ends_from 0 (map (λ line. line.depth) (node_lines d
 
 -- what is kept for the node of number n, which stands at place i, answers for it
 pub record IsNode (dim : Dimension) (n i : ℕ) (node : Node) : Type 0 where
+  pub of_tree : IsTree dim
   pub depth_is : option_map (λ e. e.depth) (entry_of dim n) ≡ Some node.depth
   pub depth_most : node.depth ≤ MAX_DEPTH
   pub number_is : node.number ≡ n

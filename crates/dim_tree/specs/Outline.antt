@@ -2,10 +2,11 @@
 use Rattle.std.specs.Prelude.{◌≡◌, ℕ, List, [], ◌∷◌, ◌||◌, length, nat_lt, ◌+◌, ◌==◌, if◌then◌else◌, Option, Some, None}
 use Rattle.std.specs.List.{list_any}
 use Rattle.std.specs.Str.{bytes_eq}
+use Rattle.cube_model.specs.declared.tree.NodeLine.{NodeLine}
 use Rattle.cube_model.specs.declared.tree.DimFault.{DimFault}
 use Rattle.cube_model.specs.declared.tree.DimFault.TheVariants.{Root, Depth, Name}
 use Rattle.cube_model.specs.Limits.{MAX_DEPTH}
-use Rattle.cube_model.specs.Tree.{Dimension, IsTree}
+use Rattle.cube_model.specs.Tree.{Dimension, Entry, IsTree}
 
 -- the nodes with these depths, names and numbers
 abbrev pub entries_of : List ℕ → List (List ℕ) → List ℕ → Dimension
@@ -19,6 +20,10 @@ pub record IsOutline (depths : List ℕ) (names : List (List ℕ)) (numbers : Li
   pub same_names : length names ≡ length depths
   pub same_numbers : length numbers ≡ length depths
   pub tree : IsTree (entries_of depths names numbers)
+
+-- the line of a node
+abbrev pub line_of : Entry → NodeLine
+line_of e = record { depth = e.depth; name = e.name }
 
 -- why a line of this depth may not stand at place k, behind a line of the depth `before`
 abbrev pub depth_fault : Option ℕ → ℕ → ℕ → Option DimFault

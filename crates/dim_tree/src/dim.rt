@@ -1,24 +1,23 @@
 //! A dimension: its nodes in preorder, with what answers questions about them in a few steps.
-ghost use Rattle.std.specs.Prelude.{◌≡◌, ◌↔◌, ◌+◌, ◌-◌, ◌<◌, ◌≤◌, ℕ, [], length, map, slice_get, string_bytes, true, Some, None, Err, IsNone, IfOk, OnOk, IfErr, IfSome};
+ghost use Rattle.std.specs.Prelude.{◌≡◌, ◌↔◌, ◌+◌, ◌-◌, ◌<◌, ◌≤◌, ℕ, List, [], insert, length, map, slice_get, string_bytes, true, Some, None, Err, IsNone, IfOk, OnOk, IfErr, IfSome};
 ghost use Rattle.std.specs.Option.{option_map};
 ghost use Rattle.std.specs.List.{range_with_len};
 ghost use Rattle.cube_model.specs.Tree.{IsTree, dim_fault, entry_of, is_leaf, is_under, leaves, node_named, numbered, parent, place_of, tree_fault};
 ghost use Rattle.cube_model.specs.declared.tree.DimFault.TheVariants.{Empty, Many};
 ghost use Rattle.cube_model.specs.Cells.{leaf_places};
 ghost use Rattle.cube_model.specs.Cut.{first_child, in_cut, next_sibling};
+ghost use Rattle.cube_model.specs.Growing.{grown};
 ghost use Rattle.cube_model.specs.Limits.{MAX_DEPTH, MAX_NODES};
 ghost use Rattle.dim_tree.specs.Fault.{IsCause};
-ghost use Rattle.dim_tree.specs.Nodes.{ArePlaces, IsNode};
+ghost use Rattle.dim_tree.specs.Nodes.{ArePlaces, IsNode, entry};
 ghost use Rattle.dim_tree.specs.Outline.{IsOutline, entries_of};
 
-#[cfg(test)]
-mod tests;
-
+use crate::growing::{depths_with, names_with, numbers_with};
 use crate::node::{Node, kept_nodes};
-use crate::numbering::{count_up, judged_places};
-use crate::outline::{depths_of, depths_of_numbered, judged_names, judged_numbered, numbers_of};
+use crate::numbering::{count_up, judged_places, ordered_places};
+use crate::outline::{depths_of, judged_names, numbers_of};
 use crate::places::leaves_of;
-use cube_base::Memory;
+use cube_base::{Memory, Name};
 use cube_model::{DimFault, MAX_NODES, NodeLine, NumberedLine};
 use indexmap::IndexSet;
 use std::alloc::{AllocError, Global};
@@ -116,15 +115,30 @@ impl Dim {
         ensures accepted { OnOk result (dim_fault lines.now ≡ None) }
         ensures refused { IfErr result (IsCause (dim_fault lines.now)) }
     {
-        let names = judged_numbered(alloc, lines)?;
-        let depths = depths_of_numbered(alloc, lines)?;
+        let names = judged_names(alloc, lines)?;
+        let depths = depths_of(alloc, lines)?;
         let numbers = numbers_of(alloc, lines)?;
         let places = judged_places(alloc, &depths, &numbers)?;
         let dim = Self::indexed(alloc, names, places, &depths, &numbers)?;
         Ok(dim)
     }
 
-    /// The dimension of these depths, names and numbers, from the places of the numbers.
+    /// The dimension of these depths, names and numbers.
+    fn of_tree(
+        alloc: Global,
+        names: IndexSet<String>,
+        depths: &[u8],
+        numbers: &[u32],
+    ) -> Result<Self, Memory>
+        requires { IsOutline depths.now (map string_bytes names.keys) numbers.now }
+        ensures { IfOk result (λ dim. dim ≡ entries_of depths.now (map string_bytes names.keys) numbers.now) }
+    {
+        let places = ordered_places(alloc, depths, numbers)?;
+        let dim = Self::indexed(alloc, names, places, depths, numbers)?;
+        Ok(dim)
+    }
+
+    /// The same, from the places of the numbers.
     fn indexed(
         alloc: Global,
         names: IndexSet<String>,
@@ -156,6 +170,34 @@ impl Dim {
             places: self.places.clone()?,
             leaves: self.leaves.clone()?,
         })
+    }
+
+    /// This dimension with a leaf of this name more, as the last child of `parent`. Its number is how many nodes there
+    /// were. `Memory` for want of memory alone.
+    pub fn grown(&self, parent: u32, name: &Name) -> Result<Self, Memory>
+        requires parent { parent < length self.now }
+        requires depth { IfSome (entry_of self.now parent) (λ e. e.depth < MAX_DEPTH) }
+        requires few { length self.now < MAX_NODES }
+        requires new { node_named self.now name.now ≡ None }
+        ensures { IfOk result (λ dim. dim ≡ grown self.now parent name.now) }
+    {
+        let alloc = *self.names.allocator();
+        let (place, depth) = self.new_child(parent);
+        let names = names_with(&self.names, place, name)?;
+        let depths = depths_with(alloc, &self.nodes, place, depth)?;
+        let numbers = numbers_with(alloc, &self.nodes, place)?;
+        Self::of_tree(alloc, names, &depths, &numbers)
+    }
+
+    /// The place and the depth of a leaf that is put in as the last child of a node.
+    fn new_child(&self, parent: u32) -> (u32, u8)
+        requires parent { parent < length self.now }
+        requires depth { IfSome (entry_of self.now parent) (λ e. e.depth < MAX_DEPTH) }
+        ensures grown { (name : List ℕ) → grown self.now parent name ≡ insert self.now result.0 (entry result.1 name (length self.now)) }
+        ensures within { result.0 ≤ length self.now }
+    {
+        let above = self.node(self.place(parent));
+        (above.end, above.depth + 1)
     }
 
     /// The place in preorder of a node.
@@ -194,11 +236,12 @@ impl Dim {
         self.nodes.len() as u32
     }
 
-    /// The number of leaves, at least 1.
+    /// The number of leaves, at least 1, and below that of the nodes where there are two or more.
     pub fn leaf_count(&self) -> u32
         ensures count { result ≡ length (leaves self.now) }
         ensures some { 1 ≤ result }
         ensures most { result ≤ length self.now }
+        ensures fewer { 2 ≤ length self.now → result < length self.now }
     {
         self.leaves.len() as u32
     }

@@ -2,6 +2,7 @@
 #![tactic(auto)]
 
 mod dim;
+mod growing;
 mod laws;
 mod node;
 mod numbering;
@@ -10,4 +11,6 @@ mod places;
 
 pub use cube_model::{DimFault, NodeLine, NumberedLine};
 pub use dim::Dim;
-pub use laws::{worked_numbers, worked_trees};
+pub use laws::{
+    fewer_leaves_than_nodes, grown_stays_a_tree, too_many_lines, worked_numbers, worked_trees,
+};

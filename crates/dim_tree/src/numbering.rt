@@ -7,6 +7,7 @@ ghost use Rattle.dim_tree.specs.Fault.{IsCause};
 ghost use Rattle.dim_tree.specs.Nodes.{ArePlaces, are_above, are_in_order, are_numbers};
 
 use crate::places::parents_of;
+use cube_base::Memory;
 use cube_model::DimFault;
 use std::alloc::{AllocError, Global};
 
@@ -37,6 +38,21 @@ pub fn judged_places(alloc: Global, depths: &[u8], numbers: &[u32]) -> Result<Ve
         Ok(places)
     } else {
         Err(DimFault::Number)
+    }
+}
+
+/// The same where they are.
+pub fn ordered_places(alloc: Global, depths: &[u8], numbers: &[u32]) -> Result<Vec<u32>, Memory>
+    requires few { length depths.now ≤ MAX_NODES }
+    requires shallow { list_all (λ depth. nat_le depth MAX_DEPTH) depths.now ≡ true }
+    requires same_length { length numbers.now ≡ length depths.now }
+    requires order { are_in_order numbers.now depths.now ≡ true }
+    ensures { IfOk result (λ places. ArePlaces numbers.now places.items) }
+{
+    match judged_places(alloc, depths, numbers) {
+        Ok(places) => Ok(places),
+        Err(DimFault::Memory) => Err(Memory),
+        Err(_) => unreachable!(),
     }
 }
 

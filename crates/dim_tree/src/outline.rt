@@ -4,59 +4,68 @@ ghost use Rattle.std.specs.List.{list_all};
 ghost use Rattle.std.specs.Option.{option_or};
 ghost use Rattle.cube_base.specs.Name.{is_name};
 ghost use Rattle.cube_model.specs.Limits.{MAX_NODES};
-ghost use Rattle.cube_model.specs.Tree.{first_fault, node_lines};
+ghost use Rattle.cube_model.specs.Tree.{first_fault};
+ghost use Rattle.cube_model.specs.declared.tree.NodeLine.{NodeLine};
 ghost use Rattle.dim_tree.specs.Fault.{IsCause};
-ghost use Rattle.dim_tree.specs.Outline.{depth_fault, name_fault};
+ghost use Rattle.dim_tree.specs.Outline.{depth_fault, line_of, name_fault};
 
 use cube_base::Name;
 use cube_model::{DimFault, MAX_DEPTH, NodeLine, NumberedLine};
 use indexmap::IndexSet;
 use std::alloc::{AllocError, Global};
 
-/// Judges the lines one after another. Where they are a tree, their names, in order.
-pub fn judged_names(alloc: Global, lines: &[NodeLine]) -> Result<IndexSet<String>, DimFault>
-    requires { length lines.now ≤ MAX_NODES }
-    ensures names { IfOk result (λ names. map string_bytes names.keys ≡ map (λ line. line.name) lines.now) }
-    ensures are_names { OnOk result (list_all (λ line. is_name line.name) lines.now ≡ true) }
-    ensures accepted { OnOk result (first_fault [] 0 lines.now ≡ None) }
-    ensures refused { IfErr result (IsCause (first_fault [] 0 lines.now)) }
-{
-    let mut names = IndexSet::with_capacity(alloc, lines.len())?;
-    let mut before = None;
-    for (place, line) in lines.iter().enumerate() {
-        judge_line(
-            alloc,
-            &mut names,
-            before,
-            place as u32,
-            line.depth,
-            &line.name,
-        )?;
-        before = Some(line.depth);
-    }
-    Ok(names)
+/// What is judged of a node: how deep it lies, and its name.
+pub trait Outlined {
+    /// The node as a line, without a number.
+    ghost line: { Self → NodeLine };
+
+    /// The number of nodes above it.
+    fn depth(&self) -> u8
+        ensures { result ≡ (line self.now).depth };
+
+    /// Its name.
+    fn name(&self) -> &Name
+        ensures { result.now ≡ (line self.now).name };
 }
 
-/// The same for lines with numbers, which are not judged.
-pub fn judged_numbered(alloc: Global, lines: &[NumberedLine]) -> Result<IndexSet<String>, DimFault>
-    requires { length lines.now ≤ MAX_NODES }
-    ensures names { IfOk result (λ names. map string_bytes names.keys ≡ map (λ line. line.name) (node_lines lines.now)) }
-    ensures are_names { OnOk result (list_all (λ line. is_name line.name) (node_lines lines.now) ≡ true) }
-    ensures accepted { OnOk result (first_fault [] 0 (node_lines lines.now) ≡ None) }
-    ensures refused { IfErr result (IsCause (first_fault [] 0 (node_lines lines.now))) }
+impl Outlined for NodeLine {
+    ghost line = { λ l. l };
+
+    fn depth(&self) -> u8 {
+        self.depth
+    }
+
+    fn name(&self) -> &Name {
+        &self.name
+    }
+}
+
+impl Outlined for NumberedLine {
+    ghost line = { line_of };
+
+    fn depth(&self) -> u8 {
+        self.depth
+    }
+
+    fn name(&self) -> &Name {
+        &self.name
+    }
+}
+
+/// Judges the nodes one after another, but not their numbers. Where they are a tree, their names, in order.
+pub fn judged_names<L: Outlined>(alloc: Global, nodes: &[L]) -> Result<IndexSet<String>, DimFault>
+    requires { length nodes.now ≤ MAX_NODES }
+    ensures names { IfOk result (λ names. map string_bytes names.keys ≡ map (λ line. line.name) (map L.line nodes.now)) }
+    ensures are_names { OnOk result (list_all (λ line. is_name line.name) (map L.line nodes.now) ≡ true) }
+    ensures accepted { OnOk result (first_fault [] 0 (map L.line nodes.now) ≡ None) }
+    ensures refused { IfErr result (IsCause (first_fault [] 0 (map L.line nodes.now))) }
 {
-    let mut names = IndexSet::with_capacity(alloc, lines.len())?;
+    let mut names = IndexSet::with_capacity(alloc, nodes.len())?;
     let mut before = None;
-    for (place, line) in lines.iter().enumerate() {
-        judge_line(
-            alloc,
-            &mut names,
-            before,
-            place as u32,
-            line.depth,
-            &line.name,
-        )?;
-        before = Some(line.depth);
+    for (place, node) in nodes.iter().enumerate() {
+        let depth = node.depth();
+        judge_line(alloc, &mut names, before, place as u32, depth, node.name())?;
+        before = Some(depth);
     }
     Ok(names)
 }
@@ -116,18 +125,11 @@ fn add_name(
     }
 }
 
-/// The depths of the lines, in order.
-pub fn depths_of(alloc: Global, lines: &[NodeLine]) -> Result<Vec<u8>, AllocError>
-    ensures { IfOk result (λ depths. depths.items ≡ map (λ line. line.depth) lines.now) }
+/// The depths of the nodes, in order.
+pub fn depths_of<L: Outlined>(alloc: Global, nodes: &[L]) -> Result<Vec<u8>, AllocError>
+    ensures { IfOk result (λ depths. depths.items ≡ map (λ node. (L.line node).depth) nodes.now) }
 {
-    lines.iter().map(|line| line.depth).collect(alloc)
-}
-
-/// The depths of lines with numbers, in order.
-pub fn depths_of_numbered(alloc: Global, lines: &[NumberedLine]) -> Result<Vec<u8>, AllocError>
-    ensures { IfOk result (λ depths. depths.items ≡ map (λ line. line.depth) lines.now) }
-{
-    lines.iter().map(|line| line.depth).collect(alloc)
+    nodes.iter().map(|node| node.depth()).collect(alloc)
 }
 
 /// Their numbers, in order.

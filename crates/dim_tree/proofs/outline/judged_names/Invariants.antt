@@ -3,4 +3,4 @@ use Rattle.dim_tree.proofs.Judging.{IsJudged}
 use Rattle.dim_tree.proofs.outline.judged_names.Given as goal
 
 abbrev pub invariant-loop-place : goal.invariant-loop-place
-invariant-loop-place l = IsJudged l.lines l.place l.before (map string_bytes l.names.keys)
+invariant-loop-place g l = IsJudged (map g.L.Outlined.line l.nodes) l.place l.before (map string_bytes l.names.keys)

@@ -1,5 +1,6 @@
 use Rattle.std.proofs.Common.{arith}
 use Rattle.dim_tree.proofs.Kept.{kept}
+use Rattle.dim_tree.proofs.MoreLeaves.{fewer_leaves}
 use Rattle.dim_tree.proofs.dim.Dim.leaf_count.Goals as goal
 
 pub overflow_cast-result : goal.overflow_cast-result
@@ -13,3 +14,6 @@ returns-clause-some c = let its = kept c.self.invariant c.self.view_is in grind 
 
 pub returns-clause-most : goal.returns-clause-most
 returns-clause-most c = let its = kept c.self.invariant c.self.view_is in grind (arith, its.leaves_count, its.leaves_few)
+
+pub returns-clause-fewer : goal.returns-clause-fewer
+returns-clause-fewer c = λ two. let its = kept c.self.invariant c.self.view_is in grind (arith, its.leaves_count, fewer_leaves _ its.tree two)
