@@ -178,9 +178,12 @@ pub lcm_some : (a b : ℕ) → 1 ≤ a → 1 ≤ b → 1 ≤ lcm a b
 lcm_some a b some_a some_b =
     pos_of_dvd_of_pos ((lcm-is a b some_b).least (a * b) (dvd-mul_right a b) (dvd-mul_left b a)) (mul-pos some_a some_b)
 
--- it is at least the first
+-- it is at least the first, and at least the second
 pub le-lcm : (a b : ℕ) → 1 ≤ a → 1 ≤ b → a ≤ lcm a b
 le-lcm a b some_a some_b = le_of_dvd (lcm_some a b some_a some_b) (lcm-is a b some_b).left
+
+pub lcm-le : (a b : ℕ) → 1 ≤ a → 1 ≤ b → b ≤ lcm a b
+lcm-le a b some_a some_b = le_of_dvd (lcm_some a b some_a some_b) (lcm-is a b some_b).right
 
 pub lcm-one : (a : ℕ) → lcm a 1 ≡ a
 lcm-one a = lcm_unique a 1 (lcm a 1) a (lcm-is a 1 (omega arith)) (record { left = dvd_refl a; right = one-dvd a; least = λ k in_a in_one. in_a })

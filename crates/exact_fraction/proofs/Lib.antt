@@ -13,3 +13,4 @@ pub mod Told
 pub mod Quoted
 pub mod Ratios
 pub mod Scaling
+pub mod TotalLaws

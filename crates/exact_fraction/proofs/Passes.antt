@@ -20,7 +20,7 @@ use Rattle.exact_fraction.specs.declared.column.SignedSums.{SignedSums}
 use Rattle.exact_fraction.specs.declared.fraction.Bounds.{Bounds}
 use Rattle.exact_fraction.proofs.Columns.{column_of}
 use Rattle.exact_fraction.proofs.Signs.{floor_small, ceiling_small}
-use Rattle.exact_fraction.proofs.Divisors.{cofactor_some, lcm_some, le-lcm, lcm_assoc, lcm-one}
+use Rattle.exact_fraction.proofs.Divisors.{cofactor_some, lcm_some, le-lcm, lcm_assoc, lcm-one, one-lcm}
 
 -- no denominator is 0
 abbrev pub AreFractions : List Fraction → Type 0
@@ -72,6 +72,10 @@ pub record HasCommon (common whole : ℕ) (rest : List Fraction) : Type 0 where
   pub some : 1 ≤ common
   pub narrow : common ≤ WIDE
   pub reaches : lcm common (common_den rest) ≡ whole
+
+-- before any fraction it is 1
+pub has_first : (fs : List Fraction) → AreFractions fs → HasCommon 1 (common_den fs) fs
+has_first fs some = record { some = omega arith; narrow = omega arith; reaches = one-lcm (common_den fs) (common_den_some fs some) }
 
 module _ (common whole : ℕ) (f : Fraction) (rest : List Fraction) (has : HasCommon common whole (f ∷ rest)) (some : 1 ≤ f.den) (others : AreFractions rest) where
   common_next : lcm (lcm common f.den) (common_den rest) ≡ whole

@@ -158,7 +158,7 @@ module _ (scale : ℕ) (fs cs : List Fraction) (some_scale : 1 ≤ scale) (count
 
 -- the same of terms
 module _ (list : TermList) (column scale : ℕ) (are : AreTerms list) (moderate : IsModerate list.terms) (in_columns : column < list.columns) (some : 1 ≤ length list.terms) (some_scale : 1 ≤ scale) where
-  pub exact_terms_tell : TellsQuotient scale (column_fractions column list.terms) (column_fractions 0 list.terms) (exact_quotient (quotient_of scale (column_fractions column list.terms) (column_fractions 0 list.terms)))
+  exact_terms_tell : TellsQuotient scale (column_fractions column list.terms) (column_fractions 0 list.terms) (exact_quotient (quotient_of scale (column_fractions column list.terms) (column_fractions 0 list.terms)))
   exact_terms_tell =
       let fs = column_fractions column list.terms in
       let cs = column_fractions 0 list.terms in
@@ -166,7 +166,7 @@ module _ (list : TermList) (column scale : ℕ) (are : AreTerms list) (moderate 
       let some_cs = cs_some list column scale are moderate in_columns in
       exact_tells scale fs cs some_scale (λ m. count_over m list.terms) some_fs some_cs (count_some list.columns (joint_den fs cs) list.terms some are.terms (joint_right fs cs some_fs some_cs))
 
-  pub wide_terms_tell : scale ≤ 1_000_000 → TellsQuotient scale (column_fractions column list.terms) (column_fractions 0 list.terms) (wide_quotient scale (sum_of (column_fractions column list.terms)) (sum_of (column_fractions 0 list.terms)))
+  wide_terms_tell : scale ≤ 1_000_000 → TellsQuotient scale (column_fractions column list.terms) (column_fractions 0 list.terms) (wide_quotient scale (sum_of (column_fractions column list.terms)) (sum_of (column_fractions 0 list.terms)))
   wide_terms_tell small =
       let fs = column_fractions column list.terms in
       let cs = column_fractions 0 list.terms in
@@ -196,5 +196,15 @@ ratio_none column scale (t ∷ terms) none = absurd (omega arith)
 pub ratio_exact : (column scale : ℕ) (terms : List Term) (p : SignedFraction) → 1 ≤ length terms → IsExactQuotient scale (column_fractions column terms) (column_fractions 0 terms) p → exact_quotient (fraction_of p) ≡ ratio_of column scale terms
 ratio_exact column scale terms p some is = rw (ratio_some column scale terms some, is.narrow) (ap exact_quotient is.parts.fraction)
 
-pub ratio_wide : (column scale : ℕ) (terms : List Term) → 1 ≤ length terms → is_wide_quotient scale (column_fractions column terms) (column_fractions 0 terms) ≡ true → wide_quotient scale (one_of column terms) (one_of 0 terms) ≡ ratio_of column scale terms
-ratio_wide column scale terms some wide = rw (ratio_some column scale terms some, wide) refl
+pub wide_told : (column scale : ℕ) (terms : List Term) (sum count : Value) → sum ≡ one_of column terms → count ≡ one_of 0 terms → 1 ≤ length terms → is_wide_quotient scale (column_fractions column terms) (column_fractions 0 terms) ≡ true
+    → wide_quotient scale sum count ≡ ratio_of column scale terms
+wide_told column scale terms sum count sum_is count_is some wide = rw (ratio_some column scale terms some, wide, sum_is, count_is) refl
+
+-- what the quotient of terms tells
+pub ratio_tells : (list : TermList) (column scale : ℕ) → AreTerms list → IsModerate list.terms → column < list.columns → 1 ≤ length list.terms → 1 ≤ scale → scale ≤ 1_000_000
+    → TellsQuotient scale (column_fractions column list.terms) (column_fractions 0 list.terms) (ratio_of column scale list.terms)
+ratio_tells list column scale are moderate in_columns some some_scale small = elim (cases_Bool (is_wide_quotient scale (column_fractions column list.terms) (column_fractions 0 list.terms))) [
+  | inl wide ↦
+      rw (ratio_some column scale list.terms some, wide, one_is column list.terms, one_is 0 list.terms) (wide_terms_tell list column scale are moderate in_columns some some_scale small)
+  | inr narrow ↦ rw (ratio_some column scale list.terms some, narrow) (exact_terms_tell list column scale are moderate in_columns some some_scale)
+]

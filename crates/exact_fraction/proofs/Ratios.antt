@@ -12,9 +12,8 @@ use Rattle.exact_fraction.specs.Ratio.{joint_den, quotient_of, is_wide_quotient,
 use Rattle.exact_fraction.specs.Laws.{IsCommonMultiple}
 use Rattle.exact_fraction.specs.declared.fraction.SignedFraction.{SignedFraction}
 use Rattle.exact_fraction.specs.declared.column.SignedSums.{SignedSums}
-use Rattle.exact_fraction.proofs.Divisors.{one-lcm, lcm_assoc, lcm-is, le-lcm, lcm_some}
+use Rattle.exact_fraction.proofs.Divisors.{one-lcm, lcm_assoc, lcm-is, le-lcm, lcm-le, lcm_some}
 use Rattle.exact_fraction.proofs.Passes.{AreFractions, common_den_some, column_some, rest_of, within_some, within_none}
-use Rattle.exact_fraction.proofs.Totals.{common_told}
 use Rattle.exact_fraction.proofs.Told.{divide_more, common_multiple}
 use Rattle.exact_fraction.proofs.Shares.{abs_over_count, count_some}
 
@@ -92,27 +91,30 @@ module _ (list : TermList) (column scale : ℕ) (are : AreTerms list) (moderate 
   pub cs_some : AreFractions cs
   cs_some = column_some list.columns 0 1 list.terms (omega arith) are.terms
 
-  -- the denominators of the column pass WIDE
-  pub first_told : None ≡ within (lcm 1 (common_den fs)) → is_wide_quotient scale fs cs ≡ true
+  -- the denominators of the column pass WIDE, or those of the count
+  pub first_told : None ≡ within (common_den fs) → is_wide_quotient scale fs cs ≡ true
   first_told told =
-      let wide = within_none _ (rw (one-lcm (common_den fs) (common_den_some fs fs_some)) at told) in
+      let wide = within_none _ told in
       let above = le-lcm (common_den fs) (common_den cs) (common_den_some fs fs_some) (common_den_some cs cs_some) in
       wide_den scale fs cs (rw (joint_is fs cs fs_some cs_some) (omega (arith, wide, above)))
 
-  module _ (first : ℕ) (told_first : Some first ≡ within (lcm 1 (common_den fs))) where
-    first_is : common_den fs ≡ first
-    first_is = (common_told list column are moderate in_columns first told_first).0
+  pub second_told : None ≡ within (common_den cs) → is_wide_quotient scale fs cs ≡ true
+  second_told told =
+      let wide = within_none _ told in
+      let above = lcm-le (common_den fs) (common_den cs) (common_den_some fs fs_some) (common_den_some cs cs_some) in
+      wide_den scale fs cs (rw (joint_is fs cs fs_some cs_some) (omega (arith, wide, above)))
 
-    joint_from : joint_den fs cs ≡ lcm first (common_den cs)
-    joint_from = joint_is fs cs fs_some cs_some ∙ ap (λ n. lcm n (common_den cs)) first_is
+  module _ (first second : ℕ) (told_first : Some first ≡ within (common_den fs)) (told_second : Some second ≡ within (common_den cs)) where
+    joint_from : joint_den fs cs ≡ lcm first second
+    joint_from = joint_is fs cs fs_some cs_some ∙ ap (λ n. lcm n (common_den cs)) (within_some _ first told_first).0 ∙ ap (lcm first) (within_some _ second told_second).0
 
     -- those of both do
-    pub second_told : None ≡ within (lcm first (common_den cs)) → is_wide_quotient scale fs cs ≡ true
-    second_told told = wide_den scale fs cs (rw joint_from (within_none _ told))
+    pub both_told : None ≡ within (lcm first second) → is_wide_quotient scale fs cs ≡ true
+    both_told told = wide_den scale fs cs (rw joint_from (within_none _ told))
 
-    module _ (common : ℕ) (told : Some common ≡ within (lcm first (common_den cs))) where
+    module _ (common : ℕ) (told : Some common ≡ within (lcm first second)) where
       joint_told : (joint_den fs cs ≡ common) × (common ≤ WIDE)
-      joint_told = let parts = within_some (lcm first (common_den cs)) common told in (joint_from ∙ parts.0, parts.1)
+      joint_told = let parts = within_some (lcm first second) common told in (joint_from ∙ parts.0, parts.1)
 
       -- the absolute values do
       pub sum_told : WIDE < abs_over common fs → is_wide_quotient scale fs cs ≡ true

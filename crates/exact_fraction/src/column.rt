@@ -3,7 +3,7 @@ ghost use Rattle.std.specs.Prelude.{◌≡◌, ◌+◌, ◌*◌, ◌<◌, ◌≤
 ghost use Rattle.cube_model.specs.Answer.{total_by};
 ghost use Rattle.cube_model.specs.Limits.{WIDE};
 ghost use Rattle.group_sum.specs.Terms.{AreTerms};
-ghost use Rattle.exact_fraction.specs.Number.{lcm, within};
+ghost use Rattle.exact_fraction.specs.Number.{within};
 ghost use Rattle.exact_fraction.specs.Fraction.{abs_over, ceiling_of, column_fractions, common_den, floor_of};
 ghost use Rattle.exact_fraction.specs.Moderate.{IsModerate};
 ghost use Rattle.exact_fraction.specs.Signed.{AddsToSums, AreSignedSums, IsFractionAt};
@@ -22,16 +22,14 @@ pub struct SignedSums {
     pub below: u128,
 }
 
-/// The least common multiple of a number and the denominators of a column, if it does not pass the limit.
-pub fn common_den(t: &Terms, col: u32, start: u128) -> Option<u128>
+/// The least common multiple of the denominators of a column, if it does not pass the limit.
+pub fn common_den(t: &Terms, col: u32) -> Option<u128>
     requires column { col < t.now.columns }
     requires moderate { IsModerate t.now.terms }
-    requires some { 1 ≤ start }
-    requires start { start ≤ WIDE }
-    ensures common { result ≡ within (lcm start (common_den (column_fractions col t.now.terms))) }
+    ensures common { result ≡ within (common_den (column_fractions col t.now.terms)) }
     ensures terms { AreTerms t.now }
 {
-    let mut common = start;
+    let mut common = 1;
     for i in 0..t.len() {
         common = lcm_within(common, part(t, col, i).den)?;
     }

@@ -7,8 +7,6 @@ mod gcd;
 mod laws;
 mod quotients;
 mod sums;
-#[cfg(test)]
-mod tests;
 
 pub use group_sum::Terms;
 pub use laws::{worked_examples, worked_wide_quotients, worked_wide_sums};

@@ -3,16 +3,17 @@ ghost use Rattle.std.specs.Prelude.{◌≡◌, ◌*◌, ◌<◌, ◌≤◌, true
 ghost use Rattle.std.specs.Int.{is_negative};
 ghost use Rattle.cube_model.specs.Limits.{MAX_VALUE, WIDE};
 ghost use Rattle.group_sum.specs.Terms.{AreTerms};
-ghost use Rattle.exact_fraction.specs.Fraction.{ceiling_of, column_fractions, floor_of, reduced};
+ghost use Rattle.exact_fraction.specs.Fraction.{ceiling_of, column_fractions, common_den, floor_of, reduced};
 ghost use Rattle.exact_fraction.specs.Laws.{TellsQuotient};
 ghost use Rattle.exact_fraction.specs.Moderate.{IsModerate};
+ghost use Rattle.exact_fraction.specs.Number.{within};
 ghost use Rattle.exact_fraction.specs.Signed.{StandsFor, MOST_WHOLE, fraction_of, signed};
 ghost use Rattle.exact_fraction.specs.Ratio.{CanDivide, IsExactQuotient, exact_quotient, is_wide_quotient, ratio_of, wide_quotient};
 
 use crate::column::{SignedSums, common_den, signed_sums};
 use crate::fraction::{Bounds, SignedFraction, bounds_of, over, reduce};
-use crate::gcd::product_within;
-use crate::sums::{Value, exact_value, fraction_from, one};
+use crate::gcd::{lcm_within, product_within};
+use crate::sums::{Value, exact_value, fraction_from, value_over};
 use group_sum::Terms;
 
 /// The largest scale.
@@ -42,7 +43,7 @@ pub enum Quotient {
 /// as a numerator, and the denominator of the quotient in lowest terms. Where it is not, the bounds are those of the two
 /// sums divided, and none where the lower one of the count is 0.
 ///
-/// The column is below the number of columns, the scale is from 1 to `MAX_SCALE`, and the terms are moderate as for [`one`].
+/// The column is below the number of columns, the scale is from 1 to `MAX_SCALE`, and the terms are moderate as for [`crate::one`].
 pub fn ratio(t: &Terms, col: u32, scale: u32) -> Quotient
     requires column { col < t.now.columns }
     requires moderate { IsModerate t.now.terms }
@@ -53,24 +54,40 @@ pub fn ratio(t: &Terms, col: u32, scale: u32) -> Quotient
     if t.len() == 0 {
         return Quotient::Undefined;
     }
-    match exact_ratio(t, col, scale) {
+    let column_den = common_den(t, col);
+    let count_den = common_den(t, 0);
+    match exact_ratio(t, col, scale, column_den, count_den) {
         Some(p) => exact_quotient(p),
-        None => wide_quotient(one(t, col), one(t, 0), scale),
+        None => wide_quotient(
+            value_over(t, col, column_den),
+            value_over(t, 0, count_den),
+            scale,
+        ),
     }
 }
 
-// The quotient in lowest terms, if it can be told as one fraction.
-fn exact_ratio(t: &Terms, col: u32, scale: u32) -> Option<SignedFraction>
+// The quotient in lowest terms, if it can be told as one fraction, by the least common multiples of the denominators of
+// the column and of the count.
+fn exact_ratio(
+    t: &Terms,
+    col: u32,
+    scale: u32,
+    column_den: Option<u128>,
+    count_den: Option<u128>,
+) -> Option<SignedFraction>
     requires some { 1 ≤ length t.now.terms }
     requires column { col < t.now.columns }
     requires moderate { IsModerate t.now.terms }
+    requires terms { AreTerms t.now }
     requires scale { (1 ≤ scale) × (scale ≤ MAX_SCALE) }
-    ensures quotient { MatchOption result (is_wide_quotient scale (column_fractions col t.now.terms) (column_fractions 0 t.now.terms) ≡ true)
+    requires column_den { column_den ≡ within (common_den (column_fractions col t.now.terms)) }
+    requires count_den { count_den ≡ within (common_den (column_fractions 0 t.now.terms)) }
+    ensures { MatchOption result (is_wide_quotient scale (column_fractions col t.now.terms) (column_fractions 0 t.now.terms) ≡ true)
         (λ p. IsExactQuotient scale (column_fractions col t.now.terms) (column_fractions 0 t.now.terms) p) }
-    ensures terms { AreTerms t.now }
 {
-    let first = common_den(t, col, 1)?;
-    let common = common_den(t, 0, first)?;
+    let first = column_den?;
+    let second = count_den?;
+    let common = lcm_within(first, second)?;
     let sum = signed_sums(t, col, common)?;
     let count = signed_sums(t, 0, common)?;
     over_scale(

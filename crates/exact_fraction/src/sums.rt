@@ -3,8 +3,9 @@ ghost use Rattle.std.specs.Prelude.{◌≡◌, ◌<◌, true, MatchOption};
 ghost use Rattle.group_sum.specs.Terms.{AreTerms};
 ghost use Rattle.exact_fraction.specs.Moderate.{IsModerate};
 ghost use Rattle.exact_fraction.specs.One.{IsExactSum, exact_value, is_wide, one_of, wide_value};
-ghost use Rattle.exact_fraction.specs.Fraction.{column_fractions};
+ghost use Rattle.exact_fraction.specs.Fraction.{column_fractions, common_den};
 ghost use Rattle.exact_fraction.specs.Laws.{TellsSum};
+ghost use Rattle.exact_fraction.specs.Number.{within};
 ghost use Rattle.exact_fraction.specs.Signed.{StandsFor, IsSumOver, fraction_of};
 
 use crate::column::{SignedSums, common_den, signed_sums, wide_bounds};
@@ -34,7 +35,19 @@ pub fn one(t: &Terms, col: u32) -> Value
     ensures value { result ≡ one_of col t.now.terms }
     ensures law { TellsSum (column_fractions col t.now.terms) result }
 {
-    match exact_sum(t, col) {
+    value_over(t, col, common_den(t, col))
+}
+
+/// The sum of a column of whose denominators this is the least common multiple, or `None` where that passes the limit.
+pub fn value_over(t: &Terms, col: u32, common: Option<u128>) -> Value
+    requires column { col < t.now.columns }
+    requires moderate { IsModerate t.now.terms }
+    requires terms { AreTerms t.now }
+    requires common { common ≡ within (common_den (column_fractions col t.now.terms)) }
+    ensures value { result ≡ one_of col t.now.terms }
+    ensures law { TellsSum (column_fractions col t.now.terms) result }
+{
+    match exact_sum(t, col, common) {
         Some(sum) => exact_value(sum),
         None => wide_value(t, col),
     }
@@ -55,15 +68,16 @@ fn wide_value(t: &Terms, col: u32) -> Value
 }
 
 // The sum in lowest terms, if it can be told as one fraction.
-fn exact_sum(t: &Terms, col: u32) -> Option<SignedFraction>
+fn exact_sum(t: &Terms, col: u32, common: Option<u128>) -> Option<SignedFraction>
     requires column { col < t.now.columns }
     requires moderate { IsModerate t.now.terms }
-    ensures sum { MatchOption result (is_wide (column_fractions col t.now.terms) ≡ true) (λ p. IsExactSum (column_fractions col t.now.terms) p) }
-    ensures terms { AreTerms t.now }
+    requires terms { AreTerms t.now }
+    requires common { common ≡ within (common_den (column_fractions col t.now.terms)) }
+    ensures { MatchOption result (is_wide (column_fractions col t.now.terms) ≡ true) (λ p. IsExactSum (column_fractions col t.now.terms) p) }
 {
-    let common = common_den(t, col, 1)?;
-    let sums = signed_sums(t, col, common)?;
-    Some(reduce(fraction_from(sums, common)))
+    let multiple = common?;
+    let sums = signed_sums(t, col, multiple)?;
+    Some(reduce(fraction_from(sums, multiple)))
 }
 
 /// A sum over a denominator.

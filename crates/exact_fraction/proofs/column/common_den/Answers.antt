@@ -1,6 +1,10 @@
 use Rattle.std.proofs.Common.{sym, ◌∙◌, arith}
-use Rattle.exact_fraction.proofs.Passes.{rest_some, rest_none, has_next, has_none, has_all}
+use Rattle.exact_fraction.proofs.Passes.{rest_some, rest_none, has_first, has_next, has_none, has_all}
 use Rattle.exact_fraction.proofs.column.common_den.Goals as goal
+
+-- no denominator yet
+pub loop-i-init : goal.loop-i-init
+loop-i-init c = has_first _ (rest_some _ _ 0 c.len-i-end.ensures.terms)
 
 -- a multiple that passes the limit
 pub returns-in_err-common-clause-common : goal.returns-in_err-common-clause-common
