@@ -6,6 +6,7 @@ pub mod Numbers
 pub mod Turns
 pub mod Tuples
 pub mod Spaces
+pub mod Growing
 pub mod Children
 pub mod Partition
 pub mod Runs

@@ -4,6 +4,8 @@ use Rattle.cube_model.specs.Tree.{Dimension, numbered}
 use Rattle.dim_tree.specs.Examples.{chain, family, line, made_in_turn, node}
 use Rattle.region_algebra.specs.Fault.{limit_fault}
 use Rattle.region_algebra.specs.Space.{product}
+use Rattle.region_algebra.specs.Growth.{sizes_fault}
+use Rattle.region_algebra.specs.declared.growth.GrowFault.{GrowFault}
 use Rattle.region_algebra.specs.declared.space.SpaceFault.{SpaceFault}
 
 -- a root over two leaves
@@ -22,6 +24,10 @@ numbered_space = made_in_turn ∷ pair ∷ []
 abbrev pub grown_pair : Dimension
 grown_pair = node 0 97 0 ∷ node 1 98 1 ∷ node 2 122 3 ∷ node 1 99 2 ∷ []
 
+-- the family with a leaf z under its e, behind its f
+abbrev pub grown_family : Dimension
+grown_family = node 0 97 0 ∷ node 1 98 1 ∷ node 2 99 2 ∷ node 2 100 3 ∷ node 1 101 4 ∷ node 2 102 5 ∷ node 2 122 7 ∷ node 1 103 6 ∷ []
+
 -- nine nodes, each under the one before
 abbrev pub deep_space : List Dimension
 deep_space = numbered (chain 9) ∷ []
@@ -29,3 +35,7 @@ deep_space = numbered (chain 9) ∷ []
 -- the fault of dimensions that are a root over so many leaves each
 abbrev pub flat_fault : List ℕ → Option SpaceFault
 flat_fault leaf_counts = limit_fault (length leaf_counts) (product leaf_counts) (product (map (λ n. n + 1) leaf_counts))
+
+-- the fault of dimensions that have grown to a root over so many leaves each
+abbrev pub flat_growth : List ℕ → Option GrowFault
+flat_growth leaf_counts = sizes_fault (product leaf_counts) (product (map (λ n. n + 1) leaf_counts))

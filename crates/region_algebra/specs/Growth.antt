@@ -19,13 +19,21 @@ child_fault dim parent name =
 abbrev pub grown_dims : List Dimension → ℕ → ℕ → List ℕ → List Dimension
 grown_dims dims d parent name = option_map_or (λ dim. slice_set dims d (grown dim parent name)) (slice_get dims d) dims
 
--- the first limit that so many dimensions pass together
+-- the first of the limits that so many cells and so many regions pass
+abbrev pub sizes_fault : ℕ → ℕ → Option GrowFault
+sizes_fault cells regions = if nat_le SPACE_LIMIT cells then Some Cells else (if nat_le SPACE_LIMIT regions then Some Nodes else None)
+
+-- the first that dimensions pass together
 abbrev pub size_fault : List Dimension → Option GrowFault
-size_fault dims = if nat_le SPACE_LIMIT (cell_total dims) then Some Cells else (if nat_le SPACE_LIMIT (region_total dims) then Some Nodes else None)
+size_fault dims = sizes_fault (cell_total dims) (region_total dims)
+
+-- why a node of one of the dimensions gets no child of this name, where they are judged by themselves
+abbrev pub own_fault : List Dimension → ℕ → ℕ → List ℕ → Option GrowFault
+own_fault dims d parent name = option_and_then (λ dim. child_fault dim parent name) (slice_get dims d)
 
 -- why a node of a dimension of a space gets no child of this name
 abbrev pub grow_fault : List Dimension → ℕ → ℕ → List ℕ → Option GrowFault
-grow_fault dims d parent name = option_or (option_and_then (λ dim. child_fault dim parent name) (slice_get dims d)) (size_fault (grown_dims dims d parent name))
+grow_fault dims d parent name = option_or (own_fault dims d parent name) (size_fault (grown_dims dims d parent name))
 
 -- a fault other than want of memory is this one
 abbrev pub IsGrowCause : Option GrowFault → GrowFault → Type 0

@@ -1,15 +1,17 @@
 //! Laws of regions and cells, and examples that are computed from the definitions. The functions do nothing: each law
 //! is the contract.
-ghost use Rattle.std.specs.Prelude.{◌≡◌, ◌⊎◌, ◌<◌, ℕ, List, [], ◌∷◌, true, false, if◌then◌else◌, All, IfSome, None, Some, length, replicate, slice_get, slice_set};
+ghost use Rattle.std.specs.Prelude.{◌≡◌, ◌⊎◌, ◌<◌, ◌≤◌, ℕ, List, [], ◌∷◌, true, false, if◌then◌else◌, All, IfSome, None, Some, length, replicate, slice_get, slice_set};
 ghost use Rattle.std.specs.List.{count_by, range_with_len};
-ghost use Rattle.cube_model.specs.Tree.{Dimension, IsTree, is_leaf, is_under};
+ghost use Rattle.cube_model.specs.Tree.{Dimension, IsTree, entry_of, is_leaf, is_under, node_named};
 ghost use Rattle.cube_model.specs.Cells.{all_cells, cells_of, is_among};
 ghost use Rattle.cube_model.specs.Cut.{children};
 ghost use Rattle.region_algebra.specs.declared.space.SpaceFault.TheVariants.{Cells, Dims, Nodes};
-ghost use Rattle.region_algebra.specs.Examples.{deep_space, flat_fault, grown_pair, numbered_space, pair, small_space};
+ghost use Rattle.region_algebra.specs.Examples.{deep_space, flat_fault, flat_growth, grown_family, grown_pair, numbered_space, pair, small_space};
 ghost use Rattle.region_algebra.specs.Fault.{space_fault};
-ghost use Rattle.region_algebra.specs.Growth.{grow_fault, grown_dims};
-ghost use Rattle.region_algebra.specs.declared.growth.GrowFault.TheVariants.{Depth, Name};
+ghost use Rattle.region_algebra.specs.Growth.{child_fault, grow_fault, grown_dims};
+ghost use Rattle.region_algebra.specs.declared.growth.GrowFault.TheVariants as growth;
+ghost use Rattle.region_algebra.specs.declared.growth.GrowFault.TheVariants.{Depth, Limit, Name};
+ghost use Rattle.cube_model.specs.Limits.{MAX_DEPTH, MAX_NODES};
 ghost use Rattle.dim_tree.specs.Examples.{family};
 ghost use Rattle.region_algebra.specs.Space.{all_regions, IsRegion, code_of, common_cells, is_region, leaf_counts, meet_of, only_cell, product, region_total};
 
@@ -83,4 +85,14 @@ pub fn worked_growth()
     ensures name_elsewhere { grow_fault small_space 1 1 (100 ∷ []) ≡ None }
     ensures depth { grow_fault deep_space 0 8 (122 ∷ []) ≡ Some Depth }
     ensures name_before_depth { grow_fault deep_space 0 8 (97 ∷ []) ≡ Some Name }
+    ensures first_dimension { grown_dims small_space 0 4 (122 ∷ []) ≡ grown_family ∷ pair ∷ [] }
+    ensures most_nodes { flat_growth (4075 ∷ replicate 5 1024) ≡ None }
+    ensures nodes { flat_growth (4076 ∷ replicate 5 1024) ≡ Some growth.Nodes }
+    ensures cells_before_nodes { flat_growth (2048 ∷ 2048 ∷ replicate 4 1024) ≡ Some growth.Cells }
+{}
+
+/// A dimension of 65,536 nodes gets no leaf, where neither the name nor the depth is in the way.
+pub fn a_full_dimension_gets_no_leaf()
+    ensures { (dim : Dimension) (parent : ℕ) (name : List ℕ) → node_named dim name ≡ None → IfSome (entry_of dim parent) (λ e. e.depth < MAX_DEPTH)
+        → MAX_NODES ≤ length dim → child_fault dim parent name ≡ Some Limit }
 {}

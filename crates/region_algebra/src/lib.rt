@@ -11,10 +11,10 @@ mod space;
 mod steps;
 
 pub use cell_walk::CellWalk;
-pub use cube_model::{MAX_DIMS, Region};
-pub use growth::{Grow, GrowFault};
+pub use cube_model::{Grow, MAX_DIMS, Region};
+pub use growth::GrowFault;
 pub use laws::{
-    cells_are_a_product, cells_are_those_of_the_children, codes_tell_regions_apart,
-    nested_or_apart, worked_growth, worked_regions,
+    a_full_dimension_gets_no_leaf, cells_are_a_product, cells_are_those_of_the_children,
+    codes_tell_regions_apart, nested_or_apart, worked_growth, worked_regions,
 };
 pub use space::{Space, SpaceFault};

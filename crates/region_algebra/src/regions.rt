@@ -1,6 +1,7 @@
 //! Regions, each by its nodes and by its code.
 ghost use Rattle.std.specs.Prelude.{◌≡◌, ◌<◌, ◌≤◌, Some, true, length, slice_get, slice_set};
 ghost use Rattle.cube_model.specs.Limits.{MAX_DIMS};
+ghost use Rattle.cube_model.specs.Tree.{place_of};
 ghost use Rattle.region_algebra.specs.Space.{IsRegion, all_regions, code_of, is_region, lower, meet_of, region_total};
 ghost use Rattle.region_algebra.specs.Stepped.{IsStepped};
 
@@ -23,6 +24,14 @@ pub fn is_region(dims: &[Dim], nodes: &[u32]) -> bool
     true
 }
 
+/// The digit of a code for a node: its place.
+fn digit(dim: &Dim, node: u32) -> u64
+    requires { node < length dim.now }
+    ensures { place_of dim.now node ≡ Some result }
+{
+    u64::from(dim.place(node))
+}
+
 /// A region's code: the places of its nodes in mixed radix.
 pub fn code(dims: &[Dim], steps: &[u64; MAX_DIMS], r: Region) -> u64
     requires steps { IsStepped region_total dims.now steps.now }
@@ -34,8 +43,7 @@ pub fn code(dims: &[Dim], steps: &[u64; MAX_DIMS], r: Region) -> u64
 {
     let mut code = 0;
     for d in (0..dims.len()).rev() {
-        let place = dims[d].place(r.node(d as u32));
-        code += u64::from(place) * steps[d];
+        code += digit(&dims[d], r.node(d as u32)) * steps[d];
     }
     code
 }

@@ -1,20 +1,20 @@
 //! The space over the dimensions of a cube.
-ghost use Rattle.std.specs.Prelude.{◌≡◌, ◌↔◌, ◌+◌, ◌<◌, ◌≤◌, ℕ, List, [], true, All, None, Some, length, map, slice_get, slice_set, IsSome, IfOk, IfErr, IsNone, IfSome, OnOk};
+ghost use Rattle.std.specs.Prelude.{◌≡◌, ◌≢◌, ◌↔◌, ◌+◌, ◌<◌, ◌≤◌, ℕ, List, [], true, All, None, Some, Err, length, map, slice_get, slice_set, IsSome, IfOk, IfErr, IsNone, IfSome, OnOk};
 ghost use Rattle.cube_model.specs.Tree.{Dimension, IsTree, parent};
 ghost use Rattle.cube_model.specs.Cells.{all_cells, cells_of, is_among};
-ghost use Rattle.cube_model.specs.Limits.{SPACE_LIMIT};
+ghost use Rattle.cube_model.specs.Limits.{MAX_DIMS, SPACE_LIMIT};
 ghost use Rattle.region_algebra.specs.Fault.{space_fault};
+ghost use Rattle.region_algebra.specs.Growth.{IsGrowCause, grow_fault, grown_dims, own_fault};
+ghost use Rattle.region_algebra.specs.declared.growth.GrowFault.TheVariants as grow_faults;
 ghost use Rattle.region_algebra.specs.Space.{IsRegion, all_regions, cells_left, code_of, common_cells, meet_of, only_cell, cell_total, region_total};
 ghost use Rattle.region_algebra.specs.Stepped.{IsRun};
 
-#[cfg(test)]
-mod tests;
-
 use crate::cell_walk::CellWalk;
 use crate::copies::copies_of;
+use crate::growth::GrowFault;
 use crate::steps::{leaf_counts, node_counts, steps_of};
-use crate::{cells, regions};
-use cube_base::Memory;
+use crate::{cells, growth, regions};
+use cube_base::{Memory, Name};
 use cube_model::{MAX_DIMS, Region};
 use dim_tree::Dim;
 use std::alloc::Global;
@@ -68,6 +68,19 @@ impl Space {
         if n == 0 || n > MAX_DIMS {
             return Err(SpaceFault::Dims { n: n as u64 });
         }
+        Self::stepped(dims)
+    }
+
+    /// `new` of 1 to 6 dimensions.
+    fn stepped(dims: Vec<Dim>) -> Result<Self, SpaceFault>
+        requires some { 1 ≤ length dims.items }
+        requires few { length dims.items ≤ MAX_DIMS }
+        ensures made { IfOk result (λ space. space ≡ dims.items) }
+        ensures accepted { OnOk result (space_fault dims.items ≡ None) }
+        ensures refused { IfErr result (λ fault. space_fault dims.items ≡ Some fault) }
+        ensures trees { All IsTree dims.items }
+    {
+        let n = dims.len();
         let leaves = leaf_counts(&dims);
         let nodes = node_counts(&dims);
         let Some(cell_steps) = steps_of(&leaves[..n]) else {
@@ -223,6 +236,32 @@ impl Space {
             cell_steps: self.cell_steps,
             region_steps: self.region_steps,
         })
+    }
+
+    /// An equal space, but that a node of a dimension has a leaf of this name more, behind its other children; the
+    /// leaf's number is that of the dimension's nodes before. The first of these that holds is answered: `Name`, a node
+    /// of the dimension has the name; `Depth`, the parent has depth 8; `Limit`, the dimension has 65,536 nodes; `Cells`,
+    /// the product of the leaf counts would be 2^62 or more, which never comes; `Nodes`, the product of the node counts
+    /// would be; `Memory`. The first three are found without memory.
+    pub fn grown(&self, d: u32, parent: u32, name: Name) -> Result<Self, GrowFault>
+        requires dim { d < length self.now }
+        requires parent { IfSome (slice_get self.now d) (λ dim. parent < length dim) }
+        ensures made { IfOk result (λ space. space ≡ grown_dims self.now d parent name) }
+        ensures accepted { OnOk result (grow_fault self.now d parent name ≡ None) }
+        ensures refused { IfErr result (IsGrowCause (grow_fault self.now d parent name)) }
+        ensures sooner { IfSome (own_fault self.now d parent name) (λ fault. result ≡ Err fault) }
+        ensures cells { IfErr result (λ fault. fault ≢ grow_faults.Cells) }
+    {
+        let d = d as usize;
+        if let Some(fault) = growth::own_fault(&self.dims, d, parent, &name) {
+            return Err(fault);
+        }
+        let dims = growth::grown_dims(*self.dims.allocator(), &self.dims, d, parent, &name)?;
+        match Self::stepped(dims) {
+            Ok(space) => Ok(space),
+            // The leaf's dimension has no more leaves than it had nodes, so the cells are no more than the regions were.
+            Err(_) => Err(GrowFault::Nodes),
+        }
     }
 
     /// The cell at a place among a region's cells.

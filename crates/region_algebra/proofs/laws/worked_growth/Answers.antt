@@ -16,4 +16,8 @@ returns c = record {
   name_elsewhere = refl;
   depth = refl;
   name_before_depth = refl;
+  first_dimension = refl;
+  most_nodes = refl;
+  nodes = refl;
+  cells_before_nodes = refl;
 }

@@ -9,28 +9,28 @@ loop-d-init c = record { within = omega arith; code_is = code_start c.args.dims.
 pub node-requires : goal.node-requires
 node-requires c = omega (arith, is_region-length c.args.dims.now c.args.r c.requires.region, c.loop-d.invariant.within)
 
-pub place-place-requires : goal.place-place-requires
-place-place-requires c =
+pub digit-requires : goal.digit-requires
+digit-requires c =
     let at = before c.args.dims.now c.args.r (c.loop-d.d - 1) c.loop-d.d c.index-dims-d.result c.node.result c.requires.region c.loop-d.invariant.within c.loop-d-test.true refl c.index-dims-d.is c.node.ensures in
     at.within
 
 pub overflow_mul-code : goal.overflow_mul-code
 overflow_mul-code c =
     let at = before c.args.dims.now c.args.r (c.loop-d.d - 1) c.loop-d.d c.index-dims-d.result c.node.result c.requires.region c.loop-d.invariant.within c.loop-d-test.true refl c.index-dims-d.is c.node.ensures in
-    let next = code_next c.args.dims.now c.args.steps.now c.args.r (c.loop-d.d - 1) c.loop-d.d c.loop-d.code c.node.result c.place-place.result c.index-dims-d.result c.requires.steps at c.loop-d.invariant.within c.loop-d-test.true refl c.place-place.ensures.place c.loop-d.invariant.code_is in
-    rw c.from.ensures (omega (arith, next.1))
+    let next = code_next c.args.dims.now c.args.steps.now c.args.r (c.loop-d.d - 1) c.loop-d.d c.loop-d.code c.node.result c.digit.result c.index-dims-d.result c.requires.steps at c.loop-d.invariant.within c.loop-d-test.true refl c.digit.ensures c.loop-d.invariant.code_is in
+    omega (arith, next.1)
 
 pub overflow_add-code : goal.overflow_add-code
 overflow_add-code c =
     let at = before c.args.dims.now c.args.r (c.loop-d.d - 1) c.loop-d.d c.index-dims-d.result c.node.result c.requires.region c.loop-d.invariant.within c.loop-d-test.true refl c.index-dims-d.is c.node.ensures in
-    let next = code_next c.args.dims.now c.args.steps.now c.args.r (c.loop-d.d - 1) c.loop-d.d c.loop-d.code c.node.result c.place-place.result c.index-dims-d.result c.requires.steps at c.loop-d.invariant.within c.loop-d-test.true refl c.place-place.ensures.place c.loop-d.invariant.code_is in
-    rw c.from.ensures (omega (arith, next.1))
+    let next = code_next c.args.dims.now c.args.steps.now c.args.r (c.loop-d.d - 1) c.loop-d.d c.loop-d.code c.node.result c.digit.result c.index-dims-d.result c.requires.steps at c.loop-d.invariant.within c.loop-d-test.true refl c.digit.ensures c.loop-d.invariant.code_is in
+    omega (arith, next.1)
 
 pub loop-d-preserved : goal.loop-d-preserved
 loop-d-preserved c =
     let at = before c.args.dims.now c.args.r (c.loop-d.d - 1) c.loop-d.d c.index-dims-d.result c.node.result c.requires.region c.loop-d.invariant.within c.loop-d-test.true refl c.index-dims-d.is c.node.ensures in
-    let next = code_next c.args.dims.now c.args.steps.now c.args.r (c.loop-d.d - 1) c.loop-d.d c.loop-d.code c.node.result c.place-place.result c.index-dims-d.result c.requires.steps at c.loop-d.invariant.within c.loop-d-test.true refl c.place-place.ensures.place c.loop-d.invariant.code_is in
-    record { within = omega (arith, c.loop-d.invariant.within); code_is = rw c.from.ensures next.0 }
+    let next = code_next c.args.dims.now c.args.steps.now c.args.r (c.loop-d.d - 1) c.loop-d.d c.loop-d.code c.node.result c.digit.result c.index-dims-d.result c.requires.steps at c.loop-d.invariant.within c.loop-d-test.true refl c.digit.ensures c.loop-d.invariant.code_is in
+    record { within = omega (arith, c.loop-d.invariant.within); code_is = next.0 }
 
 pub returns : goal.returns
 returns c =

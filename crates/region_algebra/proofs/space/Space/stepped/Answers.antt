@@ -2,7 +2,7 @@ use Rattle.std.proofs.Common.{◌≡◌, length, map, take, sym, ap, ◌∙◌, 
 use Rattle.std.specs.Prelude.{All}
 use Rattle.cube_model.specs.Tree.{Dimension, IsTree, leaves}
 use Rattle.region_algebra.proofs.Spaces.{some_leaves, some_nodes, stepped_space}
-use Rattle.region_algebra.proofs.space.Space.new.Goals as goal
+use Rattle.region_algebra.proofs.space.Space.stepped.Goals as goal
 
 pub steps_of-requires-clause-some : goal.steps_of-requires-clause-some
 steps_of-requires-clause-some c =
@@ -19,9 +19,8 @@ pub invariant_of-result : goal.invariant_of-result
 invariant_of-result c =
     let many : c.len-n.result ≡ length c.deref.result.now = omega (arith, c.len-n.ensures, c.deref.ensures.len) in
     let many_too : c.len-n.result ≡ length c.deref-2.result.now = omega (arith, c.len-n.ensures, c.deref-2.ensures.len) in
-    let length_is : c.len-n.result ≡ length c.args.dims.items = many ∙ ap length c.deref.ensures.value in
     stepped_space c.args.dims.items (take c.len-n.result c.leaf_counts-leaves.result) (take c.len-n.result c.node_counts-nodes.result) c.in-Some.cell_steps c.in-Some-steps_of.region_steps
-    (omega (arith, length_is, c.if-n-eq0.false)) (omega (arith, length_is, c.if-n-gt-MAX_DIMS.false))
+    c.requires.some c.requires.few
     (subst (λ ds. All IsTree ds) c.deref-2.ensures.value c.node_counts-nodes.ensures.trees)
     (ap (λ n. take n c.leaf_counts-leaves.result) many ∙ c.leaf_counts-leaves.ensures ∙ ap (λ ds. map (λ (dim : Dimension). length (leaves dim)) ds) c.deref.ensures.value)
     (ap (λ n. take n c.node_counts-nodes.result) many_too ∙ c.node_counts-nodes.ensures.counts ∙ ap (λ ds. map (λ (dim : Dimension). length dim) ds) c.deref-2.ensures.value)
