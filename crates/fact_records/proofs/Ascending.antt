@@ -21,8 +21,8 @@ id_at-rises facts up i j lt in_range = up i j no_fact lt in_range
 -- round the fact of an id, smaller ids stand before and greater ones behind
 pub cut_at : (facts : List Fact) → IsAscending facts → (id p : ℕ) → IsIdAt facts id p → IsCut facts id p (suc p)
 cut_at facts up id p here = record {
-  smaller_before = λ k lt. omega (arith, id_at-rises facts up k p lt here.in_range, here.has_id);
-  greater_after = λ k le lt. omega (arith, id_at-rises facts up p k (omega arith) lt, here.has_id);
+  smaller_before = λ k lt. omega (arith, id_at-rises facts up k p lt here.in_range, here.has_key);
+  greater_after = λ k le lt. omega (arith, id_at-rises facts up p k (omega arith) lt, here.has_key);
 }
 
 -- where two lists are in order, and each element of the first is before each of the second, they are so one behind the other
@@ -83,7 +83,7 @@ module _ (facts : List Fact) (up : IsAscending facts) (id p : ℕ) (here : IsIdA
   greater_passes k lt in_range = (cut_at facts up id p here).greater_after k (omega arith) in_range
 
   same_at : (k : ℕ) → k ≡ p → id_at facts k ≡ id
-  same_at k same = ap (id_at facts) same ∙ here.has_id
+  same_at k same = ap (id_at facts) same ∙ here.has_key
 
   filter_smaller-at : filter (λ f. nat_lt f.id id) facts ≡ take p facts
   filter_smaller-at = filter_front (λ f. nat_lt f.id id) no_fact facts p
@@ -98,13 +98,13 @@ module _ (facts : List Fact) (up : IsAscending facts) (id p : ℕ) (here : IsIdA
   pub withdraw_at : withdraw id facts ≡ remove facts p
   withdraw_at = filter_but (λ f. not (f.id == id)) no_fact facts p
       (λ k lt in_range. grind (arith, nat_tests, smaller_passes k lt))
-      (λ lt. grind (arith, nat_tests, here.has_id))
+      (λ lt. grind (arith, nat_tests, here.has_key))
       (λ k lt in_range. grind (arith, nat_tests, greater_passes k lt in_range))
 
   pub fact_of_at : fact_of id facts ≡ Some (get_or facts p no_fact)
   fact_of_at = find_first (λ f. f.id == id) no_fact facts p here.in_range
       (λ k lt. grind (arith, nat_tests, smaller_passes k lt))
-      (grind (arith, nat_tests, here.has_id))
+      (grind (arith, nat_tests, here.has_key))
 
   pub put_at : (fact : Fact) → fact.id ≡ id → put fact facts ≡ set facts p fact
   put_at fact same =
@@ -117,21 +117,25 @@ module _ (facts : List Fact) (up : IsAscending facts) (id p : ℕ) (here : IsIdA
       rw (set_split facts p fact here.in_range)
       (ascending-around facts up fact p (suc p) (omega arith) (rw (← same) at (cut_at facts up id p here)))
 
+-- round a gap
+cut_of_gap : (facts : List Fact) (id p : ℕ) → IsGapAt facts id p → IsCut facts id p p
+cut_of_gap facts id p gap = record { smaller_before = gap.smaller_before; greater_after = gap.greater_after }
+
 -- an id that has a gap
 module _ (facts : List Fact) (id p : ℕ) (gap : IsGapAt facts id p) where
   pub other_everywhere : (k : ℕ) → k < length facts → (id_at facts k == id) ≡ false
   other_everywhere k in_range =
-      elim (cases_lt k p) [ inl lt ↦ grind (arith, nat_tests, gap.cut.smaller_before k lt) | inr le ↦ grind (arith, nat_tests, gap.cut.greater_after k le in_range) ]
+      elim (cases_lt k p) [ inl lt ↦ grind (arith, nat_tests, gap.smaller_before k lt) | inr le ↦ grind (arith, nat_tests, gap.greater_after k le in_range) ]
 
   filter_smaller-gap : filter (λ f. nat_lt f.id id) facts ≡ take p facts
   filter_smaller-gap = filter_front (λ f. nat_lt f.id id) no_fact facts p
-      (λ k lt in_range. grind (arith, nat_tests, gap.cut.smaller_before k lt))
-      (λ k le in_range. grind (arith, nat_tests, gap.cut.greater_after k le in_range))
+      (λ k lt in_range. grind (arith, nat_tests, gap.smaller_before k lt))
+      (λ k le in_range. grind (arith, nat_tests, gap.greater_after k le in_range))
 
   filter_greater-gap : filter (λ f. nat_lt id f.id) facts ≡ drop p facts
   filter_greater-gap = filter_back (λ f. nat_lt id f.id) no_fact facts p
-      (λ k lt in_range. grind (arith, nat_tests, gap.cut.smaller_before k lt))
-      (λ k le in_range. grind (arith, nat_tests, gap.cut.greater_after k le in_range))
+      (λ k lt in_range. grind (arith, nat_tests, gap.smaller_before k lt))
+      (λ k le in_range. grind (arith, nat_tests, gap.greater_after k le in_range))
 
   pub withdraw_gap : withdraw id facts ≡ facts
   withdraw_gap = filter_whole (λ f. not (f.id == id)) no_fact facts (λ k in_range. ap not (other_everywhere k in_range))
@@ -149,7 +153,7 @@ module _ (facts : List Fact) (id p : ℕ) (gap : IsGapAt facts id p) where
       ap (λ l. l ++ fact ∷ filter (λ f. nat_lt fact.id f.id) facts) smaller ∙ ap (λ l. take p facts ++ fact ∷ l) greater
 
   pub ascending-insert : IsAscending facts → (fact : Fact) → fact.id ≡ id → IsAscending (insert facts p fact)
-  ascending-insert up fact same = ascending-around facts up fact p p (omega arith) (rw (← same) at gap.cut)
+  ascending-insert up fact same = ascending-around facts up fact p p (omega arith) (rw (← same) at (cut_of_gap facts id p gap))
 
 pub ascending-remove : (facts : List Fact) → IsAscending facts → (p : ℕ) → p < length facts → IsAscending (remove facts p)
 ascending-remove facts up p in_range = all_pairs_remove (λ f g. f.id < g.id) facts p in_range up

@@ -1,15 +1,14 @@
 -- Where facts and ids stand in blocks, and what a search there finds.
-use Rattle.std.proofs.Common.{◌≡◌, ℕ, inl, inr, ◌+◌, ◌-◌, ◌<◌, ◌≤◌, List, [], length, get_or, Result, Ok, Err, IfOk, IfErr, Some, None, take, refl, sym, ap, ◌∙◌, arith}
+use Rattle.std.proofs.Common.{◌≡◌, ℕ, inl, inr, ◌+◌, ◌-◌, ◌<◌, ◌≤◌, List, [], length, get_or, Some, None, take, refl, sym, ap, ◌∙◌, arith}
 use Rattle.std.specs.declared.cmp.Ordering.TheVariants.{Less, Equal, Greater}
 use Rattle.std.specs.List.{slice_get}
-use Rattle.std.specs.List.Sorted.{IsSearchInRange, IsBinarySearchResult, IsNonDecreasingBy, IsPartitionPoint}
+use Rattle.std.specs.List.Sorted.{IsNonDecreasingBy, IsPartitionPoint}
 use Rattle.std.specs.Ordering.{nat_cmp, ordering_index}
 use Rattle.std.proofs.lemmas.Bool.{cases_lt, cases_eq}
-use Rattle.std.proofs.lemmas.Bool.Decides.{nat_tests}
 use Rattle.std.proofs.lemmas.Cmp.{ranked}
 use Rattle.std.proofs.lemmas.List.{get_or_read}
 use Rattle.std.proofs.lemmas.Option.{slice_get_past}
-use Rattle.std.proofs.lemmas.List.Sorted.{IsNonDecreasingBy-from_default}
+use Rattle.cube_base.proofs.Search.{comparisons_rise}
 use Rattle.cube_model.specs.declared.edit.Fact.{Fact}
 use Rattle.fact_records.specs.BlockList.{AllFilled, IsAt, all_facts, block_at, place_in_all}
 use Rattle.fact_records.specs.Cut.{no_fact, id_at, IsCut, IsIdAt, IsGapAt}
@@ -38,30 +37,6 @@ ids_rise : (facts : List Fact) → IsAscending facts → (i j : ℕ) → i ≤ j
 ids_rise facts up i j le in_range =
     elim (cases_eq i j) [ inl same ↦ omega (arith, ap (id_at facts) same) | inr other ↦ omega (arith, id_at-rises facts up i j (omega arith) in_range) ]
 
--- a binary search among facts whose ids ascend
-pub record Searched (facts : List Fact) (id : ℕ) (r : Result ℕ ℕ) : Type 0 where
-  pub found : IfOk r (IsIdAt facts id)
-  pub absent : IfErr r (IsGapAt facts id)
-
-module _ (facts : List Fact) (up : IsAscending facts) (id : ℕ) where
-  comparisons_rise : IsNonDecreasingBy (λ f. ordering_index (nat_cmp f.id id)) facts
-  comparisons_rise = IsNonDecreasingBy-from_default (λ f. ordering_index (nat_cmp f.id id)) facts no_fact (λ i j le in_range.
-      let rise : id_at facts i ≤ id_at facts j = ids_rise facts up i j le in_range in
-      grind (arith, nat_tests))
-
-  pub searched : (r : Result ℕ ℕ) → IsSearchInRange r (length facts) → IsBinarySearchResult (λ f. nat_cmp f.id id) facts r → Searched facts id r
-  searched (Ok at) in_range equal = record { found = record { in_range = in_range; has_id = ranked _ id _ (sym (equal no_fact)) }; absent = tt }
-  searched (Err at) in_range parted = record {
-    found = tt;
-    absent = record {
-      in_range = in_range;
-      cut = record {
-        smaller_before = λ k lt. ranked _ id _ (sym ((parted comparisons_rise).0 k no_fact (omega arith) lt));
-        greater_after = λ k le lt. ranked _ id _ (sym ((parted comparisons_rise).1 k no_fact le lt));
-      };
-    };
-  }
-
 module _ (used : List (List Fact)) (up : IsAscending (all_facts used)) where
   -- an id in a block is that at its place among all
   pub id_in_block : (i k : ℕ) → i < length used → k < length (block_at used i) → id_at (all_facts used) (place_in_all used i k) ≡ id_at (block_at used i) k
@@ -77,7 +52,7 @@ module _ (used : List (List Fact)) (up : IsAscending (all_facts used)) where
 
   -- an id that stands in a block stands among all
   pub id_at_in_all : (id i k : ℕ) → i < length used → IsIdAt (block_at used i) id k → IsIdAt (all_facts used) id (place_in_all used i k)
-  id_at_in_all id i k lt here = record { in_range = place_below i k lt here.in_range; has_id = id_in_block i k lt here.in_range ∙ here.has_id }
+  id_at_in_all id i k lt here = record { in_range = place_below i k lt here.in_range; has_key = id_in_block i k lt here.in_range ∙ here.has_key }
 
   -- a gap in the block round which the ids are parted is a gap among all
   pub gap_at_in_all : (id i k : ℕ) → i < length used → IsCut (all_facts used) id (place_in_all used i 0) (place_in_all used (i + 1) 0) → IsGapAt (block_at used i) id k → IsGapAt (all_facts used) id (place_in_all used i k)
@@ -85,40 +60,36 @@ module _ (used : List (List Fact)) (up : IsAscending (all_facts used)) where
       let begin : ℕ = place_in_all used i 0 in
       record {
         in_range = omega (arith, length-flat used i lt, gap.in_range);
-        cut = record {
-          smaller_before = λ n less. elim (cases_lt n (place_in_all used i 0)) [
-            | inl before ↦ cut.smaller_before n before
-            | inr inside ↦ smaller_inside n (n - place_in_all used i 0) (omega arith) (omega arith)
-          ];
-          greater_after = λ n le in_range. elim (cases_lt n (place_in_all used (i + 1) 0)) [
-            | inl inside ↦ greater_inside n (n - place_in_all used i 0) (omega arith) (omega arith) (omega (arith, place-more used i lt, inside))
-            | inr behind ↦ cut.greater_after n behind in_range
-          ];
-        };
+        smaller_before = λ n less. elim (cases_lt n (place_in_all used i 0)) [
+          | inl before ↦ cut.smaller_before n before
+          | inr inside ↦ smaller_inside n (n - place_in_all used i 0) (omega arith) (omega arith)
+        ];
+        greater_after = λ n le in_range. elim (cases_lt n (place_in_all used (i + 1) 0)) [
+          | inl inside ↦ greater_inside n (n - place_in_all used i 0) (omega arith) (omega arith) (omega (arith, place-more used i lt, inside))
+          | inr behind ↦ cut.greater_after n behind in_range
+        ];
       }
     where
       smaller_inside : (n j : ℕ) → n ≡ place_in_all used i j → j < k → id_at (all_facts used) n < id
-      smaller_inside n j same less = rw same (rw (id_in_block i j lt (omega (arith, gap.in_range))) (gap.cut.smaller_before j less))
+      smaller_inside n j same less = rw same (rw (id_in_block i j lt (omega (arith, gap.in_range))) (gap.smaller_before j less))
 
       greater_inside : (n j : ℕ) → n ≡ place_in_all used i j → k ≤ j → j < length (block_at used i) → id < id_at (all_facts used) n
-      greater_inside n j same le less = rw same (rw (id_in_block i j lt less) (gap.cut.greater_after j le less))
+      greater_inside n j same le less = rw same (rw (id_in_block i j lt less) (gap.greater_after j le less))
 
   module _ (filled : AllFilled used) where
     -- the first ids of the blocks
     first_id_is : (i : ℕ) → i < length used → id_at (all_facts used) (place_in_all used i 0) ≡ id_at (block_at used i) 0
     first_id_is i lt = id_in_block i 0 lt (omega (arith, (filled i [] lt).some))
 
-    first_ids_rise : IsNonDecreasingBy (λ block. id_at block 0) used
-    first_ids_rise = IsNonDecreasingBy-from_default (λ block. id_at block 0) used [] (λ i j le in_range.
+    first_ids_rise : (i j : ℕ) → i ≤ j → j < length used → id_at (block_at used i) 0 ≤ id_at (block_at used j) 0
+    first_ids_rise i j le in_range =
         let filled_j = (filled j [] in_range).some in
         let rise = ids_rise (all_facts used) up (place_in_all used i 0) (place_in_all used j 0) (place-rises used i j le) (place_below j 0 in_range (omega arith)) in
-        omega (arith, rise, first_id_is i (omega arith), first_id_is j in_range))
+        omega (arith, rise, first_id_is i (omega arith), first_id_is j in_range)
 
     -- so a binary search among them is possible
     first_comparisons_rise : (id : ℕ) → IsNonDecreasingBy (λ block. ordering_index (nat_cmp (id_at block 0) id)) used
-    first_comparisons_rise id = IsNonDecreasingBy-from_default (λ block. ordering_index (nat_cmp (id_at block 0) id)) used [] (λ i j le in_range.
-        let rise : id_at (block_at used i) 0 ≤ id_at (block_at used j) 0 = first_ids_rise i j [] le in_range in
-        grind (arith, nat_tests))
+    first_comparisons_rise = comparisons_rise (λ block. id_at block 0) [] used first_ids_rise
 
     -- blocks up to a place begin with no greater id, and those behind with a greater one
     record IsParted (id n : ℕ) : Type 0 where
@@ -152,7 +123,7 @@ module _ (used : List (List Fact)) (up : IsAscending (all_facts used)) where
     cut_found id b in_use equal =
         let same : id_at (block_at used b) 0 ≡ id = ranked _ id _ (sym equal) in
         cut_behind id b (b + 1) refl in_use (record {
-          front = λ i lt in_range. omega (arith, same, first_ids_rise i b [] (omega arith) in_use);
+          front = λ i lt in_range. omega (arith, same, first_ids_rise i b (omega arith) in_use);
           back = λ i le in_range. omega (arith, same, first_id_is b in_use, first_id_is i in_range, id_at-rises (all_facts used) up (place_in_all used b 0) (place_in_all used i 0) (omega (arith, place-more used b in_use, (filled b [] in_use).some, place-rises used (b + 1) i le)) (place_below i 0 in_range (omega (arith, (filled i [] in_range).some))));
         })
 

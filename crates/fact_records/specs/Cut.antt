@@ -1,5 +1,6 @@
 -- Where an id stands among facts, or where it would go.
-use Rattle.std.specs.Prelude.{◌≡◌, ℕ, ◌<◌, ◌≤◌, List, [], length, slice_index_or}
+use Rattle.std.specs.Prelude.{ℕ, ◌<◌, ◌≤◌, List, [], length, slice_index_or}
+use Rattle.cube_base.specs.Search.{IsKeyAt, IsKeyGap}
 use Rattle.cube_model.specs.declared.edit.Fact.{Fact}
 
 -- what is read past the end
@@ -16,11 +17,9 @@ pub record IsCut (facts : List Fact) (id low high : ℕ) : Type 0 where
   pub greater_after : (k : ℕ) → high ≤ k → k < length facts → id < id_at facts k
 
 -- the fact at the place has the id
-pub record IsIdAt (facts : List Fact) (id place : ℕ) : Type 0 where
-  pub in_range : place < length facts
-  pub has_id : id_at facts place ≡ id
+abbrev pub IsIdAt : List Fact → ℕ → ℕ → Type 0
+IsIdAt facts id place = IsKeyAt (λ f. f.id) no_fact facts id place
 
 -- the id has no fact, and one would go to the place
-pub record IsGapAt (facts : List Fact) (id place : ℕ) : Type 0 where
-  pub in_range : place ≤ length facts
-  pub cut : IsCut facts id place place
+abbrev pub IsGapAt : List Fact → ℕ → ℕ → Type 0
+IsGapAt facts id place = IsKeyGap (λ f. f.id) no_fact facts id place

@@ -6,6 +6,8 @@ pub mod FactList
 pub mod Fields
 pub mod Judge
 pub mod Kept
+pub mod MeasureFields
+pub mod Outcomes
 pub mod Room
 pub mod Shape
 pub mod Valid

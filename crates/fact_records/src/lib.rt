@@ -11,11 +11,10 @@ mod fact_reader;
 mod fact_walk;
 mod judge;
 mod laws;
+mod measure_reader;
 mod places;
 mod search;
 mod shape;
-#[cfg(test)]
-mod tests;
 mod value_reader;
 mod values;
 
@@ -26,6 +25,7 @@ pub use fact_reader::{read_fact, read_id, read_region};
 pub use fact_walk::FactWalk;
 pub use judge::judge_fact;
 pub use laws::{worked_columns, worked_facts, worked_fields, worked_judgements};
-pub use shape::{Kind, Measure, Shape};
+pub use measure_reader::{MeasureKind, read_measure};
+pub use shape::{Kind, Measure, Shape, width};
 pub use value_reader::read_values;
 pub use values::read_value;

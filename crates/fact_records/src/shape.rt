@@ -9,7 +9,7 @@ use cube_base::{Memory, Name, Names};
 use std::marker::Model;
 
 /// What the values of a measure are.
-#[derive(Debug, Drop)]
+#[derive(Drop)]
 pub enum Kind {
     /// One whole number.
     Number,
@@ -23,7 +23,7 @@ pub enum Kind {
 }
 
 /// A measure.
-#[derive(Debug, Drop)]
+#[derive(Drop)]
 pub struct Measure {
     /// Its name, which no other measure has.
     pub name: Name,
@@ -33,7 +33,7 @@ pub struct Measure {
     pub first_col: u32,
 }
 
-/// The number of columns of a measure.
+/// The number of columns of a measure of a kind.
 pub fn width(kind: &Kind) -> usize
     ensures { result ≡ width_of kind.now }
 {
@@ -74,7 +74,7 @@ fn place_of(measures: &[Measure], name: &str) -> Option<usize>
 /// 0 is the count, which every fact has and which is not stored; the columns of the measures follow in order, at
 /// most seven. Cells may weigh by the sum of one of the number measures. Contracts see the list of measures, and the
 /// place of that one.
-#[derive(Debug, Drop)]
+#[derive(Drop)]
 pub struct Shape {
     measures: Vec<Measure>,
     weight: Option<u32>,

@@ -1,6 +1,8 @@
 //! The values of a measure, as a field spells them.
 ghost use Rattle.std.specs.Prelude.{◌≡◌, ◌+◌, ◌^◌, ◌<◌, ◌≤◌, ◌++◌, None, Some, IfErr, IfSome, IsSomeAnd, OnErr, OnOk, length, neg_ℤ, pos, slice_get};
+ghost use Rattle.std.specs.Option.{option_map};
 ghost use Rattle.cube_model.specs.Limits.{MAX_COLS};
+ghost use Rattle.text_lines.specs.Text.{number_in};
 ghost use Rattle.fact_records.specs.Shape.{width_of};
 ghost use Rattle.fact_records.specs.Values.{code_of, has_negative, parts_in, signed_number_in, values_for, values_in};
 
@@ -81,9 +83,25 @@ fn signed_number_in(most: u64, bytes: &[u8]) -> Option<i64>
     ensures { result ≡ signed_number_in most bytes.now }
 {
     match bytes {
-        [b'-', digits @ ..] => Some(negative(number_in(digits, 1, most)?)),
-        _ => Some(signed(number_in(bytes, 0, most)?)),
+        [b'-', digits @ ..] => negative_in(digits, most),
+        _ => natural_in(bytes, most),
     }
+}
+
+/// The number from `-most` to -1 whose digits these are.
+fn negative_in(digits: &[u8], most: u64) -> Option<i64>
+    requires { most < 2 ^ 63 }
+    ensures { result ≡ option_map (λ n. neg_ℤ (pos n)) (number_in 1 most digits.now) }
+{
+    Some(negative(number_in(digits, 1, most)?))
+}
+
+/// The number from 0 to `most` that the bytes spell.
+fn natural_in(bytes: &[u8], most: u64) -> Option<i64>
+    requires { most < 2 ^ 63 }
+    ensures { result ≡ option_map (λ n. pos n) (number_in 0 most bytes.now) }
+{
+    Some(signed(number_in(bytes, 0, most)?))
 }
 
 /// A number as a value.

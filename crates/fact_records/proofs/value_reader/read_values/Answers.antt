@@ -31,6 +31,12 @@ loop-i-preserved g c =
     let within : c.loop-i.i < length c.args.shape.now.measures = omega arith in
     ReadsValues-next c.args.shape.now (left c.args.fields.now) c.loop-i.i (left c.loop-i.fields) c.loop-i.cols c.next_field.result.now (left c.next_field.new.self) c.read_value.new.into c.loop-i.invariant c.next_field.ensures within c.in_default.ensures.read
 
+pub returns-clause-values : goal.returns-clause-values
+returns-clause-values g c =
+    let left = g.F.Fields.left in
+    let end : length c.args.shape.now.measures ≤ c.loop-i.i = omega arith in
+    ReadsValues-all c.args.shape.now (left c.args.fields.now) c.loop-i.i (left c.loop-i.fields) c.loop-i.cols c.loop-i.invariant end
+
 pub returns-clause-accepted : goal.returns-clause-accepted
 returns-clause-accepted g c =
     let left = g.F.Fields.left in
