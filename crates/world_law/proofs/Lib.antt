@@ -1,0 +1,15 @@
+pub mod Additive
+pub mod Choices
+pub mod Chosen
+pub mod Expectation
+pub mod Judging
+pub mod Faults
+pub mod Grouping
+pub mod Ids
+pub mod Placing
+pub mod Products
+pub mod Recurrences
+pub mod Settling
+pub mod Shares
+pub mod Summing
+pub mod Totals
