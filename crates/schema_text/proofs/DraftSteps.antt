@@ -1,68 +1,138 @@
 -- Accepted lines keep what is known of a draft.
-use Rattle.std.proofs.Common.{◌≡◌, ℕ, ◌+◌, ◌<◌, true, false, List, [], ◌∷◌, ◌++◌, length, map, refl, arith, Some, length-append}
+use Rattle.std.proofs.Common.{◌≡◌, ◌≢◌, ℕ, ◌<◌, ◌≤◌, Bool, true, false, List, [], ◌∷◌, ◌++◌, length, map, refl, arith, sym, ◌∙◌, Option, Some, None, length-append, length-drop}
+use Rattle.std.specs.Prelude.{◌&&◌, if◌then◌else◌, is_none, nat_le, unwrap_or}
+use Rattle.std.specs.Option.{option_map_or}
+use Rattle.std.specs.Str.Parse.{digits_value}
+use Rattle.std.proofs.lemmas.Bool.{or_parts}
+use Rattle.std.proofs.lemmas.Bool.Decides.{nat_tests}
 use Rattle.std.proofs.lemmas.List.Elements.{All-push}
 use Rattle.cube_base.specs.Name.{is_name}
-use Rattle.cube_model.specs.Limits.{MAX_DIMS}
-use Rattle.cube_model.specs.Tree.{Entry}
+use Rattle.cube_base.specs.declared.code.Code.{Code}
+use Rattle.cube_base.specs.declared.code.Code.TheVariants as code
+use Rattle.cube_model.specs.Accepted.{first_that_holds}
+use Rattle.cube_model.specs.Limits.{MAX_DEPTH, MAX_DIMS}
+use Rattle.text_lines.specs.LineText.{field_at}
+use Rattle.text_lines.specs.Text.{is_number, number_in}
 use Rattle.fact_records.specs.declared.shape.Measure.{Measure}
-use Rattle.fact_records.specs.Shape.{width_of}
+use Rattle.fact_records.specs.declared.shape.Kind.TheVariants as kind
 use Rattle.schema_text.specs.declared.word.SchemaWord.{SchemaWord}
-use Rattle.schema_text.specs.declared.word.SchemaWord.TheVariants.{Cube, Policy, Dimension as DimensionWord, Node}
-use Rattle.schema_text.specs.declared.policy.NamedPolicy.{NamedPolicy}
-use Rattle.schema_text.specs.declared.word.Version.{Version}
-use Rattle.schema_text.specs.Draft.{IsDraft, IsMeasureWord, IsNextMeasure}
-use Rattle.schema_text.specs.Schema.{IsKind}
-use Rattle.schema_text.specs.SchemaText.{Draft, dims_of, is_wrong_name, may_follow}
-use Rattle.schema_text.proofs.Drafts.{AreNames-push, before-Cube, before-Dimension, before-Node, before-Policy, before-measure, is_name-right, open-measure}
-use Rattle.schema_text.proofs.MeasuresMore.{AreMeasures-push, width_of_all-push}
+use Rattle.schema_text.specs.declared.word.SchemaWord.TheVariants.{Cube, Policy, Number, Parts, Dimension as DimensionWord, Node, End}
+use Rattle.schema_text.specs.Draft.{HasNodes, IsDraft, IsNextMeasure, IsNextNode, open_count}
+use Rattle.schema_text.specs.Schema.{IsKind, MAX_SCALE, MIN_SCALE}
+use Rattle.schema_text.specs.SchemaText.{Draft, depth_of, has_many_cells, has_many_regions, has_no_room, has_wrong_count, has_wrong_depth, has_wrong_name, has_wrong_names, has_wrong_number, has_wrong_policy, is_wrong_depth, is_wrong_name, lacks_measure, may_follow, measure_behind, node_of_fields, number_of, outcomes_of, parts_kind, scale_of, with_word, word_fault}
+use Rattle.schema_text.proofs.Drafts.{AreNames-push, before-Cube, before-Dimension, before-Node, before-Number, before-Policy, is_name-right, Parts-like-Number}
+use Rattle.schema_text.proofs.MeasuresMore.{AreMeasures-push}
+use Rattle.schema_text.proofs.NodesMore.{AreNodes-none, AreNodes-push}
+use Rattle.schema_text.proofs.Outcomes.{IsDistribution-names}
 
-pub IsDraft-version : (draft : Draft) (columns : ℕ) (version : Version) → IsDraft draft columns → may_follow draft.last Cube ≡ true → IsDraft (record draft { last = Some Cube; version = version; nodes = [] }) columns
-IsDraft-version draft columns version is follows =
-    let before = before-Cube draft.last draft.nodes follows is.nodes in
-    record { measures = is.measures; kinds = is.kinds; measure_names = is.measure_names; width = is.width; names = is.names; few = is.few; named = omega (arith, before.0, is.named); nodes = refl }
+-- what an accepted line is not
+record IsAccepted (draft : Draft) (fields : List (List ℕ)) (word : SchemaWord) : Type 0 where
+  pub count : has_wrong_count draft.version fields word ≡ false
+  pub name : has_wrong_name draft fields word ≡ false
+  pub number : has_wrong_number draft fields word ≡ false
+  pub depth : has_wrong_depth draft fields word ≡ false
+  pub room : has_no_room draft fields word ≡ false
 
-pub IsDraft-policy : (draft : Draft) (columns : ℕ) (policy : NamedPolicy) → IsDraft draft columns → may_follow draft.last Policy ≡ true → IsDraft (record draft { last = Some Policy; policy = policy }) columns
-IsDraft-policy draft columns policy is follows =
-    let before = before-Policy draft.last draft.nodes follows is.nodes in
-    record { measures = is.measures; kinds = is.kinds; measure_names = is.measure_names; width = is.width; names = is.names; few = is.few; named = omega (arith, before.0, is.named); nodes = before.1 }
+-- of conditions the first of which is there none holds
+none-holds : (a b c d e f : Bool) (rest : List (Bool × Code))
+    → first_that_holds ((a, code.Fields) ∷ (b, code.Name) ∷ (c, code.Policy) ∷ (d, code.Number) ∷ (e, code.Depth) ∷ (f, code.Limit) ∷ rest) ≡ None → (a ≡ false) × (b ≡ false) × (d ≡ false) × (e ≡ false) × (f ≡ false)
+none-holds true b c d e f rest none = cc
+none-holds false true c d e f rest none = cc
+none-holds false false true d e f rest none = cc
+none-holds false false false true e f rest none = cc
+none-holds false false false false true f rest none = cc
+none-holds false false false false false true rest none = cc
+none-holds false false false false false false rest none = (refl, refl, refl, refl, refl)
 
-pub IsDraft-measure : (draft : Draft) (columns wider : ℕ) (word : SchemaWord) (next : Measure) → IsDraft draft columns → may_follow draft.last word ≡ true → IsMeasureWord word → IsNextMeasure draft.measures next → wider ≡ columns + width_of next.kind
-    → IsDraft (record draft { last = Some word; measures = draft.measures ++ next ∷ [] }) wider
-IsDraft-measure draft columns wider word next is follows measure may width =
-    let before = before-measure draft.last draft.nodes word measure follows is.nodes in
-    let behind = open-measure draft.nodes word measure before.1 in
+IsAccepted-from : (draft : Draft) (fields : List (List ℕ)) (word : SchemaWord) → word_fault draft fields word ≡ None → IsAccepted draft fields word
+IsAccepted-from draft fields word accepted =
+    let none =
+    none-holds (has_wrong_count draft.version fields word) (has_wrong_name draft fields word) (has_wrong_policy draft fields word) (has_wrong_number draft fields word) (has_wrong_depth draft fields word) (has_no_room draft fields word)
+    ((lacks_measure draft fields word, code.Policy) ∷ (has_many_cells draft fields word, code.Cells) ∷ (has_many_regions draft fields word, code.Nodes) ∷ []) accepted in
+    record { count = none.0; name = none.1; number = none.2; depth = none.3; room = none.4 }
+
+-- where there is a number, it is in its range
+in_range : (number low high : Bool) (least most value : ℕ) → nat_le least value ≡ low → nat_le value most ≡ high → is_none (if number && low && high then Some value else None) ≡ false
+    → (least ≤ unwrap_or (if number && low && high then Some value else None) 0) × (unwrap_or (if number && low && high then Some value else None) 0 ≤ most)
+in_range true true true least most value low high e = (grind (arith, nat_tests), grind (arith, nat_tests))
+in_range true true false least most value low high e = cc
+in_range true false high least most value low_is high_is e = cc
+in_range false low high least most value low_is high_is e = cc
+
+number_in-range : (least most : ℕ) (bytes : List ℕ) → is_none (number_in least most bytes) ≡ false → (least ≤ unwrap_or (number_in least most bytes) 0) × (unwrap_or (number_in least most bytes) 0 ≤ most)
+number_in-range least most bytes some = in_range (is_number bytes) (nat_le least (digits_value 10 bytes)) (nat_le (digits_value 10 bytes) most) least most (digits_value 10 bytes) refl refl some
+
+-- a measure more
+IsDraft-measure : (draft : Draft) (word : SchemaWord) (next : Measure) → IsDraft draft → may_follow draft.last Number ≡ true → (open_count (Some word) ≡ 0) → (draft.nodes ≡ [] → HasNodes (Some word) draft.nodes) → IsNextMeasure draft.measures next
+    → IsDraft (record draft { last = Some word; measures = draft.measures ++ next ∷ [] })
+IsDraft-measure draft word next is follows closed none may =
+    let before = before-Number draft.last draft.nodes follows is.some in
     record {
       measures = AreMeasures-push draft.measures next is.measures may;
       kinds = All-push (λ (m : Measure). IsKind m.kind) draft.measures next is.kinds may.kind;
       measure_names = All-push (λ (m : Measure). is_name m.name ≡ true) draft.measures next is.measure_names (is_name-right next.name (map (λ (m : Measure). m.name) draft.measures) may.name);
-      width = omega (arith, width, is.width, width_of_all-push draft.measures next);
       names = is.names;
       few = is.few;
-      named = omega (arith, before.0, behind.0, is.named);
-      nodes = behind.1;
+      named = omega (arith, before.0, closed, is.named);
+      some = none before.1;
+      nodes = is.nodes;
     }
 
-pub IsDraft-dimension : (draft : Draft) (columns : ℕ) (name : List ℕ) → IsDraft draft columns → may_follow draft.last DimensionWord ≡ true → is_wrong_name name draft.names ≡ false → length draft.names < MAX_DIMS
-    → IsDraft (record draft { last = Some DimensionWord; names = draft.names ++ name ∷ []; dims = dims_of draft; nodes = [] }) columns
-IsDraft-dimension draft columns name is follows named room = record {
-  measures = is.measures;
-  kinds = is.kinds;
-  measure_names = is.measure_names;
-  width = is.width;
-  names = AreNames-push draft.names name is.names named;
-  few = simp length-append (omega arith);
-  named = simp length-append (omega (arith, before-Dimension draft.last draft.nodes follows is.nodes, is.named));
-  nodes = refl;
-}
+IsNextMeasure-number : (draft : Draft) (fields : List (List ℕ)) → IsAccepted draft fields Number → IsNextMeasure draft.measures (measure_behind draft.measures (field_at fields 1) kind.Number)
+IsNextMeasure-number draft fields is = record { name = is.name; kind = tt; some = omega arith; order = refl; room = grind (arith, nat_tests, is.room) }
 
-pub IsDraft-node : (draft : Draft) (columns : ℕ) (node : Entry) → IsDraft draft columns → may_follow draft.last Node ≡ true → IsDraft (record draft { last = Some Node; nodes = draft.nodes ++ node ∷ [] }) columns
-IsDraft-node draft columns node is follows = record {
+IsNextMeasure-parts : (draft : Draft) (fields : List (List ℕ)) → IsAccepted draft fields Parts → IsNextMeasure draft.measures (measure_behind draft.measures (field_at fields 1) (parts_kind fields))
+IsNextMeasure-parts draft fields is =
+    let names = or_parts (is_wrong_name (field_at fields 1) (map (λ (m : Measure). m.name) draft.measures)) (has_wrong_names [] (outcomes_of fields)) is.name in
+    let scale = number_in-range MIN_SCALE MAX_SCALE (field_at fields 2) is.number in
+    let least : 5 ≤ length fields = grind (arith, nat_tests, is.count) in
+    let some : 2 ≤ length (outcomes_of fields) = omega (arith, length-drop 3 fields) in
+    record { name = names.0; kind = IsDistribution-names (unwrap_or (scale_of fields) 0) (outcomes_of fields) scale.0 scale.1 some names.1; some = omega (arith, some); order = refl; room = grind (arith, nat_tests, is.room) }
+
+-- the number of a node aside, it may come next
+IsNextNode-line : (draft : Draft) (fields : List (List ℕ)) → IsAccepted draft fields Node → IsNextNode draft.nodes (node_of_fields draft.version draft.nodes fields)
+IsNextNode-line draft fields is =
+    let numbers = or_parts (is_none (depth_of fields)) (is_none (number_of draft.version draft.nodes fields)) is.number in
+    let depth = number_in-range 0 MAX_DEPTH (field_at fields 1) numbers.0 in
+    record { name = is.name; shallow = depth.1; depth = fits (depth_of fields) numbers.0 is.depth; room = grind (arith, nat_tests, is.room) }
+  where
+    fits : (depth : Option ℕ) → is_none depth ≡ false → option_map_or (is_wrong_depth draft.nodes) depth false ≡ false → is_wrong_depth draft.nodes (unwrap_or depth 0) ≡ false
+    fits None some e = cc
+    fits (Some depth) some e = e
+
+-- an accepted line keeps what is known
+pub IsDraft-word : (draft : Draft) (fields : List (List ℕ)) (word : SchemaWord) → IsDraft draft → may_follow draft.last word ≡ true → word ≢ End → word_fault draft fields word ≡ None → IsDraft (with_word draft fields word)
+IsDraft-word draft fields Cube is follows goes_on accepted =
+    let before = before-Cube draft.last draft.nodes follows is.some in
+    record { measures = is.measures; kinds = is.kinds; measure_names = is.measure_names; names = is.names; few = is.few; named = omega (arith, before.0, is.named); some = before.1; nodes = is.nodes }
+IsDraft-word draft fields Policy is follows goes_on accepted =
+    let before = before-Policy draft.last draft.nodes follows is.some in
+    record { measures = is.measures; kinds = is.kinds; measure_names = is.measure_names; names = is.names; few = is.few; named = omega (arith, before.0, is.named); some = before.1; nodes = is.nodes }
+IsDraft-word draft fields Number is follows goes_on accepted =
+    IsDraft-measure draft Number _ is follows refl (λ none. none) (IsNextMeasure-number draft fields (IsAccepted-from draft fields Number accepted))
+IsDraft-word draft fields Parts is follows goes_on accepted =
+    IsDraft-measure draft Parts _ is (sym (Parts-like-Number draft.last) ∙ follows) refl (λ none. none) (IsNextMeasure-parts draft fields (IsAccepted-from draft fields Parts accepted))
+IsDraft-word draft fields DimensionWord is follows goes_on accepted =
+    let line = IsAccepted-from draft fields DimensionWord accepted in
+    let room : length draft.names < MAX_DIMS = grind (arith, nat_tests, line.room) in
+    record {
+      measures = is.measures;
+      kinds = is.kinds;
+      measure_names = is.measure_names;
+      names = AreNames-push draft.names (field_at fields 1) is.names line.name;
+      few = simp length-append (omega (arith, room));
+      named = simp length-append (omega (arith, before-Dimension draft.last draft.nodes follows is.some, is.named));
+      some = refl;
+      nodes = AreNodes-none;
+    }
+IsDraft-word draft fields Node is follows goes_on accepted = record {
   measures = is.measures;
   kinds = is.kinds;
   measure_names = is.measure_names;
-  width = is.width;
   names = is.names;
   few = is.few;
   named = omega (arith, before-Node draft.last follows, is.named);
-  nodes = simp length-append (omega arith);
+  some = simp length-append (omega arith);
+  nodes = AreNodes-push draft.nodes (node_of_fields draft.version draft.nodes fields) is.nodes (IsNextNode-line draft fields (IsAccepted-from draft fields Node accepted));
 }
+IsDraft-word draft fields End is follows goes_on accepted = absurd (goes_on refl)

@@ -1,5 +1,5 @@
 -- What is known of a draft: its names, what stands before a word, and the depth of its last node.
-use Rattle.std.proofs.Common.{◌≡◌, ◌≢◌, ℕ, ◌+◌, ◌-◌, ◌<◌, ◌≤◌, Bool, true, false, List, [], ◌∷◌, ◌++◌, length, get_or, refl, sym, ap, ◌∙◌, arith, Option, Some, None, eqb, ltb, sub-one}
+use Rattle.std.proofs.Common.{◌≡◌, ◌≢◌, ℕ, ◌+◌, ◌-◌, ◌<◌, ◌≤◌, Bool, true, false, List, [], ◌∷◌, ◌++◌, length, get_or, refl, ap, ◌∙◌, arith, Option, Some, None, eqb, ltb, sub-one}
 use Rattle.std.specs.Prelude.{not, ◌||◌, slice_get}
 use Rattle.std.specs.Str.{bytes_eq}
 use Rattle.std.proofs.lemmas.Bool.{not-false, or_parts}
@@ -12,7 +12,7 @@ use Rattle.cube_model.specs.Tree.{Dimension, Entry}
 use Rattle.schema_text.specs.declared.word.SchemaWord.{SchemaWord}
 use Rattle.schema_text.specs.declared.word.SchemaWord.TheVariants.{Cube, Policy, Number, Parts, Dimension as DimensionWord, Node, End}
 use Rattle.schema_text.specs.Schema.{AreNames}
-use Rattle.schema_text.specs.Draft.{HasNodes, IsMeasureWord, open_count}
+use Rattle.schema_text.specs.Draft.{HasNodes, open_count}
 use Rattle.schema_text.specs.SchemaText.{ended, is_among_names, is_wrong_depth, is_wrong_name, may_follow}
 
 -- what a name that is not wrong is
@@ -24,11 +24,14 @@ right named among e =
 pub is_name-right : (name : List ℕ) (names : List (List ℕ)) → is_wrong_name name names ≡ false → is_name name ≡ true
 is_name-right name names e = (right (is_name name) (is_among_names name names) e).0
 
+pub not_among : (name : List ℕ) (names : List (List ℕ)) → is_wrong_name name names ≡ false → is_among_names name names ≡ false
+not_among name names e = (right (is_name name) (is_among_names name names) e).1
+
 -- it is none of the names
 pub differs : (name : List ℕ) (names : List (List ℕ)) (k : ℕ) (d : List ℕ) → is_wrong_name name names ≡ false → k < length names → get_or names k d ≢ name
 differs name names k d e within same =
     let among : is_among_names name names ≡ true = list_any_at (λ n. bytes_eq n name) names k d within ((bytes_eq-Decides (get_or names k d) name).1 same) in
-    let none = (right (is_name name) (is_among_names name names) e).1 in
+    let none = not_among name names e in
     cc
 
 -- a name more
@@ -60,7 +63,7 @@ before-Policy (Some DimensionWord) nodes e has = cc
 before-Policy (Some Node) nodes e has = cc
 before-Policy (Some End) nodes e has = cc
 
-before-Number : (last : Option SchemaWord) (nodes : Dimension) → may_follow last Number ≡ true → HasNodes last nodes → (open_count last ≡ 0) × (nodes ≡ [])
+pub before-Number : (last : Option SchemaWord) (nodes : Dimension) → may_follow last Number ≡ true → HasNodes last nodes → (open_count last ≡ 0) × (nodes ≡ [])
 before-Number None nodes e has = cc
 before-Number (Some Cube) nodes e has = cc
 before-Number (Some Policy) nodes e has = (refl, has)
@@ -71,7 +74,7 @@ before-Number (Some Node) nodes e has = cc
 before-Number (Some End) nodes e has = cc
 
 -- both words of measures follow the same words
-Parts-like-Number : (last : Option SchemaWord) → may_follow last Parts ≡ may_follow last Number
+pub Parts-like-Number : (last : Option SchemaWord) → may_follow last Parts ≡ may_follow last Number
 Parts-like-Number None = refl
 Parts-like-Number (Some Cube) = refl
 Parts-like-Number (Some Policy) = refl
@@ -80,25 +83,6 @@ Parts-like-Number (Some Parts) = refl
 Parts-like-Number (Some DimensionWord) = refl
 Parts-like-Number (Some Node) = refl
 Parts-like-Number (Some End) = refl
-
-pub before-measure : (last : Option SchemaWord) (nodes : Dimension) (word : SchemaWord) → IsMeasureWord word → may_follow last word ≡ true → HasNodes last nodes → (open_count last ≡ 0) × (nodes ≡ [])
-before-measure last nodes Cube is e has = absurd is
-before-measure last nodes Policy is e has = absurd is
-before-measure last nodes Number is e has = before-Number last nodes e has
-before-measure last nodes Parts is e has = before-Number last nodes (sym (Parts-like-Number last) ∙ e) has
-before-measure last nodes DimensionWord is e has = absurd is
-before-measure last nodes Node is e has = absurd is
-before-measure last nodes End is e has = absurd is
-
--- no dimension is open behind a measure
-pub open-measure : (nodes : Dimension) (word : SchemaWord) → IsMeasureWord word → nodes ≡ [] → (open_count (Some word) ≡ 0) × HasNodes (Some word) nodes
-open-measure nodes Cube is none = absurd is
-open-measure nodes Policy is none = absurd is
-open-measure nodes Number is none = (refl, none)
-open-measure nodes Parts is none = (refl, none)
-open-measure nodes DimensionWord is none = absurd is
-open-measure nodes Node is none = absurd is
-open-measure nodes End is none = absurd is
 
 length-ended : (nodes : Dimension) → 1 ≤ length nodes → length (ended nodes) ≡ 1
 length-ended [] some = absurd (omega arith)

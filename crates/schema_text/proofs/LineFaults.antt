@@ -1,13 +1,16 @@
 -- Which line is `end`.
-use Rattle.std.proofs.Common.{◌≡◌, ◌≢◌, ℕ, Bool, true, false, List, [], ◌∷◌, length, sym, refl, ap, ◌∙◌, arith, Some, None, true≢false}
+use Rattle.std.proofs.Common.{◌≡◌, ◌≢◌, ℕ, Bool, true, false, List, [], ◌∷◌, length, sym, refl, ap, ◌∙◌, arith, Some, None, subst, true≢false}
 use Rattle.std.specs.Prelude.{if◌then◌else◌, codes}
 use Rattle.std.specs.Str.{bytes_eq}
 use Rattle.std.specs.List.{join_with_byte}
 use Rattle.std.proofs.lemmas.List.Splits.{join_with_byte-slice_split}
 use Rattle.text_lines.specs.LineText.{field_at, without_cr}
 use Rattle.text_lines.specs.Text.{fields_of}
+use Rattle.std.proofs.lemmas.Bool.Decides.{nat_tests}
+use Rattle.schema_text.specs.declared.word.Version.{Version}
+use Rattle.schema_text.specs.declared.word.SchemaWord.{SchemaWord}
 use Rattle.schema_text.specs.declared.word.SchemaWord.TheVariants.{Cube, Policy, Number, Parts, Dimension as DimensionWord, Node, End}
-use Rattle.schema_text.specs.SchemaText.{is_end, word_named}
+use Rattle.schema_text.specs.SchemaText.{has_wrong_count, is_end, word_named}
 
 -- the one field of a line is the line
 only : (parts : List (List ℕ)) (line : List ℕ) → length parts ≡ 1 → join_with_byte 9 parts ≡ line → field_at parts 0 ≡ line
@@ -37,3 +40,10 @@ word-end bytes named =
 pub end-one_field : (line : List ℕ) → is_end line ≡ false → word_named (field_at (fields_of (without_cr line)) 0) ≡ Some End → length (fields_of (without_cr line)) ≢ 1
 end-one_field line other named one =
     true≢false (sym (ap (λ l. bytes_eq l (codes "end")) (sym (one_field (without_cr line) one)) ∙ word-end (field_at (fields_of (without_cr line)) 0) named) ∙ other)
+
+-- a line that is not `end` and has as many fields as its word wants is of another word
+pub other_word : (version : Version) (fields : List (List ℕ)) (word : SchemaWord) → has_wrong_count version fields word ≡ false → (word ≡ End → length fields ≢ 1) → word ≢ End
+other_word version fields word right other ends = other ends (one (subst (λ w. has_wrong_count version fields w ≡ false) ends right))
+  where
+    one : has_wrong_count version fields End ≡ false → length fields ≡ 1
+    one e = grind (arith, nat_tests)

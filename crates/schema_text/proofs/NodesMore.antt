@@ -20,7 +20,7 @@ use Rattle.dim_tree.specs.Fault.{IsCause as IsDimCause}
 use Rattle.schema_text.specs.Fault.{IsCause, of_numbers}
 use Rattle.schema_text.specs.declared.word.Version.{Version}
 use Rattle.schema_text.specs.declared.word.Version.TheVariants.{One, Two}
-use Rattle.schema_text.specs.Draft.{AreNodes, AreTaken, IsFree, IsNextNode, IsNextNumber, IsOpen, OpenNodes, taken_with}
+use Rattle.schema_text.specs.Draft.{AreNodes, AreTaken, IsFree, IsNextNode, IsNextNumber, taken_with}
 use Rattle.schema_text.specs.SchemaText.{are_places_from, free_number, is_among_names, is_wrong_depth, number_of}
 
 -- the line of a node
@@ -155,16 +155,19 @@ IsNextNumber-of Two nodes fields number e = given _ e
         let parts = free-some (list_any (λ m. eqb m n) (numbers nodes)) n number e in
         rw (← parts.1) parts.0
 
--- no node, in any version
-pub IsOpen-none : (version : Version) → IsOpen (record { version = version; nodes = [] }) [] []
-IsOpen-none One = record { nodes = AreNodes-none; known = refl; taken = (refl, refl) }
-IsOpen-none Two = record { nodes = AreNodes-none; known = refl; taken = refl }
+-- the names of the nodes with one more
+pub names-push : (nodes longer : Dimension) (node : Entry) (known more : List (List ℕ)) → known ≡ map (λ n. n.name) nodes → more ≡ known ++ node.name ∷ [] → longer ≡ nodes ++ node ∷ [] → more ≡ map (λ n. n.name) longer
+names-push nodes longer node known more is added put =
+    added ∙ ap (λ l. l ++ node.name ∷ []) is ∙ sym (map_push (λ (n : Entry). n.name) nodes node) ∙ ap (map (λ (n : Entry). n.name)) (sym put)
 
--- a node more
-pub IsOpen-push : (o : OpenNodes) (known : List (List ℕ)) (taken : List ℕ) (node : Entry) → IsOpen o known taken → IsNextNode o.nodes node → IsNextNumber o.version o.nodes node.number
-    → IsOpen (record o { nodes = o.nodes ++ node ∷ [] }) (known ++ node.name ∷ []) (taken_with o.version taken node.number)
-IsOpen-push o known taken node is next number = record {
-  nodes = AreNodes-push o.nodes node is.nodes next;
-  known = ap (λ l. l ++ node.name ∷ []) is.known ∙ sym (map_push (λ (n : Entry). n.name) o.nodes node);
-  taken = AreTaken-push o.version o.nodes node taken is.taken number;
-}
+-- with no node none is taken, in any version
+pub AreTaken-none : (version other : Version) (nodes : Dimension) (taken : List ℕ) → nodes ≡ [] → AreTaken version nodes taken → AreTaken other nodes taken
+AreTaken-none version other nodes taken none are = rw none (as_none other (emptied version (subst (λ (ns : Dimension). AreTaken version ns taken) none are)))
+  where
+    emptied : (v : Version) → AreTaken v [] taken → taken ≡ []
+    emptied One are = are.1
+    emptied Two are = are
+
+    as_none : (v : Version) → taken ≡ [] → AreTaken v [] taken
+    as_none One empty = (refl, empty)
+    as_none Two empty = empty

@@ -1,13 +1,8 @@
 -- The outcomes of a distribution, read one after another.
-use Rattle.std.proofs.Common.{◌≡◌, ℕ, ◌+◌, ◌<◌, ◌≤◌, Bool, true, false, List, [], ◌∷◌, ◌++◌, length, drop, refl, sym, ap, ◌∙◌, arith, Some, None, append_assoc, append-nil, length-drop}
-use Rattle.std.specs.Prelude.{◌&&◌, if◌then◌else◌, nat_le}
-use Rattle.std.specs.Str.Parse.{digits_value}
+use Rattle.std.proofs.Common.{◌≡◌, ℕ, ◌+◌, ◌<◌, ◌≤◌, true, false, List, [], ◌∷◌, ◌++◌, length, drop, refl, sym, ap, ◌∙◌, arith, append_assoc, append-nil}
 use Rattle.std.proofs.lemmas.Bool.{or_parts}
-use Rattle.std.proofs.lemmas.Bool.Decides.{nat_tests}
 use Rattle.std.proofs.lemmas.List.Elements.{All-nil}
-use Rattle.std.proofs.lemmas.Option.{same_Some}
 use Rattle.cube_base.specs.Name.{is_name}
-use Rattle.text_lines.specs.Text.{is_number, number_in}
 use Rattle.schema_text.specs.Schema.{AreNames, IsDistribution, MAX_SCALE, MIN_SCALE}
 use Rattle.schema_text.proofs.Drafts.{AreNames-push}
 use Rattle.std.proofs.lemmas.List.{drop_all, drop_more}
@@ -53,28 +48,6 @@ AreNames-more taken (name ∷ names) are right =
 AreNames-none : AreNames []
 AreNames-none = record { each = All-nil (λ n. is_name n ≡ true); distinct = λ i j d before within. absurd (omega arith) }
 
--- what reading them answers
-pub outcomes-read : (fields outcomes : List (List ℕ)) → 5 ≤ length fields → (if has_wrong_names [] (outcomes_of fields) then None else Some (outcomes_of fields)) ≡ Some outcomes → (has_wrong_names [] outcomes ≡ false) × (2 ≤ length outcomes)
-outcomes-read fields outcomes least read =
-    let parts = chosen (has_wrong_names [] (outcomes_of fields)) (outcomes_of fields) outcomes read in
-    let right : has_wrong_names [] (outcomes_of fields) ≡ false = parts.0 in
-    (rw parts.1 at right, omega (arith, length-drop 3 fields, ap length parts.1))
-  where
-    chosen : (wrong : Bool) (all names : List (List ℕ)) → (if wrong then None else Some all) ≡ Some names → (wrong ≡ false) × (all ≡ names)
-    chosen true all names e = cc
-    chosen false all names e = (refl, same_Some all names e)
-
--- a scale is in its range
-scale-chosen : (number least most : Bool) (value n : ℕ) → nat_le MIN_SCALE value ≡ least → nat_le value MAX_SCALE ≡ most → (if number && least && most then Some value else None) ≡ Some n → (MIN_SCALE ≤ n) × (n ≤ MAX_SCALE)
-scale-chosen true true true value n low high e =
-    let same : value ≡ n = same_Some value n e in
-    (grind (arith, nat_tests), grind (arith, nat_tests))
-scale-chosen true true false value n low high e = cc
-scale-chosen true false most value n low high e = cc
-scale-chosen false least most value n low high e = cc
-
 -- a distribution with these outcomes and this scale
-pub IsDistribution-read : (bytes : List ℕ) (scale : ℕ) (outcomes : List (List ℕ)) → number_in MIN_SCALE MAX_SCALE bytes ≡ Some scale → has_wrong_names [] outcomes ≡ false → 2 ≤ length outcomes → IsDistribution scale outcomes
-IsDistribution-read bytes scale outcomes read right some =
-    let range = scale-chosen (is_number bytes) (nat_le MIN_SCALE (digits_value 10 bytes)) (nat_le (digits_value 10 bytes) MAX_SCALE) (digits_value 10 bytes) scale refl refl read in
-    record { least = range.0; most = range.1; some = some; names = AreNames-more [] outcomes AreNames-none right }
+pub IsDistribution-names : (scale : ℕ) (outcomes : List (List ℕ)) → MIN_SCALE ≤ scale → scale ≤ MAX_SCALE → 2 ≤ length outcomes → has_wrong_names [] outcomes ≡ false → IsDistribution scale outcomes
+IsDistribution-names scale outcomes least most some right = record { least = least; most = most; some = some; names = AreNames-more [] outcomes AreNames-none right }

@@ -1,12 +1,13 @@
 -- Reading a schema line by line.
-use Rattle.std.proofs.Common.{◌≡◌, ℕ, zero, suc, ◌+◌, ◌-◌, ◌<◌, ◌≤◌, true, false, List, [], ◌∷◌, length, refl, sym, ap, ◌∙◌, arith, Some, None, add-one}
+use Rattle.std.proofs.Common.{◌≡◌, ℕ, zero, suc, ◌+◌, ◌-◌, ◌<◌, ◌≤◌, true, false, List, [], ◌∷◌, length, refl, sym, ap, ◌∙◌, arith, Option, Some, None, add-one}
 use Rattle.std.specs.Prelude.{Ok, Err}
+use Rattle.std.specs.Option.{option_map_or}
 use Rattle.cube_base.specs.declared.code.Code.{Code}
 use Rattle.cube_base.specs.declared.code.Code.TheVariants.{Cut}
 use Rattle.text_lines.specs.Text.{after_line, lines_of, after_lines}
 use Rattle.schema_text.specs.declared.fault.LineFault.{LineFault}
 use Rattle.schema_text.specs.declared.fault.LineFault.TheVariants.{Refused, Memory}
-use Rattle.schema_text.specs.Draft.{end_fault}
+use Rattle.schema_text.specs.Draft.{end_fault, read_with}
 use Rattle.schema_text.specs.Fault.{HasCause, IsCause, at_line}
 use Rattle.text_lines.specs.LineText.{is_skipped}
 use Rattle.schema_text.specs.SchemaText.{Draft, blank_draft, is_end, line_fault, read_from, schema_of, schema_of_draft, sized, with_line}
@@ -71,20 +72,30 @@ pub HasCause-line : (text : List ℕ) (draft : Draft) (lines : ℕ) (rest line b
 HasCause-line text draft lines rest line behind (Refused reason) is cut stays cause = schema_of-bad text draft lines rest line behind reason is cut stays cause
 HasCause-line text draft lines rest line behind Memory is cut stays cause = tt
 
--- so is the line `end`
-pub HasCause-end : (text : List ℕ) (draft : Draft) (lines : ℕ) (rest line behind : List ℕ) (fault : LineFault) → IsRead text draft lines rest → IsCut rest line behind → is_skipped line ≡ false
-    → is_end line ≡ true → IsCause (end_fault draft) fault → HasCause text (at_line (lines + 1) fault)
-HasCause-end text draft lines rest line behind fault is cut stays ends cause =
-    HasCause-line text draft lines rest line behind fault is cut stays (rw (line_fault-end draft line ends) cause)
-
--- the line `end` is accepted
+-- the line `end` is reached
 pub schema_of-end : (text : List ℕ) (draft : Draft) (lines : ℕ) (rest line behind : List ℕ) → IsRead text draft lines rest → IsCut rest line behind → is_skipped line ≡ false
-    → line_fault draft line ≡ None → is_end line ≡ true → schema_of text ≡ Ok (record { schema = schema_of_draft draft; size = length text - length behind })
+    → is_end line ≡ true → schema_of text ≡ read_with draft (lines + 1) (length text - length behind)
 unfolding schema_of
-schema_of-end text draft lines rest line behind is cut stays accepted ends =
-    let here : read_from draft lines (line ∷ lines_of behind) ≡ Ok (record { schema = schema_of_draft draft; lines = lines + 1 }) = rw (stays, accepted, ends) refl in
-    ap (sized text) (is.read ∙ ap (read_from draft lines) cut.cut ∙ here)
-    ∙ ap (λ l. Ok (record { schema = schema_of_draft draft; size = length text - length l })) (sym (behind-more text lines rest behind is.behind cut.after))
+schema_of-end text draft lines rest line behind is cut stays ends =
+    let here : read_from draft lines (line ∷ lines_of behind) ≡ option_map_or (λ reason. Err (record { line = lines + 1; reason = reason })) (end_fault draft) (Ok (record { schema = schema_of_draft draft; lines = lines + 1 })) =
+    rw (stays, line_fault-end draft line ends, ends) refl in
+    ap (sized text) (is.read ∙ ap (read_from draft lines) cut.cut ∙ here) ∙ size_of (end_fault draft)
+    ∙ ap (λ l. read_with draft (lines + 1) (length text - length l)) (sym (behind-more text lines rest behind is.behind cut.after))
+  where
+    size_of : (fault : Option Code)
+        → sized text (option_map_or (λ reason. Err (record { line = lines + 1; reason = reason })) fault (Ok (record { schema = schema_of_draft draft; lines = lines + 1 })))
+        ≡ option_map_or (λ reason. Err (record { line = lines + 1; reason = reason })) fault (Ok (record { schema = schema_of_draft draft; size = length text - length (after_lines (lines + 1) text) }))
+    size_of None = refl
+    size_of (Some reason) = refl
+
+-- it is accepted
+pub schema_of-accepted : (text : List ℕ) (draft : Draft) (lines size : ℕ) → schema_of text ≡ read_with draft lines size → end_fault draft ≡ None → schema_of text ≡ Ok (record { schema = schema_of_draft draft; size = size })
+schema_of-accepted text draft lines size read accepted = read ∙ rw accepted refl
+
+-- it is refused, or memory is wanting
+pub HasCause-end : (text : List ℕ) (draft : Draft) (lines size : ℕ) (fault : LineFault) → schema_of text ≡ read_with draft lines size → IsCause (end_fault draft) fault → HasCause text (at_line lines fault)
+HasCause-end text draft lines size (Refused reason) read cause = read ∙ rw cause refl
+HasCause-end text draft lines size Memory read cause = tt
 
 -- the text ends before
 pub schema_of-cut : (text : List ℕ) (draft : Draft) (lines : ℕ) (rest : List ℕ) → IsRead text draft lines rest → rest ≡ [] → schema_of text ≡ Err (record { line = lines + 1; reason = Cut })

@@ -30,9 +30,8 @@ use Rattle.schema_text.specs.declared.word.SchemaWord.TheVariants.{Cube, Policy,
 use Rattle.schema_text.specs.Draft.{end_fault}
 use Rattle.schema_text.specs.Schema.{IsSchema, SchemaValue, weight_of}
 use Rattle.schema_text.specs.SchemaText.{Draft, are_places_from, blank_draft, dims_of, dims_text, ended, fields_fault, may_follow, measure_line, measure_name, policy_among, policy_fields, policy_line, schema_of, schema_of_draft, schema_text, version_named, version_of, version_text, with_word}
-use Rattle.schema_text.proofs.Ends.{line_fault-end}
 use Rattle.text_lines.proofs.Cuts.{after_line-cut, lines_of-cut}
-use Rattle.schema_text.proofs.Reading.{IsCut, IsRead, IsRead-none, schema_of-end}
+use Rattle.schema_text.proofs.Reading.{IsCut, IsRead, IsRead-none, schema_of-accepted, schema_of-end}
 use Rattle.schema_text.proofs.WrittenLines.{IsField, IsField-name, IsNext, IsPlain, IsPlain-fields, IsRead-next}
 use Rattle.schema_text.proofs.MeasuresAgain.{AreNames-measures, last_measure, measured, read_measures, word_of}
 use Rattle.schema_text.proofs.NodesAgain.{IsWritable}
@@ -178,7 +177,7 @@ read_end text draft lines rest behind is parts accepted =
       after = sym (after_line-cut rest (codes "end") behind parts plain.lf);
       shorter = omega (arith, ap length parts, length-append (codes "end") (10 ∷ behind));
     } in
-    schema_of-end text draft lines rest (codes "end") behind is cut refl (line_fault-end draft (codes "end") refl ∙ accepted) refl
+    schema_of-accepted text draft (lines + 1) (length text - length behind) (schema_of-end text draft lines rest (codes "end") behind is cut refl refl) accepted
 
 -- The text of a schema, with anything behind it, is read as that schema and takes its length.
 

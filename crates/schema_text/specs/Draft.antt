@@ -14,11 +14,11 @@ use Rattle.fact_records.specs.declared.shape.Measure.{Measure}
 use Rattle.fact_records.specs.Shape.{AreMeasures, width_of, width_of_all}
 use Rattle.region_algebra.specs.Space.{cell_total, region_total}
 use Rattle.schema_text.specs.declared.word.SchemaWord.{SchemaWord}
-use Rattle.schema_text.specs.declared.word.SchemaWord.TheVariants.{Number, Parts, Dimension as DimensionWord, Node, End}
+use Rattle.schema_text.specs.declared.word.SchemaWord.TheVariants.{Dimension as DimensionWord, Node, End}
 use Rattle.schema_text.specs.declared.word.Version.{Version}
 use Rattle.schema_text.specs.declared.word.Version.TheVariants.{One, Two}
 use Rattle.schema_text.specs.Schema.{AreNames, IsKind}
-use Rattle.schema_text.specs.SchemaText.{Draft, are_places_from, depth_of, dims_of, ended, has_wrong_names, is_weight_word, is_wrong_depth, is_wrong_name, may_follow, number_of, outcomes_of, policy_among, policy_named, scale_of, word_named}
+use Rattle.schema_text.specs.SchemaText.{BadLine, Draft, ReadSchema, are_places_from, depth_of, dims_of, ended, has_wrong_names, is_weight_word, is_wrong_depth, is_wrong_name, may_follow, number_of, outcomes_of, policy_among, policy_named, scale_of, schema_of_draft, version_named, word_named}
 
 -- The nodes so far of a dimension.
 
@@ -54,16 +54,9 @@ abbrev pub IsFree : Version → List ℕ → ℕ → Type 0
 IsFree One taken number = ⊤
 IsFree Two taken number = list_any (λ n. n == number) taken ≡ false
 
--- nodes in a version
-pub record OpenNodes : Type 0 where
-  pub version : Version
-  pub nodes : Dimension
-
--- these names and numbers of theirs are known
-pub record IsOpen (open_nodes : OpenNodes) (known_names : List (List ℕ)) (taken_numbers : List ℕ) : Type 0 where
-  pub nodes : AreNodes open_nodes.nodes
-  pub known : known_names ≡ map (λ n. n.name) open_nodes.nodes
-  pub taken : AreTaken open_nodes.version open_nodes.nodes taken_numbers
+-- why a version of these fields is refused
+abbrev pub version_fault : List (List ℕ) → Option Code
+version_fault fields = first_that_holds ((is_none (version_named (field_at fields 1)), code.Number) ∷ [])
 
 -- why a node of these fields is refused behind the nodes
 abbrev pub node_fault : Version → Dimension → List (List ℕ) → Option Code
@@ -93,6 +86,18 @@ parts_fault measures fields =
     ∷ (is_none (scale_of fields), code.Number)
     ∷ (nat_lt MAX_COLS (width_of_all measures + length (outcomes_of fields)), code.Limit) ∷ [])
 
+-- why the outcomes and the scale of a distribution of these fields are refused
+abbrev pub kind_fault : List (List ℕ) → Option Code
+kind_fault fields = first_that_holds ((has_wrong_names [] (outcomes_of fields), code.Name) ∷ (is_none (scale_of fields), code.Number) ∷ [])
+
+-- why a dimension of these fields is refused behind those of these names, the last of which ends with the nodes
+abbrev pub dimension_fault : List (List ℕ) → Dimension → List (List ℕ) → Option Code
+dimension_fault names nodes fields =
+    first_that_holds
+    ((is_wrong_name (field_at fields 1) names, code.Name)
+    ∷ (not (list_all is_numbered (ended nodes)), code.Number)
+    ∷ (nat_le MAX_DIMS (length names), code.Limit) ∷ [])
+
 -- why the numbers of the dimension that ends here are refused
 abbrev pub ended_fault : Dimension → Option Code
 ended_fault nodes = if list_all is_numbered (ended nodes) then None else Some code.Number
@@ -121,12 +126,6 @@ abbrev pub HasNodes : Option SchemaWord → Dimension → Type 0
 HasNodes (Some Node) nodes = 1 ≤ length nodes
 HasNodes word nodes = nodes ≡ []
 
--- a measure's word
-abbrev pub IsMeasureWord : SchemaWord → Type 0
-IsMeasureWord Number = ⊤
-IsMeasureWord Parts = ⊤
-IsMeasureWord word = ⊥
-
 -- a measure that may come next behind these
 pub record IsNextMeasure (before : List Measure) (measure : Measure) : Type 0 where
   pub name : is_wrong_name measure.name (map (λ m. m.name) before) ≡ false
@@ -135,16 +134,16 @@ pub record IsNextMeasure (before : List Measure) (measure : Measure) : Type 0 wh
   pub order : measure.first_col ≡ 1 + width_of_all before
   pub room : width_of_all before + width_of measure.kind ≤ MAX_COLS
 
--- what accepted lines say, where the measures have so many columns
-pub record IsDraft (draft : Draft) (columns : ℕ) : Type 0 where
+-- what accepted lines say
+pub record IsDraft (draft : Draft) : Type 0 where
   pub measures : AreMeasures draft.measures
   pub kinds : All (λ m. IsKind m.kind) draft.measures
   pub measure_names : All (λ m. is_name m.name ≡ true) draft.measures
-  pub width : columns ≡ width_of_all draft.measures
   pub names : AreNames draft.names
   pub few : length draft.names ≤ MAX_DIMS
   pub named : length draft.names ≡ length draft.dims + open_count draft.last
-  pub nodes : HasNodes draft.last draft.nodes
+  pub some : HasNodes draft.last draft.nodes
+  pub nodes : AreNodes draft.nodes
 
 -- why the line `end` is refused before the dimensions are looked at together, and why these are
 abbrev pub front_fault : Draft → Option Code
@@ -158,3 +157,8 @@ size_fault dims = first_that_holds ((nat_le SPACE_LIMIT (cell_total dims), code.
 
 abbrev pub end_fault : Draft → Option Code
 end_fault draft = option_or (front_fault draft) (size_fault (dims_of draft))
+
+-- what a text says whose lines before `end` are accepted and make this draft, where `end` is the line of this number and the text
+-- has so many bytes up to there
+abbrev pub read_with : Draft → ℕ → ℕ → Result ReadSchema BadLine
+read_with draft lines size = option_map_or (λ reason. Err (record { line = lines; reason = reason })) (end_fault draft) (Ok (record { schema = schema_of_draft draft; size = size }))

@@ -1,5 +1,5 @@
 -- Why reading a schema fails.
-use Rattle.std.specs.Prelude.{◌≡◌, ℕ, List, [], ◌∷◌, Option, None, Some, Err, ⊤}
+use Rattle.std.specs.Prelude.{◌≡◌, ℕ, List, Option, Some, Err, ⊤}
 use Rattle.cube_base.specs.declared.code.Code.{Code}
 use Rattle.cube_base.specs.declared.code.Code.TheVariants as code
 use Rattle.cube_model.specs.declared.tree.DimFault.{DimFault}
@@ -24,11 +24,6 @@ IsCause cause line_fault.Memory = ⊤
 abbrev pub of_numbers : DimFault → LineFault
 of_numbers dim_fault.Memory = line_fault.Memory
 of_numbers fault = line_fault.Refused code.Number
-
--- the one item, where there is one
-abbrev pub listed : {X : Type 0} → Option X → List X
-listed None = []
-listed (Some x) = x ∷ []
 
 -- the fault, at a line of this number
 abbrev pub at_line : ℕ → LineFault → SchemaFault

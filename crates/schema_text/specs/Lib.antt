@@ -1,5 +1,6 @@
 pub mod Draft
 pub mod Examples
 pub mod Fault
+pub mod Kept
 pub mod Schema
 pub mod SchemaText

@@ -219,7 +219,6 @@ abbrev pub has_many_regions : Draft → List (List ℕ) → SchemaWord → Bool
 has_many_regions draft fields End = nat_le SPACE_LIMIT (region_total (dims_of draft))
 has_many_regions draft fields word = false
 
--- LEAD: see NOTE_FROM_LEAD.md at the top of this clone: at `end`, `policy` comes behind `number` (remove this line)
 -- the conditions that refuse a line of a word that may stand here, in their order
 abbrev pub word_conditions : Draft → List (List ℕ) → SchemaWord → List (Bool × Code)
 word_conditions draft fields word =

@@ -9,7 +9,7 @@ use cube_model::DimFault;
 use std::alloc::AllocFailed;
 
 /// Why a line of a schema is not taken.
-#[derive(Clone, Copy, Debug, PartialEq, Eq)]
+#[derive(Clone, Copy)]
 pub enum LineFault {
     /// The line is refused.
     Refused(Code),

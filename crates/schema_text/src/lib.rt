@@ -10,8 +10,6 @@ mod policy;
 mod read;
 mod reader;
 mod schema;
-#[cfg(test)]
-mod tests;
 mod word;
 mod write;
 

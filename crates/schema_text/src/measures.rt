@@ -1,13 +1,14 @@
 //! The measures of a schema, read from their lines.
-ghost use Rattle.std.specs.Prelude.{◌≡◌, ◌≤◌, ◌+◌, [], ◌∷◌, false, length, map, Some, None, if◌then◌else◌, IfOk, IfErr, OnOk};
+ghost use Rattle.std.specs.Prelude.{◌≡◌, ◌≤◌, ◌+◌, [], ◌∷◌, ◌++◌, true, false, length, map, Some, None, if◌then◌else◌, IfOk, IfErr, OnOk};
 ghost use Rattle.std.specs.List.{list_any};
 ghost use Rattle.std.specs.Str.{bytes_eq};
+ghost use Rattle.cube_base.specs.Name.{is_name};
 ghost use Rattle.cube_model.specs.Limits.{MAX_COLS};
 ghost use Rattle.text_lines.specs.LineText.{field_at};
 ghost use Rattle.text_lines.specs.Text.{fields_of};
 ghost use Rattle.fact_records.specs.declared.shape.Kind.TheVariants as kind;
-ghost use Rattle.fact_records.specs.Shape.{width_of, width_of_all};
-ghost use Rattle.schema_text.specs.Draft.{IsNextMeasure, number_fault, parts_fault};
+ghost use Rattle.fact_records.specs.Shape.{width_of_all};
+ghost use Rattle.schema_text.specs.Draft.{kind_fault, number_fault, parts_fault};
 ghost use Rattle.schema_text.specs.Fault.{IsCause};
 ghost use Rattle.schema_text.specs.SchemaText.{has_wrong_names, is_wrong_name, measure_behind, outcomes_of, parts_kind};
 
@@ -23,70 +24,97 @@ const MIN_SCALE: u64 = 1;
 
 const MAX_SCALE: u64 = 1_000_000;
 
-/// The number measure of a line with two fields behind measures of so many columns, or the first of the conditions that
-/// refuse it.
-pub fn read_number(
+/// Takes the number measure of a line with two fields behind measures of so many columns.
+pub fn take_number(
     alloc: Global,
-    before: &[Measure],
-    columns: usize,
+    measures: &mut Vec<Measure>,
+    columns: &mut usize,
     line: &[u8],
-) -> Result<Measure, LineFault>
-    requires width { columns ≡ width_of_all before.now }
-    requires few { columns ≤ MAX_COLS }
-    ensures read { IfOk result (λ measure. measure ≡ measure_behind before.now (field_at (fields_of line.now) 1) kind.Number) }
-    ensures next { IfOk result (IsNextMeasure before.now) }
-    ensures accepted { OnOk result (number_fault before.now (fields_of line.now) ≡ None) }
-    ensures refused { IfErr result (IsCause (number_fault before.now (fields_of line.now))) }
+) -> Result<(), LineFault>
+    requires width { columns.old ≡ width_of_all measures.old.items }
+    requires few { columns.old ≤ MAX_COLS }
+    ensures made { OnOk result (measures.new.items ≡ measures.old.items ++ measure_behind measures.old.items (field_at (fields_of line.now) 1) kind.Number ∷ []) }
+    ensures width { OnOk result (columns.new ≡ width_of_all measures.new.items) }
+    ensures accepted { OnOk result (number_fault measures.old.items (fields_of line.now) ≡ None) }
+    ensures refused { IfErr result (IsCause (number_fault measures.old.items (fields_of line.now))) }
 {
     let name = field_at(line, 1);
-    if is_wrong_measure(name, before) {
+    if is_wrong_measure(name, measures) {
         return Err(LineFault::Refused(Code::Name));
     }
-    if columns + 1 > MAX_COLS {
+    if *columns + 1 > MAX_COLS {
         return Err(LineFault::Refused(Code::Limit));
     }
-    Ok(Measure {
-        name: name_of(alloc, name)?,
-        kind: Kind::Number,
-        first_col: columns as u32 + 1,
-    })
+    push_measure(alloc, measures, name, Kind::Number, *columns as u32 + 1)?;
+    *columns += 1;
+    Ok(())
 }
 
-/// The measure of distributions of a line with 5 to 10 fields, likewise.
-pub fn read_parts(
+/// Takes the measure of distributions of a line with 5 to 10 fields, likewise.
+pub fn take_parts(
     alloc: Global,
-    before: &[Measure],
-    columns: usize,
+    measures: &mut Vec<Measure>,
+    columns: &mut usize,
     line: &[u8],
-) -> Result<Measure, LineFault>
-    requires width { columns ≡ width_of_all before.now }
-    requires few { columns ≤ MAX_COLS }
+) -> Result<(), LineFault>
+    requires width { columns.old ≡ width_of_all measures.old.items }
+    requires few { columns.old ≤ MAX_COLS }
     requires least { 5 ≤ length (fields_of line.now) }
     requires most { length (fields_of line.now) ≤ 10 }
-    ensures read { IfOk result (λ measure. measure ≡ measure_behind before.now (field_at (fields_of line.now) 1) (parts_kind (fields_of line.now))) }
-    ensures next { IfOk result (IsNextMeasure before.now) }
-    ensures accepted { OnOk result (parts_fault before.now (fields_of line.now) ≡ None) }
-    ensures refused { IfErr result (IsCause (parts_fault before.now (fields_of line.now))) }
+    ensures made { OnOk result (measures.new.items ≡ measures.old.items ++ measure_behind measures.old.items (field_at (fields_of line.now) 1) (parts_kind (fields_of line.now)) ∷ []) }
+    ensures width { OnOk result (columns.new ≡ width_of_all measures.new.items) }
+    ensures accepted { OnOk result (parts_fault measures.old.items (fields_of line.now) ≡ None) }
+    ensures refused { IfErr result (IsCause (parts_fault measures.old.items (fields_of line.now))) }
 {
     let name = field_at(line, 1);
-    if is_wrong_measure(name, before) {
+    if is_wrong_measure(name, measures) {
         return Err(LineFault::Refused(Code::Name));
     }
-    let Some(outcomes) = read_outcomes(alloc, line)? else {
-        return Err(LineFault::Refused(Code::Name));
-    };
-    let Some(scale) = number_in(field_at(line, 2), MIN_SCALE, MAX_SCALE) else {
-        return Err(LineFault::Refused(Code::Number));
-    };
-    if columns + outcomes.as_slice().len() > MAX_COLS {
+    let kind = read_kind(alloc, line)?;
+    let first = *columns;
+    *columns += field_count(line) - 3;
+    if *columns > MAX_COLS {
         return Err(LineFault::Refused(Code::Limit));
     }
-    let scale = scale as u32;
-    Ok(Measure {
-        name: name_of(alloc, name)?,
-        kind: Kind::Parts { scale, outcomes },
-        first_col: columns as u32 + 1,
-    })
+    Ok(push_measure(alloc, measures, name, kind, first as u32 + 1)?)
+}
+
+/// The distribution of a line with 5 to 10 fields.
+fn read_kind(alloc: Global, line: &[u8]) -> Result<Kind, LineFault>
+    requires least { 5 ≤ length (fields_of line.now) }
+    ensures read { IfOk result (λ kind. kind ≡ parts_kind (fields_of line.now)) }
+    ensures accepted { OnOk result (kind_fault (fields_of line.now) ≡ None) }
+    ensures refused { IfErr result (IsCause (kind_fault (fields_of line.now))) }
+{
+    let scale = number_in(field_at(line, 2), MIN_SCALE, MAX_SCALE);
+    match (read_outcomes(alloc, line)?, scale) {
+        (None, _) => Err(LineFault::Refused(Code::Name)),
+        (Some(_), None) => Err(LineFault::Refused(Code::Number)),
+        (Some(outcomes), Some(scale)) => Ok(Kind::Parts {
+            scale: scale as u32,
+            outcomes,
+        }),
+    }
+}
+
+/// Appends a measure.
+fn push_measure(
+    alloc: Global,
+    measures: &mut Vec<Measure>,
+    name: &[u8],
+    kind: Kind,
+    first_col: u32,
+) -> Result<(), Memory>
+    requires { is_name name.now ≡ true }
+    ensures { OnOk result (measures.new.items ≡ measures.old.items ++ (record { name = name.now; kind = kind; first_col = first_col }) ∷ []) }
+{
+    let name = name_of(alloc, name)?;
+    measures.push(Measure {
+        name,
+        kind,
+        first_col,
+    })?;
+    Ok(())
 }
 
 /// The outcomes of a distribution: None where one of them is no name, or is a repeat.
@@ -124,14 +152,4 @@ pub fn has_name(measure: &Measure, bytes: &[u8]) -> bool
     ensures { result ≡ bytes_eq measure.now.name bytes.now }
 {
     has_bytes(&measure.name, bytes)
-}
-
-/// The number of columns of a measure.
-pub fn width(kind: &Kind) -> usize
-    ensures { result ≡ width_of kind.now }
-{
-    match kind {
-        Kind::Number => 1,
-        Kind::Parts { outcomes, .. } => outcomes.as_slice().len(),
-    }
 }

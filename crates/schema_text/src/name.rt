@@ -44,8 +44,16 @@ pub fn name_of(alloc: Global, bytes: &[u8]) -> Result<Name, Memory>
     requires { is_name bytes.now ≡ true }
     ensures { IfOk result (λ name. name ≡ bytes.now) }
 {
+    Ok(Name::new(alloc, text_of(bytes))?.unwrap())
+}
+
+/// The text of these bytes, which are a name.
+pub fn text_of(bytes: &[u8]) -> &str
+    requires { is_name bytes.now ≡ true }
+    ensures { result.now ≡ bytes.now }
+{
     match str::from_utf8(bytes) {
-        Ok(text) => Ok(Name::new(alloc, text)?.unwrap()),
+        Ok(text) => text,
         Err(_) => unreachable!(),
     }
 }

@@ -1,106 +1,126 @@
 //! The nodes so far of a dimension whose lines are read.
-ghost use Rattle.std.specs.Prelude.{◌≡◌, ◌<◌, ◌≤◌, ◌++◌, ◌∷◌, [], true, false, length, map, Some, None, if◌then◌else◌, IfOk, IfErr, OnOk, string_bytes, ◌==◌};
+ghost use Rattle.std.specs.Prelude.{◌≡◌, ◌≤◌, ◌++◌, ◌∷◌, [], true, false, length, map, Some, None, if◌then◌else◌, IfOk, IfErr, OnOk, string_bytes, ◌==◌};
 ghost use Rattle.cube_base.specs.declared.code.Code.TheVariants as code;
+ghost use Rattle.cube_base.specs.Name.{is_name};
+ghost use Rattle.cube_model.specs.Limits.{MAX_NODES};
 ghost use Rattle.cube_model.specs.Tree.{is_numbered};
 ghost use Rattle.std.specs.List.{list_any};
 ghost use Rattle.std.specs.Option.{option_and_then};
 ghost use Rattle.text_lines.specs.Text.{fields_of, number_in};
+ghost use Rattle.text_lines.specs.LineText.{field_at};
 ghost use Rattle.schema_text.specs.declared.word.Version.TheVariants as version;
-ghost use Rattle.schema_text.specs.Draft.{AreNodes, IsFree, IsNextNode, IsNextNumber, ended_fault, node_fault, taken_with};
-ghost use Rattle.schema_text.specs.Fault.{IsCause, listed};
-ghost use Rattle.schema_text.specs.SchemaText.{MAX_NUMBER, ended, free_number, is_among_names, is_wrong_depth, is_wrong_name, node_of_fields, number_of};
+ghost use Rattle.schema_text.specs.Draft.{AreNodes, IsFree, IsNextNumber, ended_fault, node_fault, taken_with, version_fault};
+ghost use Rattle.schema_text.specs.Fault.{IsCause};
+ghost use Rattle.schema_text.specs.Kept.{IsKept};
+ghost use Rattle.schema_text.specs.SchemaText.{MAX_NUMBER, ended, free_number, is_among_names, is_wrong_depth, is_wrong_name, node_of_fields, number_of, version_named};
 
 use crate::fault::LineFault;
-use crate::name::name_of;
-use crate::word::Version;
-use cube_base::{Code, Memory, Name};
+use crate::name::{name_of, text_of};
+use crate::word::{Version, version_named};
+use cube_base::{Code, Memory};
 use cube_model::{MAX_DEPTH, MAX_NODES, NumberedLine};
 use dim_tree::Dim;
 use indexmap::IndexSet;
 use std::alloc::Global;
-use std::marker::Model;
 use std::str;
 use text_lines::{field_at, number_in};
 
 /// The greatest number of a node.
 const MAX_NUMBER: u64 = 65_535;
 
-/// The nodes so far of the dimension that was named last. Contracts see the version and the nodes.
+/// The nodes so far of the dimension that was named last. What a fault leaves is not said.
 #[derive(Drop)]
 pub struct OpenDim {
-    version: Version,
-    nodes: Vec<NumberedLine>,
+    pub version: Version,
+    pub nodes: Vec<NumberedLine>,
     /// Their names, found by hash.
-    known: IndexSet<String>,
+    pub known: IndexSet<String>,
     /// Their numbers, found by hash; none in version 1, where they are their places.
-    taken: IndexSet<u32>,
-}
-
-impl Model for OpenDim {
-    ghost use Rattle.std.specs.Prelude.{map, string_bytes};
-    ghost use Rattle.schema_text.specs.Draft.{IsOpen, OpenNodes};
-
-    ghost Value = { OpenNodes };
-
-    ghost view = { λ d. record { version = d.version; nodes = d.nodes.items } };
-
-    ghost invariant = { λ d. IsOpen (record { version = d.version; nodes = d.nodes.items }) (map string_bytes d.known.keys) d.taken.keys };
+    pub taken: IndexSet<u32>,
 }
 
 impl OpenDim {
-    /// No node, in a version.
-    pub fn new(alloc: Global, version: Version) -> Self
-        ensures { result ≡ record { version = version; nodes = [] } }
+    /// No node, in version 1.
+    pub fn new(alloc: Global) -> Self
+        ensures version { result.version ≡ version.One }
+        ensures nodes { result.nodes.items ≡ [] }
+        ensures kept { IsKept result }
     {
         OpenDim {
-            version,
+            version: Version::One,
             nodes: Vec::new(alloc),
             known: IndexSet::new(alloc),
             taken: IndexSet::new(alloc),
         }
     }
 
-    /// The version.
-    pub fn version(&self) -> Version
-        ensures { result ≡ self.now.version }
+    /// Takes the version of a line, where there is no node.
+    pub fn take_version(&mut self, line: &[u8]) -> Result<(), LineFault>
+        requires none { self.old.nodes.items ≡ [] }
+        requires kept { IsKept self.old }
+        ensures version { OnOk result (version_named (field_at (fields_of line.now) 1) ≡ Some self.new.version) }
+        ensures nodes { self.new.nodes ≡ self.old.nodes }
+        ensures kept { OnOk result (IsKept self.new) }
+        ensures accepted { OnOk result (version_fault (fields_of line.now) ≡ None) }
+        ensures refused { IfErr result (IsCause (version_fault (fields_of line.now))) }
     {
-        self.version
+        match version_named(field_at(line, 1)) {
+            Some(version) => {
+                self.version = version;
+                Ok(())
+            }
+            None => Err(LineFault::Refused(Code::Number)),
+        }
     }
 
-    /// The node of a line that has as many fields as it wants, or the first of the conditions that refuse it.
-    pub fn read_node(&self, alloc: Global, line: &[u8]) -> Result<NumberedLine, LineFault>
-        ensures read { IfOk result (λ node. node ≡ node_of_fields self.now.version self.now.nodes (fields_of line.now)) }
-        ensures node { IfOk result (IsNextNode self.now.nodes) }
-        ensures number { IfOk result (λ node. IsNextNumber self.now.version self.now.nodes node.number) }
-        ensures accepted { OnOk result (node_fault self.now.version self.now.nodes (fields_of line.now) ≡ None) }
-        ensures refused { IfErr result (IsCause (node_fault self.now.version self.now.nodes (fields_of line.now))) }
+    /// Takes the node of a line that has as many fields as it wants.
+    pub fn take_node(&mut self, alloc: Global, line: &[u8]) -> Result<(), LineFault>
+        requires few { length self.old.nodes.items ≤ MAX_NODES }
+        requires kept { IsKept self.old }
+        ensures nodes { OnOk result (self.new.nodes.items ≡ self.old.nodes.items ++ node_of_fields self.old.version self.old.nodes.items (fields_of line.now) ∷ []) }
+        ensures version { self.new.version ≡ self.old.version }
+        ensures kept { OnOk result (IsKept self.new) }
+        ensures accepted { OnOk result (node_fault self.old.version self.old.nodes.items (fields_of line.now) ≡ None) }
+        ensures refused { IfErr result (IsCause (node_fault self.old.version self.old.nodes.items (fields_of line.now))) }
     {
-        let name = field_at(line, 2);
-        if self.is_wrong_name(name) {
-            return Err(LineFault::Refused(Code::Name));
+        match self.judge_node(line) {
+            Ok((depth, number)) => Ok(self.push_node(alloc, depth, field_at(line, 2), number)?),
+            Err(code) => Err(LineFault::Refused(code)),
+        }
+    }
+
+    /// The depth and the number of the node of a line, or the first of the conditions that refuse it.
+    fn judge_node(&self, line: &[u8]) -> Result<(u8, u32), Code>
+        requires few { length self.now.nodes.items ≤ MAX_NODES }
+        requires kept { IsKept self.now }
+        ensures read { IfOk result (λ read. node_of_fields self.now.version self.now.nodes.items (fields_of line.now) ≡ record { depth = read.0; name = field_at (fields_of line.now) 2; number = read.1 }) }
+        ensures number { IfOk result (λ read. number_of self.now.version self.now.nodes.items (fields_of line.now) ≡ Some read.1) }
+        ensures name { OnOk result (is_wrong_name (field_at (fields_of line.now) 2) (map (λ n. n.name) self.now.nodes.items) ≡ false) }
+        ensures accepted { OnOk result (node_fault self.now.version self.now.nodes.items (fields_of line.now) ≡ None) }
+        ensures refused { IfErr result (λ code. node_fault self.now.version self.now.nodes.items (fields_of line.now) ≡ Some code) }
+    {
+        if self.is_wrong_name(field_at(line, 2)) {
+            return Err(Code::Name);
         }
         let Some(depth) = number_in(field_at(line, 1), 0, u64::from(MAX_DEPTH)) else {
-            return Err(LineFault::Refused(Code::Number));
+            return Err(Code::Number);
         };
         let Some(number) = self.number_of(line) else {
-            return Err(LineFault::Refused(Code::Number));
+            return Err(Code::Number);
         };
-        if self.is_wrong_depth(depth) {
-            return Err(LineFault::Refused(Code::Depth));
+        if is_wrong_depth(&self.nodes, depth) {
+            return Err(Code::Depth);
         }
         if self.nodes.len() >= MAX_NODES {
-            return Err(LineFault::Refused(Code::Limit));
+            return Err(Code::Limit);
         }
-        Ok(NumberedLine {
-            depth: depth as u8,
-            name: name_of(alloc, name)?,
-            number,
-        })
+        Ok((depth as u8, number))
     }
 
     /// Whether bytes are no name, or that of a node.
     fn is_wrong_name(&self, name: &[u8]) -> bool
-        ensures { result ≡ is_wrong_name name.now (map (λ n. n.name) self.now.nodes) }
+        requires { IsKept self.now }
+        ensures { result ≡ is_wrong_name name.now (map (λ n. n.name) self.now.nodes.items) }
     {
         match str::from_utf8(name) {
             Ok(name) => !cube_base::is_name(name) || self.known.contains(name),
@@ -108,19 +128,11 @@ impl OpenDim {
         }
     }
 
-    /// Whether a node of a depth may not come next.
-    fn is_wrong_depth(&self, depth: u64) -> bool
-        ensures { result ≡ is_wrong_depth self.now.nodes depth }
-    {
-        match self.nodes.last() {
-            None => depth != 0,
-            Some(before) => depth == 0 || depth > u64::from(before.depth) + 1,
-        }
-    }
-
     /// The number of the node that comes next: None where its field is none, or the number is taken.
     fn number_of(&self, line: &[u8]) -> Option<u32>
-        ensures { result ≡ number_of self.now.version self.now.nodes (fields_of line.now) }
+        requires few { length self.now.nodes.items ≤ MAX_NODES }
+        requires kept { IsKept self.now }
+        ensures { result ≡ number_of self.now.version self.now.nodes.items (fields_of line.now) }
     {
         match self.version {
             Version::One => Some(self.nodes.len() as u32),
@@ -130,8 +142,9 @@ impl OpenDim {
 
     /// The number that bytes spell, where it is not taken, in version 2.
     fn free_number(&self, bytes: &[u8]) -> Option<u32>
-        requires { self.now.version ≡ version.Two }
-        ensures { result ≡ option_and_then (free_number self.now.nodes) (number_in 0 MAX_NUMBER bytes.now) }
+        requires two { self.now.version ≡ version.Two }
+        requires kept { IsKept self.now }
+        ensures { result ≡ option_and_then (free_number self.now.nodes.items) (number_in 0 MAX_NUMBER bytes.now) }
     {
         let number = number_in(bytes, 0, MAX_NUMBER)? as u32;
         if self.taken.contains(&number) {
@@ -141,77 +154,90 @@ impl OpenDim {
         }
     }
 
-    /// The nodes with one more, which may come next.
-    pub fn with_node(mut self, alloc: Global, node: NumberedLine) -> Result<Self, Memory>
-        requires node { IsNextNode self.nodes node }
-        requires number { IsNextNumber self.version self.nodes node.number }
-        ensures { IfOk result (λ next. next ≡ record self { nodes = self.nodes ++ node ∷ [] }) }
+    /// Puts a node behind the others.
+    fn push_node(
+        &mut self,
+        alloc: Global,
+        depth: u8,
+        name: &[u8],
+        number: u32,
+    ) -> Result<(), Memory>
+        requires name { is_wrong_name name.now (map (λ n. n.name) self.old.nodes.items) ≡ false }
+        requires number { IsNextNumber self.old.version self.old.nodes.items number }
+        requires kept { IsKept self.old }
+        ensures nodes { OnOk result (self.new.nodes.items ≡ self.old.nodes.items ++ (record { depth = depth; name = name.now; number = number }) ∷ []) }
+        ensures version { self.new.version ≡ self.old.version }
+        ensures kept { OnOk result (IsKept self.new) }
     {
-        add_known(alloc, &mut self.known, &node.name)?;
-        add_node(self.version, &mut self.taken, &mut self.nodes, node)?;
-        Ok(self)
+        add_known(alloc, &mut self.known, name)?;
+        add_taken(self.version, &mut self.taken, number)?;
+        add_node(alloc, &mut self.nodes, depth, name, number)
+    }
+
+    /// Ends the dimension, where there are nodes: it is appended to those that are ended. Nodes that were accepted one by one
+    /// are refused for their numbers alone.
+    pub fn end_into(&mut self, alloc: Global, dims: &mut Vec<Dim>) -> Result<(), LineFault>
+        requires nodes { AreNodes self.old.nodes.items }
+        requires kept { IsKept self.old }
+        ensures dims { OnOk result (dims.new.items ≡ dims.old.items ++ ended self.old.nodes.items) }
+        ensures nodes { OnOk result (self.new.nodes.items ≡ []) }
+        ensures version { self.new.version ≡ self.old.version }
+        ensures kept { OnOk result (IsKept self.new) }
+        ensures accepted { OnOk result (ended_fault self.old.nodes.items ≡ None) }
+        ensures refused { IfErr result (IsCause (ended_fault self.old.nodes.items)) }
+    {
+        if self.nodes.is_empty() {
+            return Ok(());
+        }
+        push_dim(alloc, dims, &self.nodes)?;
+        self.clear();
+        Ok(())
     }
 
     /// Takes all nodes away.
-    pub fn clear(&mut self)
-        ensures { self.new ≡ record self.old { nodes = [] } }
+    fn clear(&mut self)
+        ensures nodes { self.new.nodes.items ≡ [] }
+        ensures version { self.new.version ≡ self.old.version }
+        ensures kept { IsKept self.new }
     {
         self.nodes.clear();
         self.known.clear();
         self.taken.clear();
     }
+}
 
-    /// The dimension of the nodes, where there are any. Nodes that were accepted one by one are refused for their numbers
-    /// alone.
-    pub fn end(&self, alloc: Global) -> Result<Option<Dim>, LineFault>
-        ensures made { IfOk result (λ dim. listed dim ≡ ended self.now.nodes) }
-        ensures accepted { OnOk result (ended_fault self.now.nodes ≡ None) }
-        ensures refused { IfErr result (IsCause (ended_fault self.now.nodes)) }
-    {
-        if self.nodes.is_empty() {
-            return Ok(None);
-        }
-        Ok(Some(dim_of(alloc, &self.nodes)?))
+/// Whether a node of a depth may not come behind these.
+fn is_wrong_depth(nodes: &[NumberedLine], depth: u64) -> bool
+    ensures { result ≡ is_wrong_depth nodes.now depth }
+{
+    match nodes.last() {
+        None => depth != 0,
+        Some(before) => depth == 0 || depth > u64::from(before.depth) + 1,
     }
 }
 
-/// The dimension of nodes that were accepted one by one, of which there are some.
-fn dim_of(alloc: Global, nodes: &[NumberedLine]) -> Result<Dim, LineFault>
+/// Appends the dimension of nodes that were accepted one by one, of which there are some.
+fn push_dim(alloc: Global, dims: &mut Vec<Dim>, nodes: &[NumberedLine]) -> Result<(), LineFault>
     requires nodes { AreNodes nodes.now }
     requires some { 1 ≤ length nodes.now }
-    ensures made { IfOk result (λ dim. dim ≡ nodes.now) }
+    ensures made { OnOk result (dims.new.items ≡ dims.old.items ++ nodes.now ∷ []) }
     ensures accepted { OnOk result (is_numbered nodes.now ≡ true) }
     ensures refused { IfErr result (IsCause (if is_numbered nodes.now then None else Some code.Number)) }
 {
     match Dim::build_numbered(alloc, nodes) {
-        Ok(dim) => Ok(dim),
+        Ok(dim) => Ok(dims.push(dim)?),
         Err(fault) => Err(LineFault::of_numbers(fault)),
     }
 }
 
 /// Keeps a name that is none of these.
-fn add_known(alloc: Global, known: &mut IndexSet<String>, name: &Name) -> Result<(), Memory>
-    requires { is_among_names name.now (map string_bytes known.old.keys) ≡ false }
+fn add_known(alloc: Global, known: &mut IndexSet<String>, name: &[u8]) -> Result<(), Memory>
+    requires named { is_name name.now ≡ true }
+    requires new { is_among_names name.now (map string_bytes known.old.keys) ≡ false }
     ensures { OnOk result (map string_bytes known.new.keys ≡ map string_bytes known.old.keys ++ name.now ∷ []) }
 {
-    let is_new = known.insert(String::from_str(alloc, name.text())?)?;
+    let is_new = known.insert(String::from_str(alloc, text_of(name))?)?;
     prove!(is_new);
-    Ok(())
-}
-
-/// Keeps a node, and its number, which is none of these where the version gives numbers.
-fn add_node(
-    version: Version,
-    taken: &mut IndexSet<u32>,
-    nodes: &mut Vec<NumberedLine>,
-    node: NumberedLine,
-) -> Result<(), Memory>
-    requires { IsFree version taken.old.keys node.number }
-    ensures taken { OnOk result (taken.new.keys ≡ taken_with version taken.old.keys node.number) }
-    ensures nodes { OnOk result (nodes.new.items ≡ nodes.old.items ++ node ∷ []) }
-{
-    add_taken(version, taken, node.number)?;
-    nodes.push(node)?;
     Ok(())
 }
 
@@ -233,5 +259,25 @@ fn insert_number(taken: &mut IndexSet<u32>, number: u32) -> Result<(), Memory>
 {
     let is_new = taken.insert(number)?;
     prove!(is_new);
+    Ok(())
+}
+
+/// Appends a node.
+fn add_node(
+    alloc: Global,
+    nodes: &mut Vec<NumberedLine>,
+    depth: u8,
+    name: &[u8],
+    number: u32,
+) -> Result<(), Memory>
+    requires { is_name name.now ≡ true }
+    ensures { OnOk result (nodes.new.items ≡ nodes.old.items ++ (record { depth = depth; name = name.now; number = number }) ∷ []) }
+{
+    let name = name_of(alloc, name)?;
+    nodes.push(NumberedLine {
+        depth,
+        name,
+        number,
+    })?;
     Ok(())
 }

@@ -21,7 +21,7 @@ use std::alloc::Global;
 use text_lines::{field_at, is_text};
 
 /// A policy as its line gives it, before the measures are known.
-#[derive(Debug, Drop)]
+#[derive(Drop)]
 pub enum NamedPolicy {
     /// Every cell weighs the same.
     Uniform,
@@ -31,8 +31,18 @@ pub enum NamedPolicy {
     Weight(Name),
 }
 
+/// Takes the policy of a line that has as many fields as it wants.
+pub fn take_policy(alloc: Global, policy: &mut NamedPolicy, line: &[u8]) -> Result<(), LineFault>
+    ensures made { OnOk result (policy_named (field_at (fields_of line.now) 1) (field_at (fields_of line.now) 2) ≡ Some policy.new) }
+    ensures accepted { OnOk result (policy_fault (fields_of line.now) ≡ None) }
+    ensures refused { IfErr result (IsCause (policy_fault (fields_of line.now))) }
+{
+    *policy = read_policy(alloc, line)?;
+    Ok(())
+}
+
 /// The policy of a line that has as many fields as it wants, or the first of the conditions that refuse it.
-pub fn read_policy(alloc: Global, line: &[u8]) -> Result<NamedPolicy, LineFault>
+fn read_policy(alloc: Global, line: &[u8]) -> Result<NamedPolicy, LineFault>
     ensures read { IfOk result (λ policy. policy_named (field_at (fields_of line.now) 1) (field_at (fields_of line.now) 2) ≡ Some policy) }
     ensures accepted { OnOk result (policy_fault (fields_of line.now) ≡ None) }
     ensures refused { IfErr result (IsCause (policy_fault (fields_of line.now))) }

@@ -1,7 +1,9 @@
 //! Reading a schema.
-ghost use Rattle.std.specs.Prelude.{◌≡◌, ◌≤◌, length, Ok, IfOk, IfErr};
+ghost use Rattle.std.specs.Prelude.{◌≡◌, ◌≤◌, length, Ok, IfOk, IfErr, OnOk};
+ghost use Rattle.schema_text.specs.Draft.{read_with};
 ghost use Rattle.schema_text.specs.Fault.{HasCause};
-ghost use Rattle.schema_text.specs.SchemaText.{schema_of};
+ghost use Rattle.schema_text.specs.Kept.{IsReader, draft_of};
+ghost use Rattle.schema_text.specs.SchemaText.{blank_draft, schema_of};
 
 use crate::reader::Reader;
 use crate::schema::{Schema, SchemaFault};
@@ -49,6 +51,38 @@ pub fn read_schema(alloc: Global, text: &[u8]) -> Result<(Schema, usize), Schema
     ensures refused { IfErr result (HasCause text.now) }
 {
     let mut reader = Reader::new(alloc);
+    read_to_end(alloc, &mut reader, text)
+}
+
+/// Reads a schema, by a reader before its first line.
+fn read_to_end(
+    alloc: Global,
+    reader: &mut Reader,
+    text: &[u8],
+) -> Result<(Schema, usize), SchemaFault>
+    requires blank { draft_of reader.old ≡ blank_draft }
+    requires reader { IsReader reader.old }
+    ensures read { IfOk result (λ read. schema_of text.now ≡ Ok (record { schema = read.0; size = read.1 })) }
+    ensures within { IfOk result (λ read. read.1 ≤ length text.now) }
+    ensures refused { IfErr result (HasCause text.now) }
+{
+    let (lines, size) = read_lines(alloc, reader, text)?;
+    match reader.finish(alloc) {
+        Ok(schema) => Ok((schema, size)),
+        Err(fault) => Err(fault.at(lines)),
+    }
+}
+
+/// Takes the lines before the line `end`. Answers the number of that line, and how many bytes the text has up to there, the
+/// LF of that line included.
+fn read_lines(alloc: Global, reader: &mut Reader, text: &[u8]) -> Result<(u64, usize), SchemaFault>
+    requires blank { draft_of reader.old ≡ blank_draft }
+    requires reader { IsReader reader.old }
+    ensures read { IfOk result (λ read. schema_of text.now ≡ read_with (draft_of reader.new) read.0 read.1) }
+    ensures within { IfOk result (λ read. read.1 ≤ length text.now) }
+    ensures reader { OnOk result (IsReader reader.new) }
+    ensures refused { IfErr result (HasCause text.now) }
+{
     let mut rest = text;
     let mut lines = 0;
     while let Some((line, behind)) = first_line_of(rest) {
@@ -58,15 +92,11 @@ pub fn read_schema(alloc: Global, text: &[u8]) -> Result<(Schema, usize), Schema
             continue;
         }
         if is_end(line) {
-            return match reader.finish(alloc) {
-                Ok(schema) => Ok((schema, text.len() - rest.len())),
-                Err(fault) => Err(fault.at(lines)),
-            };
+            return Ok((lines, text.len() - rest.len()));
         }
-        reader = match reader.with_line(alloc, line) {
-            Ok(next) => next,
-            Err(fault) => return Err(fault.at(lines)),
-        };
+        if let Err(fault) = reader.take_line(alloc, line) {
+            return Err(fault.at(lines));
+        }
     }
     Err(SchemaFault::Bad {
         line: lines + 1,

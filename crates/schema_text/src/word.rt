@@ -1,12 +1,13 @@
 //! The words that a schema is made of.
 ghost use Rattle.std.specs.Prelude.{◌≡◌};
 ghost use Rattle.text_lines.specs.Text.{fields_of};
+ghost use Rattle.schema_text.specs.declared.word.SchemaWord.TheVariants as schema_word;
 ghost use Rattle.schema_text.specs.SchemaText.{has_wrong_count, is_end, is_weight_word, may_follow, node_field_count, policy_field_count, version_named, version_text, word_named};
 
 use text_lines::{field_at, field_count, is_text, without_cr};
 
 /// The first field of a line of a schema.
-#[derive(Clone, Copy, Debug, PartialEq, Eq)]
+#[derive(Clone, Copy)]
 pub enum SchemaWord {
     /// The version, on the first line.
     Cube,
@@ -25,7 +26,7 @@ pub enum SchemaWord {
 }
 
 /// The version of a schema's text.
-#[derive(Clone, Copy, Debug, PartialEq, Eq)]
+#[derive(Clone, Copy)]
 pub enum Version {
     /// The number of each node is its place in its dimension.
     One,
@@ -108,18 +109,31 @@ pub fn is_weight_word(bytes: &[u8]) -> bool
 pub fn may_follow(before: Option<SchemaWord>, word: SchemaWord) -> bool
     ensures { result ≡ may_follow before word }
 {
-    match before {
-        None => word == SchemaWord::Cube,
-        Some(SchemaWord::Cube) => word == SchemaWord::Policy,
-        Some(SchemaWord::Policy) | Some(SchemaWord::Number) | Some(SchemaWord::Parts) => {
-            word == SchemaWord::Number || word == SchemaWord::Parts || word == SchemaWord::Dimension
-        }
-        Some(SchemaWord::Dimension) => word == SchemaWord::Node,
-        Some(SchemaWord::Node) => {
-            word == SchemaWord::Node || word == SchemaWord::Dimension || word == SchemaWord::End
-        }
-        Some(SchemaWord::End) => false,
+    match word {
+        SchemaWord::Cube => before.is_none(),
+        SchemaWord::Policy => matches!(before, Some(SchemaWord::Cube)),
+        SchemaWord::Number | SchemaWord::Parts => is_before_measures(before),
+        SchemaWord::Dimension => is_before_measures(before) || is_node(before),
+        SchemaWord::Node => is_node(before) || matches!(before, Some(SchemaWord::Dimension)),
+        SchemaWord::End => is_node(before),
     }
+}
+
+/// Whether a line is one of the policy or of a measure.
+fn is_before_measures(before: Option<SchemaWord>) -> bool
+    ensures { result ≡ may_follow before schema_word.Number }
+{
+    matches!(
+        before,
+        Some(SchemaWord::Policy | SchemaWord::Number | SchemaWord::Parts)
+    )
+}
+
+/// Whether a line is that of a node.
+fn is_node(before: Option<SchemaWord>) -> bool
+    ensures { result ≡ may_follow before schema_word.End }
+{
+    matches!(before, Some(SchemaWord::Node))
 }
 
 /// Whether a line of a word has too few or too many fields in a version.

@@ -23,13 +23,8 @@ pub fn write_schema(alloc: Global, s: &Schema) -> Result<Bytes, Memory>
     ensures text { IfOk result (λ text. text ≡ schema_text s.now) }
     ensures reads { IfOk result (λ text. (rest : List ℕ) → schema_of (text ++ rest) ≡ Ok (record { schema = s.now; size = length text })) }
 {
-    let version = version_of(s.space());
     let mut out = Vec::new(alloc);
-    append_line(&mut out, "cube", version_text(version).as_bytes())?;
-    append_policy(&mut out, s)?;
-    append_measures(&mut out, s.shape())?;
-    append_dims(&mut out, version, s.space(), s.dim_names())?;
-    out.extend_from_slice(b"end\n")?;
+    append_schema(&mut out, s)?;
     Ok(Bytes::from(out))
 }
 
@@ -59,27 +54,37 @@ fn has_places(dim: &Dim) -> bool
 
 // Each of the following appends what it says, or, where memory is wanting, a part of it.
 
+/// Appends the text of a schema.
+fn append_schema(out: &mut Vec<u8>, s: &Schema) -> Result<(), Memory>
+    ensures text { OnOk result (out.new.items ≡ out.old.items ++ schema_text s.now) }
+    ensures schema { IsSchema s.now }
+{
+    let version = version_of(s.space());
+    append_line(out, "cube", version_text(version).as_bytes())?;
+    append_policy(out, s)?;
+    append_measures(out, s.shape())?;
+    append_dims(out, version, s.space(), s.dim_names())?;
+    append_bytes(out, b"end\n")
+}
+
 /// Appends the line of the policy.
 fn append_policy(out: &mut Vec<u8>, s: &Schema) -> Result<(), Memory>
     ensures { OnOk result (out.new.items ≡ out.old.items ++ policy_line s.now.measures s.now.policy) }
 {
-    out.extend_from_slice(b"policy")?;
-    append_policy_fields(out, s)?;
-    end_line(out)
+    match s.policy() {
+        PolicyWord::Uniform => append_line(out, "policy", b"uniform"),
+        PolicyWord::Count => append_line(out, "policy", b"count"),
+        PolicyWord::Weight(place) => append_weight(out, s.shape().measure(place)),
+    }
 }
 
-/// Appends the fields of the policy.
-fn append_policy_fields(out: &mut Vec<u8>, s: &Schema) -> Result<(), Memory>
-    ensures { OnOk result (out.new.items ≡ out.old.items ++ flat_map (λ field. 9 ∷ field) (policy_fields s.now.measures s.now.policy)) }
+/// Appends the line of the policy by the sum of a measure.
+fn append_weight(out: &mut Vec<u8>, measure: &Measure) -> Result<(), Memory>
+    ensures { OnOk result (out.new.items ≡ out.old.items ++ line_text (codes "policy") (codes "weight" ∷ measure.now.name ∷ [])) }
 {
-    match s.policy() {
-        PolicyWord::Uniform => append_field(out, b"uniform"),
-        PolicyWord::Count => append_field(out, b"count"),
-        PolicyWord::Weight(place) => {
-            append_field(out, b"weight")?;
-            append_field(out, s.shape().measure(place).name.text().as_bytes())
-        }
-    }
+    append_start(out, "policy", b"weight")?;
+    append_field(out, measure.name.text().as_bytes())?;
+    append_bytes(out, b"\n")
 }
 
 /// Appends the lines of the measures.
@@ -99,14 +104,18 @@ fn append_measure(out: &mut Vec<u8>, measure: &Measure) -> Result<(), Memory>
     let name = measure.name.text().as_bytes();
     match &measure.kind {
         Kind::Number => append_line(out, "number", name),
-        Kind::Parts { scale, outcomes } => {
-            out.extend_from_slice(b"parts")?;
-            append_field(out, name)?;
-            append_number(out, *scale)?;
-            append_names(out, outcomes)?;
-            end_line(out)
-        }
+        Kind::Parts { scale, outcomes } => append_parts(out, name, *scale, outcomes),
     }
+}
+
+/// Appends the line of a distribution.
+fn append_parts(out: &mut Vec<u8>, name: &[u8], scale: u32, outcomes: &Names) -> Result<(), Memory>
+    ensures { OnOk result (out.new.items ≡ out.old.items ++ line_text (codes "parts") (name.now ∷ decimal scale ∷ outcomes.now)) }
+{
+    append_start(out, "parts", name)?;
+    append_number(out, scale)?;
+    append_names(out, outcomes)?;
+    append_bytes(out, b"\n")
 }
 
 /// Appends the lines of the dimensions and their nodes.
@@ -141,11 +150,11 @@ fn append_node(out: &mut Vec<u8>, version: Version, dim: &Dim, node: u32) -> Res
     requires { node < length dim.now }
     ensures { OnOk result (option_map (λ e. out.old.items ++ node_line version e) (entry_of dim.now node) ≡ Some out.new.items) }
 {
-    out.extend_from_slice(b"node")?;
+    append_bytes(out, b"node")?;
     append_number(out, u32::from(dim.depth(node)))?;
     append_field(out, dim.name_of(node).as_bytes())?;
     append_number_of(out, version, node)?;
-    end_line(out)
+    append_bytes(out, b"\n")
 }
 
 /// Appends the number of a node, where the version has it.
@@ -162,9 +171,16 @@ fn append_number_of(out: &mut Vec<u8>, version: Version, node: u32) -> Result<()
 fn append_line(out: &mut Vec<u8>, word: &str, field: &[u8]) -> Result<(), Memory>
     ensures { OnOk result (out.new.items ≡ out.old.items ++ line_text word.now (field.now ∷ [])) }
 {
-    out.extend_from_slice(word.as_bytes())?;
-    append_field(out, field)?;
-    end_line(out)
+    append_start(out, word, field)?;
+    append_bytes(out, b"\n")
+}
+
+/// Appends the word and the first field of a line.
+fn append_start(out: &mut Vec<u8>, word: &str, field: &[u8]) -> Result<(), Memory>
+    ensures { OnOk result (out.new.items ≡ out.old.items ++ word.now ++ 9 ∷ field.now) }
+{
+    append_bytes(out, word.as_bytes())?;
+    append_field(out, field)
 }
 
 /// Appends a field for each name.
@@ -181,9 +197,8 @@ fn append_names(out: &mut Vec<u8>, names: &Names) -> Result<(), Memory>
 fn append_field(out: &mut Vec<u8>, field: &[u8]) -> Result<(), Memory>
     ensures { OnOk result (out.new.items ≡ out.old.items ++ 9 ∷ field.now) }
 {
-    out.push(b'\t')?;
-    out.extend_from_slice(field)?;
-    Ok(())
+    append_bytes(out, b"\t")?;
+    append_bytes(out, field)
 }
 
 /// Appends a number as a field.
@@ -193,10 +208,10 @@ fn append_number(out: &mut Vec<u8>, number: u32) -> Result<(), Memory>
     append_field(out, Buffer::new().format(number).as_bytes())
 }
 
-/// Ends the line.
-fn end_line(out: &mut Vec<u8>) -> Result<(), Memory>
-    ensures { OnOk result (out.new.items ≡ out.old.items ++ 10 ∷ []) }
+/// Appends bytes.
+fn append_bytes(out: &mut Vec<u8>, bytes: &[u8]) -> Result<(), Memory>
+    ensures { OnOk result (out.new.items ≡ out.old.items ++ bytes.now) }
 {
-    out.push(b'\n')?;
+    out.extend_from_slice(bytes)?;
     Ok(())
 }
