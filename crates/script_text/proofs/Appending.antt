@@ -13,6 +13,14 @@ pub always : {T E P : Type 0} (r : Result T E) → P → OnErr r P
 always (Ok x) p = tt
 always (Err e) p = p
 
+-- three parts behind a text, one behind the other
+pub appended-three : (old a b c first second new : List ℕ) → first ≡ old ++ a → second ≡ first ++ b → new ≡ second ++ c → new ≡ old ++ (a ++ (b ++ c))
+appended-three old a b c first second new here there last = rw (last, there, here) (simp append_assoc)
+
+-- and three fields
+pub fields_text-three : (a b c old first second new : List ℕ) → first ≡ old ++ 9 ∷ a → second ≡ first ++ 9 ∷ b → new ≡ second ++ 9 ∷ c → new ≡ old ++ fields_text (a ∷ b ∷ c ∷ [])
+fields_text-three a b c old first second new here there last = rw (last, there, here) (simp (append_assoc, append-nil))
+
 -- what keeps a longer text keeps its front
 pub Keeps-front : (old known between new : List ℕ) → between ≡ old ++ known → Keeps between new → Keeps old new
 Keeps-front old known between new parts keeps =

@@ -1,4 +1,7 @@
 pub mod Appending
+pub mod Digits
 pub mod LineSteps
+pub mod NamedRegions
+pub mod ReadBack
 pub mod RowNames
 pub mod TermsAt

@@ -6,8 +6,9 @@ use Rattle.text_lines.specs.Text.{fields_of}
 use Rattle.text_lines.proofs.LineTexts.{IsAsItsFront-long}
 use Rattle.schema_text.specs.Schema.{SchemaValue}
 use Rattle.script_text.specs.declared.line.Line.TheVariants as line
-use Rattle.script_text.specs.declared.line.ScriptWord.{ScriptWord}
-use Rattle.script_text.specs.ScriptLine.{command_line, command_named, field_count_of, line_given, line_of}
+use Rattle.script_text.specs.declared.word.ScriptWord.{ScriptWord}
+use Rattle.script_text.specs.ScriptLine.{command_line, field_count_of, line_given, line_of}
+use Rattle.script_text.specs.ScriptWord.{word_spelled}
 
 -- where the number of fields is right, those behind the command say what the line does
 pub command_line-right : (schema : SchemaValue) (word : ScriptWord) (name : List ℕ) (fields : List (List ℕ)) → length (name ∷ fields) ≡ field_count_of schema word → command_line schema (name ∷ fields) (Some word) ≡ line_given schema word fields
@@ -28,7 +29,7 @@ unfolding line_of
 line_of-not_clean schema bytes skipped long clean = rw (← skipped, ← long, ← clean) refl
 
 pub line_of-clean : (schema : SchemaValue) (bytes text : List ℕ) → false ≡ is_skipped bytes → false ≡ is_long bytes → true ≡ is_clean (without_cr bytes) → text ≡ without_cr bytes
-    → command_line schema (fields_of text) (command_named (field_at (fields_of text) 0)) ≡ line_of schema bytes
+    → command_line schema (fields_of text) (word_spelled (field_at (fields_of text) 0)) ≡ line_of schema bytes
 unfolding line_of
 line_of-clean schema bytes text skipped long clean same = rw (same, ← skipped, ← long, ← clean) refl
 

@@ -1,5 +1,7 @@
+pub mod Decimals
 pub mod Examples
 pub mod LineOf
 pub mod Reply
 pub mod ReplySteps
 pub mod ScriptLine
+pub mod ScriptWord

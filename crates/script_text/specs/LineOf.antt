@@ -2,6 +2,9 @@
 use Rattle.std.specs.Prelude.{◌≡◌, ℕ, List, Err, ⊤}
 use Rattle.cube_model.specs.Facts.{IsId}
 use Rattle.region_algebra.specs.Space.{IsRegion}
+use Rattle.fact_records.specs.declared.measure_reader.MeasureKind.{MeasureKind}
+use Rattle.fact_records.specs.declared.measure_reader.MeasureKind.TheVariants as kind
+use Rattle.fact_records.specs.MeasureFields.{IsMeasureOf}
 use Rattle.fact_records.specs.Valid.{IsEditOf}
 use Rattle.schema_text.specs.Schema.{SchemaValue, shape_of}
 use Rattle.script_text.specs.declared.line.Line.{Line}
@@ -10,11 +13,22 @@ use Rattle.script_text.specs.declared.line.LineFault.{LineFault}
 use Rattle.script_text.specs.declared.line.LineFault.TheVariants as fault
 use Rattle.script_text.specs.ScriptLine.{line_of}
 
+-- a measure of a kind, by its place, and a region
+pub record IsMeasureOver (schema : SchemaValue) (wanted : MeasureKind) (measure : ℕ) (region : List ℕ) : Type 0 where
+  pub nodes : IsRegion schema.dims region
+  pub known : IsMeasureOf (shape_of schema) wanted measure
+
+-- what a line names is there
 abbrev pub IsLineOf : SchemaValue → Line → Type 0
 IsLineOf schema line.Nothing = ⊤
 IsLineOf schema (line.Edit change) = IsEditOf (shape_of schema) schema.dims change
+IsLineOf schema (line.Count region) = IsRegion schema.dims region
+IsLineOf schema (line.Sum measure region) = IsMeasureOver schema kind.Number measure region
+IsLineOf schema (line.Avg measure region) = IsMeasureOver schema kind.Number measure region
+IsLineOf schema (line.Pool measure region) = IsMeasureOver schema kind.Parts measure region
 IsLineOf schema (line.Terms region) = IsRegion schema.dims region
 IsLineOf schema (line.Rows id) = IsId id
+IsLineOf schema (line.Worlds region) = IsRegion schema.dims region
 
 -- where a line is refused, this is its code; want of memory says nothing of it
 abbrev pub IsFaultOf : SchemaValue → List ℕ → LineFault → Type 0

@@ -1,5 +1,5 @@
 -- The text of a reply over the dimensions whose cells it names.
-use Rattle.std.specs.Prelude.{ℕ, List, [], ◌∷◌, ◌++◌, length, map, codes, slice_get, ⊤}
+use Rattle.std.specs.Prelude.{ℕ, List, [], ◌∷◌, ◌++◌, length, map, codes, slice_get, ⊤, ℤ}
 use Rattle.std.specs.Option.{option_map_or}
 use Rattle.std.specs.List.{flat_map}
 use Rattle.std.specs.Fmt.{decimal, signed_decimal}
@@ -9,7 +9,8 @@ use Rattle.cube_model.specs.Cells.{AreRows, all_cells}
 use Rattle.text_lines.specs.Text.{line_text}
 use Rattle.cube_model.specs.Tree.{Dimension, entry_of}
 use Rattle.script_text.specs.declared.reply.Reply.{Reply}
-use Rattle.script_text.specs.declared.reply.Reply.TheVariants.{Ok, Error, Terms, Rows}
+use Rattle.script_text.specs.declared.reply.Reply.TheVariants.{Ok, Error, Count, Sum, Avg, Pool, Terms, Rows, Worlds}
+use Rattle.script_text.specs.Decimals.{pool_fields, quotient_fields, value_fields}
 
 -- the denominator of a term and all its numerators, that of the count first
 abbrev pub term_fields : Term → List (List ℕ)
@@ -36,19 +37,33 @@ row_fields dims row = option_map_or (names_of dims) (slice_get (all_cells dims) 
 abbrev pub rows_fields : List Dimension → ℕ → List (ℕ × ℕ) → List (List ℕ)
 rows_fields dims den rows = decimal den ∷ decimal (length rows) ∷ flat_map (row_fields dims) rows
 
+-- the number of the worlds, their mass, and the total of each column
+abbrev pub worlds_fields : ℕ → ℕ → List ℤ → List (List ℕ)
+worlds_fields worlds mass totals = decimal worlds ∷ decimal mass ∷ map signed_decimal totals
+
 -- the first field of a reply
 abbrev pub word_of_reply : Reply → List ℕ
 word_of_reply (Ok _) = codes "ok"
 word_of_reply (Error _) = codes "error"
+word_of_reply (Count _) = codes "count"
+word_of_reply (Sum _) = codes "sum"
+word_of_reply (Avg _) = codes "avg"
+word_of_reply (Pool _) = codes "pool"
 word_of_reply (Terms _) = codes "terms"
 word_of_reply (Rows _ _) = codes "rows"
+word_of_reply (Worlds _ _ _) = codes "worlds"
 
 -- its further fields
 abbrev pub fields_of_reply : List Dimension → Reply → List (List ℕ)
 fields_of_reply dims (Ok refreshed) = decimal refreshed ∷ []
 fields_of_reply dims (Error code) = word_of code ∷ []
+fields_of_reply dims (Count value) = value_fields value
+fields_of_reply dims (Sum value) = value_fields value
+fields_of_reply dims (Avg quotient) = quotient_fields quotient
+fields_of_reply dims (Pool quotients) = pool_fields quotients
 fields_of_reply dims (Terms list) = terms_fields list.terms
 fields_of_reply dims (Rows den rows) = rows_fields dims den rows
+fields_of_reply dims (Worlds worlds mass totals) = worlds_fields worlds mass totals
 
 abbrev pub reply_text : List Dimension → Reply → List ℕ
 reply_text dims reply = line_text (word_of_reply reply) (fields_of_reply dims reply)
@@ -57,5 +72,10 @@ reply_text dims reply = line_text (word_of_reply reply) (fields_of_reply dims re
 abbrev pub NamesCells : List Dimension → Reply → Type 0
 NamesCells dims (Ok _) = ⊤
 NamesCells dims (Error _) = ⊤
+NamesCells dims (Count _) = ⊤
+NamesCells dims (Sum _) = ⊤
+NamesCells dims (Avg _) = ⊤
+NamesCells dims (Pool _) = ⊤
 NamesCells dims (Terms _) = ⊤
 NamesCells dims (Rows _ rows) = AreRows dims rows
+NamesCells dims (Worlds _ _ _) = ⊤

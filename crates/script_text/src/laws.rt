@@ -1,19 +1,27 @@
 //! Laws of the definitions, and examples that are computed from them. The functions do nothing: each law is the contract.
-ghost use Rattle.std.specs.Prelude.{◌≡◌, ℕ, ◌<◌, List, [], ◌∷◌, ◌++◌, Ok, Err, codes, length, map, negsuc, pos, replicate, take};
+ghost use Rattle.std.specs.Prelude.{◌≡◌, ℕ, ◌<◌, List, [], ◌∷◌, ◌++◌, None, Some, Ok, Err, codes, length, map, ℤ, negsuc, pos, replicate, take};
 ghost use Rattle.cube_base.specs.declared.code.Code.TheVariants as code;
 ghost use Rattle.cube_model.specs.declared.edit.Edit.TheVariants as edit;
 ghost use Rattle.text_lines.specs.LineText.{LINE_FRONT};
 ghost use Rattle.region_algebra.specs.Examples.{small_space};
 ghost use Rattle.fact_records.specs.Examples.{fact_at};
 ghost use Rattle.schema_text.specs.Schema.{SchemaValue};
+ghost use Rattle.exact_fraction.specs.declared.quotients.Quotient.TheVariants.{Is, Undefined};
 ghost use Rattle.script_text.specs.declared.line.Line.TheVariants as line;
+ghost use Rattle.script_text.specs.Decimals.{pool_fields, quotient_fields, units_in, units_text, value_fields};
 ghost use Rattle.script_text.specs.Examples.{counted, graded, line_with, weighed};
-ghost use Rattle.script_text.specs.Reply.{rows_fields, terms_fields};
+ghost use Rattle.script_text.specs.Reply.{rows_fields, terms_fields, worlds_fields};
 ghost use Rattle.script_text.specs.ScriptLine.{line_of};
 
 /// A line of more than 4,097 bytes says what its first 4,097 bytes say.
 pub fn long_line_says_what_its_front_says()
     ensures { (schema : SchemaValue) (line : List ℕ) → LINE_FRONT < length line → line_of schema line ≡ line_of schema (take LINE_FRONT line) }
+{}
+
+/// A printed bound gives back its number of units. So what is known of a bound is known of its text: that of the lower bound
+/// is not above the value, and that of the upper bound not below it.
+pub fn printed_bounds_read_back()
+    ensures { (units : ℤ) → units_in (units_text units) ≡ Some units }
 {}
 
 /// Lines that are accepted. CR is 13.
@@ -24,6 +32,11 @@ pub fn worked_lines()
     ensures terms { map (line_of counted) (line_with (codes "terms") (codes "c" ∷ codes "a" ∷ []) ∷ (line_with (codes "terms") (codes "c" ∷ codes "a" ∷ []) ++ 13 ∷ []) ∷ [])
         ≡ replicate 2 (Ok (line.Terms (2 ∷ 0 ∷ []))) }
     ensures rows { line_of counted (line_with (codes "rows") (codes "4" ∷ [])) ≡ Ok (line.Rows 4) }
+    ensures worlds { line_of graded (line_with (codes "worlds") (codes "b" ∷ codes "a" ∷ [])) ≡ Ok (line.Worlds (1 ∷ 0 ∷ [])) }
+    ensures count { line_of graded (line_with (codes "count") (codes "b" ∷ codes "a" ∷ [])) ≡ Ok (line.Count (1 ∷ 0 ∷ [])) }
+    ensures sum { line_of graded (line_with (codes "sum") (codes "n" ∷ codes "b" ∷ codes "a" ∷ [])) ≡ Ok (line.Sum 1 (1 ∷ 0 ∷ [])) }
+    ensures average { line_of graded (line_with (codes "avg") (codes "n" ∷ codes "c" ∷ codes "b" ∷ [])) ≡ Ok (line.Avg 1 (2 ∷ 1 ∷ [])) }
+    ensures pool { line_of graded (line_with (codes "pool") (codes "p" ∷ codes "a" ∷ codes "b" ∷ [])) ≡ Ok (line.Pool 0 (0 ∷ 1 ∷ [])) }
     ensures nothing { map (line_of counted) ([] ∷ (13 ∷ []) ∷ codes "#x" ∷ (35 ∷ replicate 5000 255) ∷ []) ≡ replicate 4 (Ok line.Nothing) }
     ensures negative { line_of weighed (line_with (codes "insert") (codes "4" ∷ codes "b" ∷ codes "b" ∷ codes "-5" ∷ codes "5" ∷ []))
         ≡ Ok (line.Edit (edit.Put (record { id = 4; region = 1 ∷ 1 ∷ []; cols = negsuc 4 ∷ pos 5 ∷ [] }))) }
@@ -41,16 +54,35 @@ pub fn worked_refusals()
     ensures id { map (line_of counted) (line_with (codes "insert") (codes "0" ∷ codes "x" ∷ codes "b" ∷ codes "+5" ∷ []) ∷ line_with (codes "change") (codes "01" ∷ codes "b" ∷ codes "b" ∷ codes "5" ∷ [])
         ∷ line_with (codes "withdraw") (codes "9223372036854775808" ∷ []) ∷ line_with (codes "rows") ([] ∷ []) ∷ []) ≡ replicate 4 (Err code.Id) }
     ensures node { map (line_of counted) (line_with (codes "insert") (codes "1" ∷ codes "x" ∷ codes "b" ∷ codes "+5" ∷ []) ∷ line_with (codes "change") (codes "1" ∷ codes "b" ∷ codes "g" ∷ codes "5" ∷ [])
-        ∷ line_with (codes "terms") (codes "b" ∷ [] ∷ []) ∷ line_with (codes "terms") (codes "B" ∷ codes "b" ∷ []) ∷ []) ≡ replicate 4 (Err code.Node) }
+        ∷ line_with (codes "terms") (codes "b" ∷ [] ∷ []) ∷ line_with (codes "worlds") (codes "B" ∷ codes "b" ∷ []) ∷ []) ≡ replicate 4 (Err code.Node) }
+    ensures node_first { map (line_of graded) (line_with (codes "sum") (codes "x" ∷ codes "x" ∷ codes "b" ∷ []) ∷ line_with (codes "avg") (codes "p" ∷ codes "b" ∷ codes "x" ∷ [])
+        ∷ line_with (codes "pool") (codes "n" ∷ codes "n" ∷ codes "b" ∷ []) ∷ line_with (codes "count") (codes "x" ∷ codes "x" ∷ []) ∷ []) ≡ replicate 4 (Err code.Node) }
+    ensures measure { map (line_of graded) (line_with (codes "sum") (codes "x" ∷ codes "b" ∷ codes "b" ∷ []) ∷ line_with (codes "sum") (codes "p" ∷ codes "b" ∷ codes "b" ∷ [])
+        ∷ line_with (codes "avg") (codes "p" ∷ codes "b" ∷ codes "b" ∷ []) ∷ line_with (codes "avg") (codes "b" ∷ codes "b" ∷ codes "b" ∷ []) ∷ line_with (codes "pool") (codes "n" ∷ codes "b" ∷ codes "b" ∷ [])
+        ∷ line_with (codes "pool") ([] ∷ codes "b" ∷ codes "b" ∷ []) ∷ []) ≡ replicate 6 (Err code.Measure) }
+    ensures fields_first { map (line_of graded) (line_with (codes "count") (codes "x" ∷ []) ∷ line_with (codes "count") (codes "n" ∷ codes "b" ∷ codes "b" ∷ []) ∷ line_with (codes "sum") (codes "b" ∷ codes "b" ∷ [])
+        ∷ line_with (codes "avg") (codes "x" ∷ codes "x" ∷ codes "b" ∷ codes "b" ∷ []) ∷ line_with (codes "pool") (codes "n" ∷ codes "x" ∷ []) ∷ codes "sum" ∷ []) ≡ replicate 6 (Err code.Fields) }
     ensures value { map (line_of graded) (line_with (codes "insert") (codes "1" ∷ codes "b" ∷ codes "b" ∷ codes "80:21" ∷ codes "+5" ∷ []) ∷ line_with (codes "change") (codes "1" ∷ codes "b" ∷ codes "b" ∷ codes "80:20" ∷ codes "05" ∷ []) ∷ []) ≡ replicate 2 (Err code.Value) }
     ensures parts { map (line_of graded) (line_with (codes "insert") (codes "1" ∷ codes "b" ∷ codes "b" ∷ codes "80:21" ∷ codes "5" ∷ []) ∷ line_with (codes "change") (codes "1" ∷ codes "b" ∷ codes "b" ∷ codes "100" ∷ codes "5" ∷ []) ∷ []) ≡ replicate 2 (Err code.Parts) }
     ensures negative { line_of weighed (line_with (codes "insert") (codes "4" ∷ codes "b" ∷ codes "b" ∷ codes "5" ∷ codes "-5" ∷ [])) ≡ Err code.Value }
 {}
 
-/// The fields of replies.
+/// The fields of replies: terms, numbers, quotients, rows and worlds.
 pub fn worked_replies()
     ensures no_terms { terms_fields [] ≡ codes "0" ∷ [] }
     ensures terms { terms_fields (record { den = 1; count = 2; sums = pos 400 ∷ [] } ∷ record { den = 3; count = 2; sums = negsuc 1199 ∷ [] } ∷ [])
         ≡ codes "2" ∷ codes "1" ∷ codes "2" ∷ codes "400" ∷ codes "3" ∷ codes "2" ∷ codes "-1200" ∷ [] }
+    ensures fraction { value_fields (record { lo = pos 2666666666; hi = pos 2666666667; exact = Some (pos 8, 3) }) ≡ codes "2.666666666" ∷ codes "2.666666667" ∷ codes "8/3" ∷ [] }
+    ensures whole { value_fields (record { lo = pos 800000000000; hi = pos 800000000000; exact = Some (pos 800, 1) }) ≡ codes "800.000000000" ∷ codes "800.000000000" ∷ codes "800" ∷ [] }
+    ensures zero { value_fields (record { lo = pos 0; hi = pos 0; exact = Some (pos 0, 1) }) ≡ codes "0.000000000" ∷ codes "0.000000000" ∷ codes "0" ∷ [] }
+    ensures below_zero { value_fields (record { lo = negsuc 333333333; hi = negsuc 333333332; exact = Some (negsuc 0, 3) }) ≡ codes "-0.333333334" ∷ codes "-0.333333333" ∷ codes "-1/3" ∷ [] }
+    ensures whole_below_zero { value_fields (record { lo = negsuc 1999999999; hi = negsuc 1999999999; exact = Some (negsuc 1, 1) }) ≡ codes "-2.000000000" ∷ codes "-2.000000000" ∷ codes "-2" ∷ [] }
+    ensures wide { value_fields (record { lo = negsuc 0; hi = pos 1000000001; exact = None }) ≡ codes "-0.000000001" ∷ codes "1.000000001" ∷ codes "wide" ∷ [] }
+    ensures average { quotient_fields (Is (Some (pos 262500000000)) (Some (pos 262500000000)) (Some (pos 525, 2))) ≡ codes "262.500000000" ∷ codes "262.500000000" ∷ codes "525/2" ∷ [] }
+    ensures no_bounds { quotient_fields (Is None None None) ≡ codes "-" ∷ codes "-" ∷ codes "wide" ∷ [] }
+    ensures undefined { quotient_fields Undefined ≡ [] }
+    ensures pool { pool_fields (Is (Some (pos 700000000)) (Some (pos 700000000)) (Some (pos 7, 10)) ∷ Is (Some (pos 300000000)) (Some (pos 300000000)) (Some (pos 3, 10)) ∷ [])
+        ≡ codes "0.700000000" ∷ codes "0.700000000" ∷ codes "7/10" ∷ codes "0.300000000" ∷ codes "0.300000000" ∷ codes "3/10" ∷ [] }
+    ensures worlds { worlds_fields 2 3 (pos 8 ∷ negsuc 2399 ∷ []) ≡ codes "2" ∷ codes "3" ∷ codes "8" ∷ codes "-2400" ∷ [] }
     ensures rows { rows_fields small_space 3 ((0, 2) ∷ (2, 1) ∷ []) ≡ codes "3" ∷ codes "2" ∷ codes "c" ∷ codes "b" ∷ codes "2" ∷ codes "d" ∷ codes "b" ∷ codes "1" ∷ [] }
 {}

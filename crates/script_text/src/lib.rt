@@ -6,10 +6,16 @@ mod line;
 mod line_reader;
 mod reply;
 mod reply_fields;
+mod reply_numbers;
 mod reply_rows;
 mod reply_terms;
+mod reply_worlds;
+mod word;
 
-pub use laws::{long_line_says_what_its_front_says, worked_lines, worked_refusals, worked_replies};
+pub use laws::{
+    long_line_says_what_its_front_says, printed_bounds_read_back, worked_lines, worked_refusals,
+    worked_replies,
+};
 pub use line::{Line, LineFault};
 pub use line_reader::read_line;
 pub use reply::{Reply, append_reply, write_reply};

@@ -1,19 +1,6 @@
 //! What a line of a script says.
-ghost use Rattle.std.specs.Prelude.{◌≡◌};
-ghost use Rattle.script_text.specs.ScriptLine.{command_named};
-
 use cube_base::Code;
 use cube_model::{Edit, Region};
-
-/// The first field of a line of a script.
-#[derive(Clone, Copy, Debug, PartialEq, Eq)]
-pub enum ScriptWord {
-    Insert,
-    Change,
-    Withdraw,
-    Terms,
-    Rows,
-}
 
 /// What a line of a script says.
 #[derive(Clone, Copy, Debug)]
@@ -22,10 +9,20 @@ pub enum Line {
     Nothing,
     /// `insert|ID|NODE..|VALUE..`, `change|ID|NODE..|VALUE..` or `withdraw|ID`: an edit of the facts.
     Edit(Edit),
+    /// `count|NODE..`: how much the facts in a region count.
+    Count(Region),
+    /// `sum|MEASURE|NODE..`: the sum of the number measure at this place over a region.
+    Sum { measure: u32, region: Region },
+    /// `avg|MEASURE|NODE..`: that sum divided by the count.
+    Avg { measure: u32, region: Region },
+    /// `pool|MEASURE|NODE..`: the pooled distribution of the parts measure at this place over a region.
+    Pool { measure: u32, region: Region },
     /// `terms|NODE..`: what the facts in a region add up to.
     Terms(Region),
     /// `rows|ID`: how a fact is spread.
     Rows(u64),
+    /// `worlds|NODE..`: what all possible worlds of the facts come to in a region.
+    Worlds(Region),
 }
 
 /// Why a line of a script is not read.
@@ -35,23 +32,4 @@ pub enum LineFault {
     Code(Code),
     /// Want of memory.
     Memory,
-}
-
-/// The command that a field spells.
-pub fn command_named(field: &str) -> Option<ScriptWord>
-    ensures { result ≡ command_named field.now }
-{
-    if field == "insert" {
-        Some(ScriptWord::Insert)
-    } else if field == "change" {
-        Some(ScriptWord::Change)
-    } else if field == "withdraw" {
-        Some(ScriptWord::Withdraw)
-    } else if field == "terms" {
-        Some(ScriptWord::Terms)
-    } else if field == "rows" {
-        Some(ScriptWord::Rows)
-    } else {
-        None
-    }
 }

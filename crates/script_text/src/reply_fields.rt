@@ -1,5 +1,6 @@
 //! The fields of a reply.
 ghost use Rattle.std.specs.Prelude.{◌≡◌, ◌∷◌, ◌++◌, OnOk, OnErr};
+ghost use Rattle.std.specs.Fmt.{signed_decimal};
 ghost use Rattle.script_text.specs.ReplySteps.{Keeps};
 
 use cube_base::Memory;
@@ -13,6 +14,14 @@ pub fn append_number<I: Integer>(text: &mut Vec<u8>, number: I) -> Result<(), Me
     ensures err { OnErr result (Keeps text.old.items text.new.items) }
 {
     append_field(text, Buffer::new().format(number).as_bytes())
+}
+
+/// Appends TAB and a number with its sign.
+pub fn append_signed(text: &mut Vec<u8>, number: i128) -> Result<(), Memory>
+    ensures ok { OnOk result (text.new.items ≡ text.old.items ++ 9 ∷ signed_decimal number) }
+    ensures err { OnErr result (Keeps text.old.items text.new.items) }
+{
+    append_number(text, number)
 }
 
 /// Appends TAB and these bytes.

@@ -4,7 +4,7 @@ ghost use Rattle.group_sum.specs.Place.{term_at};
 ghost use Rattle.script_text.specs.Reply.{term_fields, terms_fields};
 ghost use Rattle.script_text.specs.ReplySteps.{Keeps, fields_text};
 
-use crate::reply_fields::append_number;
+use crate::reply_fields::{append_number, append_signed};
 use cube_base::Memory;
 use group_sum::Terms;
 
@@ -29,7 +29,7 @@ fn append_term(text: &mut Vec<u8>, terms: &Terms, i: u64) -> Result<(), Memory>
     let den = terms.den_at(i);
     append_number(text, den)?;
     for column in 0..terms.columns() {
-        append_number(text, terms.num_at(i, column))?;
+        append_signed(text, terms.num_at(i, column))?;
     }
     Ok(())
 }

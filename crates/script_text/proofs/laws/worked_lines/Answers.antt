@@ -13,6 +13,11 @@ returns c = record {
   withdraw = refl;
   terms = refl;
   rows = refl;
+  worlds = refl;
   nothing = refl;
   negative = refl;
+  count = refl;
+  sum = refl;
+  average = refl;
+  pool = refl;
 }

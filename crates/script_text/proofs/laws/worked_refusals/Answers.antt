@@ -18,4 +18,7 @@ returns c = record {
   value = refl;
   parts = refl;
   negative = refl;
+  node_first = refl;
+  measure = refl;
+  fields_first = refl;
 }

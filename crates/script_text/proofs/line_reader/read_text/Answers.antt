@@ -13,4 +13,4 @@ returns-clause-line c =
     let cut = sym c.new-fields.ensures ∙ c.next_field.ensures in
     let count : length (c.next_field.result.now ∷ c.next_field.new.self) ≡ field_count_of c.args.schema.now c.in-Some.word =
     ap length (sym cut) ∙ sym (rw c.as_bytes.ensures.value at c.field_count.ensures) ∙ c.if-field_count-count_of.false ∙ c.count_of.ensures in
-    rw (cut, ← c.in-Some.ensures) (c.read_command.ensures.line ∙ sym (command_line-right c.args.schema.now c.in-Some.word c.next_field.result.now c.next_field.new.self count))
+    rw (cut, ← c.in-Some.ensures) (c.read_fields.ensures.line ∙ sym (command_line-right c.args.schema.now c.in-Some.word c.next_field.result.now c.next_field.new.self count))

@@ -9,8 +9,8 @@ use Rattle.script_text.proofs.Appending.{Keeps-front, always, numerators-all, nu
 use Rattle.script_text.proofs.TermsAt.{length-numerators, term_at-read}
 use Rattle.script_text.proofs.reply_terms.append_term.Goals as goal
 
-pub returns-in_err-append_number-2-clause-err : goal.returns-in_err-append_number-2-clause-err
-returns-in_err-append_number-2-clause-err c = always _ (Keeps-front _ _ _ _ c.loop-column.invariant c.in_err-append_number-2.ensures.err)
+pub returns-in_err-append_signed-clause-err : goal.returns-in_err-append_signed-clause-err
+returns-in_err-append_signed-clause-err c = always _ (Keeps-front _ _ _ _ c.loop-column.invariant c.in_err-append_signed.ensures.err)
 
 pub loop-column-preserved : goal.loop-column-preserved
 loop-column-preserved c =
@@ -21,7 +21,7 @@ loop-column-preserved c =
     let number = term_at-read (λ t. get_or (numerators_of t) c.loop-column.column (pos 0)) terms c.args.i c.num_at.result c.requires c.num_at.ensures in
     let held = to_z-of_z w128 c.num_at.result (search rules) in
     numerators-more _ _ (numerators_of term) _ _ _ within c.loop-column.invariant
-    (c.in_ok-append_number-2.ensures.ok ∙ ap (λ z. c.loop-column.text.items ++ 9 ∷ signed_decimal z) (held ∙ sym number))
+    (c.in_ok-append_signed.ensures.ok ∙ ap (λ z. c.loop-column.text.items ++ 9 ∷ signed_decimal z) (held ∙ sym number))
 
 pub returns-clause-ok : goal.returns-clause-ok
 returns-clause-ok c =
