@@ -64,7 +64,7 @@ allowed shape dims edit facts none =
     }
 
 -- facts with one more
-All-put : (P : Fact → Type 0) (fact : Fact) (facts : List Fact) → P fact → All P facts → All P (put fact facts)
+pub All-put : (P : Fact → Type 0) (fact : Fact) (facts : List Fact) → P fact → All P facts → All P (put fact facts)
 All-put P fact facts here each =
     All-append P (filter (λ f. nat_lt f.id fact.id) facts) (fact ∷ filter (λ f. nat_lt fact.id f.id) facts) (All-filter (λ f. nat_lt f.id fact.id) P facts each)
     (All-cons P fact (filter (λ f. nat_lt fact.id f.id) facts) here (All-filter (λ f. nat_lt fact.id f.id) P facts each))

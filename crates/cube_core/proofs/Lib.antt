@@ -1,8 +1,12 @@
 pub mod AddingUp
 pub mod Ascents
 pub mod Counting
+pub mod Distributed
+pub mod Expecting
 pub mod Keeping
+pub mod Listing
 pub mod Moderation
+pub mod PlacedRows
 pub mod Refreshing
 pub mod Rows
 pub mod SmallValues

@@ -23,14 +23,14 @@ use Rattle.fact_records.proofs.Columns.{AreMeasures-within}
 use Rattle.cube_core.proofs.Moderation.{AreSmallValues}
 
 -- what holds of no element holds of none of them
-none_of : {X : Type 0} (p : X → Bool) (xs : List X) → list_any p xs ≡ false → All (λ x. p x ≡ false) xs
+pub none_of : {X : Type 0} (p : X → Bool) (xs : List X) → list_any p xs ≡ false → All (λ x. p x ≡ false) xs
 none_of p [] none = All-nil (λ x. p x ≡ false)
 none_of p (x ∷ xs) none =
     let parts = or_parts (p x) (list_any p xs) none in
     All-cons (λ x. p x ≡ false) x xs parts.0 (none_of p xs parts.1)
 
 -- where nothing is refused, the number of the values is right, and no number and no distribution is wrong
-not_refused : (right number parts : Bool) → (if not right || number then Some code.Value else (if parts then Some code.Parts else None)) ≡ None → (right ≡ true) × (number ≡ false) × (parts ≡ false)
+pub not_refused : (right number parts : Bool) → (if not right || number then Some code.Value else (if parts then Some code.Parts else None)) ≡ None → (right ≡ true) × (number ≡ false) × (parts ≡ false)
 not_refused true false false none = (refl, refl, refl)
 not_refused true false true none = cc
 not_refused true true parts none = cc

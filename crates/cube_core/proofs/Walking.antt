@@ -5,21 +5,31 @@ use Rattle.std.specs.BTreeMap.{BTreeMap, get}
 use Rattle.std.specs.Option.{option_map}
 use Rattle.std.specs.Ordering.{nat_cmp}
 use Rattle.std.proofs.lemmas.List.{length-map}
-use Rattle.std.proofs.lemmas.List.Elements.{All-head, All-tail}
+use Rattle.std.proofs.lemmas.List.Elements.{All-head, All-map, All-tail}
 use Rattle.cube_model.specs.declared.edit.Fact.{Fact}
 use Rattle.cube_model.specs.declared.statistic.CellStat.{CellStat}
 use Rattle.cube_model.specs.Allocation.{Allocation, ExtendedFact, Policy, allocation, allocation_of, extended}
 use Rattle.cube_model.specs.Answer.{answer, weight_inside}
 use Rattle.cube_model.specs.Cells.{AreRows, cells_of}
 use Rattle.cube_model.specs.Limits.{DEN_LIMIT, MAX_FACTS}
-use Rattle.cube_model.specs.Tree.{Dimension}
+use Rattle.cube_model.specs.Tree.{Dimension, IsTree}
 use Rattle.alloc_rows.specs.Alloc.{IsAllocation}
 use Rattle.exact_fraction.specs.Moderate.{IsModerate}
-use Rattle.fact_records.specs.Shape.{ShapeValue, width_of_all}
+use Rattle.fact_records.specs.Accepted.{cols_refusal}
+use Rattle.fact_records.specs.Outcomes.{AllAddUp}
+use Rattle.fact_records.specs.Shape.{AreMeasures, ShapeValue, width_of_all}
+use Rattle.fact_records.specs.Valid.{IsValid}
 use Rattle.schema_text.specs.Schema.{IsSchema, SchemaValue, policy_in, shape_of}
 use Rattle.group_sum.specs.Terms.{AddsShare, AreTerms, Fits, TermList, are_terms_from}
+use Rattle.region_algebra.specs.Space.{IsRegion}
+use Rattle.world_law.specs.Additive.{AddUpOverChildren}
+use Rattle.world_law.proofs.Additive.{add_up_over_children}
+use Rattle.world_law.proofs.Shares.{shared-extended}
 use Rattle.cube_core.specs.Cube.{IsBounded, IsCube}
+use Rattle.cube_core.specs.Expected.{AreExpected}
 use Rattle.cube_core.proofs.AddingUp.{AddUp, add_up-next, add_up-none, answered}
+use Rattle.cube_core.proofs.Distributed.{answer_adds_up}
+use Rattle.cube_core.proofs.Expecting.{are_expected}
 use Rattle.cube_core.proofs.Moderation.{AreModest, AreSmallValues, are_bounded, are_moderate, fits_next, length-answer, modest-next, modest-none}
 use Rattle.cube_core.proofs.Refreshing.{find-itself}
 use Rattle.cube_core.proofs.Rows.{AreRows-allocation, allocation_of-among, extended-among, rows_among}
@@ -32,17 +42,20 @@ pub record IsReady (policy : Policy) (dims : List Dimension) (facts : List Fact)
   pub values : AreSmallValues columns f.cols
 
 -- the facts of a cube are
+pub all_kept : (weigh : CellStat → ℕ) (schema : SchemaValue) (facts : List Fact) (kept : BTreeMap ℕ Allocation) → IsCube weigh schema facts kept → All (λ f. get nat_cmp kept f.id ≡ Some (allocation (policy_in weigh schema) schema.dims facts f)) facts
+all_kept weigh schema facts kept cube = λ k d lt.
+    let policy = policy_in weigh schema in
+    let f = get_or facts k d in
+    cube.rows.each f.id ∙ ap (allocation_of f.id) (extended-among policy schema.dims facts) ∙ allocation_of-among policy schema.dims facts facts f.id
+    ∙ ap (option_map (allocation policy schema.dims facts)) (find-itself facts cube.valid.ascending k d lt)
+
 all_ready : (weigh : CellStat → ℕ) (schema : SchemaValue) (facts : List Fact) (kept : BTreeMap ℕ Allocation) → IsSchema schema → IsCube weigh schema facts kept
     → All (IsReady (policy_in weigh schema) schema.dims facts kept (width_of_all schema.measures)) facts
 all_ready weigh schema facts kept is_schema cube = λ k d lt.
-    let policy = policy_in weigh schema in
     let f = get_or facts k d in
-    let found : allocation_of f.id (extended policy schema.dims facts) ≡ Some (allocation policy schema.dims facts f) =
-    ap (allocation_of f.id) (extended-among policy schema.dims facts) ∙ allocation_of-among policy schema.dims facts facts f.id
-    ∙ ap (option_map (allocation policy schema.dims facts)) (find-itself facts cube.valid.ascending k d lt) in
     record {
-      there = cube.rows.each f.id ∙ found;
-      rows = AreRows-allocation policy schema.dims facts f;
+      there = all_kept weigh schema facts kept cube k d lt;
+      rows = AreRows-allocation (policy_in weigh schema) schema.dims facts f;
       values = small-accepted (shape_of schema) f.cols is_schema.shape.measures is_schema.kinds (cube.valid.each k d lt).accepted.values;
     }
 
@@ -145,6 +158,13 @@ module _ {policy : Policy} {dims : List Dimension} {facts : List Fact} {kept : B
     length-rows : length (extended policy dims facts) ≡ length facts
     length-rows = rw (extended-among policy dims facts) (length-map facts _)
 
+    pub end_distributed : (shape : ShapeValue) → columns ≡ width_of_all shape.measures → AreMeasures shape.measures → All (IsValid shape dims) facts → AllAddUp shape.measures list.terms
+    end_distributed shape counted are valid =
+        let P : ExtendedFact → Type 0 = λ e. cols_refusal shape e.values ≡ None in
+        let accepted : All P (extended policy dims facts) =
+        rw (extended-among policy dims facts) (All-map P (λ (f : Fact). record { id = f.id; values = f.cols; allocation = allocation policy dims facts f }) facts (λ k d lt. (valid k d lt).accepted.values)) in
+        rw (end_answer, counted) (answer_adds_up shape dims (extended policy dims facts) region are accepted)
+
     pub end_moderate : length facts ≤ MAX_FACTS → IsModerate list.terms
     end_moderate few =
         let short : length list.terms ≤ MAX_FACTS = rw end_answer (omega (arith, length-answer columns dims (extended policy dims facts) region, length-rows)) in
@@ -152,3 +172,10 @@ module _ {policy : Policy} {dims : List Dimension} {facts : List Fact} {kept : B
 
     pub end_bounded : length facts ≤ MAX_FACTS → All IsBounded list.terms
     end_bounded few = are_bounded (length facts) columns list.terms are modest few
+
+    pub end_expected : (shape : ShapeValue) → All IsTree dims → All (IsValid shape dims) facts → AreExpected columns dims region (extended policy dims facts) list.terms
+    end_expected shape trees valid =
+        rw end_answer (are_expected columns dims region (extended policy dims facts) (shared-extended policy dims facts trees (λ k d lt. (valid k d lt).accepted.placed.region)))
+
+    pub end_children : All IsTree dims → IsRegion dims region → AddUpOverChildren columns dims region (extended policy dims facts) list.terms
+    end_children trees named = rw end_answer (add_up_over_children columns dims region (extended policy dims facts) trees named)

@@ -1,5 +1,7 @@
 pub mod Counting
 pub mod Cube
 pub mod Examples
+pub mod Expected
 pub mod Refreshed
 pub mod Spreads
+pub mod WorldSums

@@ -2,20 +2,27 @@
 ghost use Rattle.std.specs.Prelude.{◌≡◌, ◌+◌, ◌≤◌, [], None, true, All, IfErr, IfOk, IfSome, OnErr, OnOk};
 ghost use Rattle.std.specs.Option.{option_copied};
 ghost use Rattle.std.specs.Result.{result_err};
+ghost use Rattle.alloc_rows.specs.Alloc.{IsAllocation};
 ghost use Rattle.cube_model.specs.Allocation.{allocation_of, row_count};
 ghost use Rattle.cube_model.specs.Ascending.{ascends_from};
 ghost use Rattle.cube_model.specs.Cells.{AreRows};
 ghost use Rattle.cube_model.specs.Limits.{MAX_ROWS};
 ghost use Rattle.exact_fraction.specs.Moderate.{IsModerate};
 ghost use Rattle.fact_records.specs.Judge.{fact_refusal};
+ghost use Rattle.fact_records.specs.Outcomes.{AllAddUp};
 ghost use Rattle.fact_records.specs.Shape.{width_of_all};
 ghost use Rattle.fact_records.specs.Valid.{IsEditOver};
 ghost use Rattle.region_algebra.specs.Space.{IsRegion};
 ghost use Rattle.schema_text.specs.Schema.{shape_of};
+ghost use Rattle.world_law.specs.Additive.{AddUpOverChildren};
+ghost use Rattle.world_law.specs.Placed.{fault_of};
 ghost use Rattle.cube_core.specs.Cube.{AreFactsOf, IsBounded, IsFaultOf, answer_in, edited, judge_in, refreshed_in, rows_in, withdrawn};
+ghost use Rattle.cube_core.specs.Expected.{AreExpected};
+ghost use Rattle.cube_core.specs.WorldSums.{IsWorldFault, placed_in, world_sum_in};
 
 use crate::EditFault;
 use crate::edits::after;
+use crate::place::{PlacedList, place};
 use crate::refreshed::refreshed;
 use crate::spreads::spread_all;
 use alloc_rows::{Alloc, inside};
@@ -28,6 +35,7 @@ use schema_text::Schema;
 use std::alloc::Global;
 use std::collections::BTreeMap;
 use std::marker::Model;
+use world_law::{WorldFault, WorldSum, enumerate};
 
 /// What an accepted edit did.
 #[derive(Debug, Drop)]
@@ -135,13 +143,21 @@ impl<P: WeightPolicy + Drop> Cube<P> {
 
     /// What the facts add up to inside `r`, which must be a region of the space: for each denominator among the
     /// allocations, ascending, the sums over the facts of each column times the weight inside, the count first; where the
-    /// count is 0 there is no term. It walks over all facts. The one error is want of memory.
+    /// count is 0 there is no term. At each term the sums of a distribution's outcomes add up to its scale times the count. It
+    /// walks over all facts. The one error is want of memory.
+    ///
+    /// These are the exact expectations over all worlds of the facts, in each of which every fact stands in one cell of its
+    /// allocation; and where a node of the region has children, the answers at the regions with each child in its place merge
+    /// to this one.
     pub fn answer(&self, r: Region) -> Result<Terms, Memory>
         requires { IsRegion self.now.schema.dims r }
         ensures columns { IfOk result (λ terms. terms.columns ≡ width_of_all self.now.schema.measures + 1) }
         ensures terms { IfOk result (λ terms. terms.terms ≡ answer_in P.weigh self.now r) }
         ensures moderate { IfOk result (λ terms. IsModerate terms.terms) }
+        ensures distributions { IfOk result (λ terms. AllAddUp self.now.schema.measures terms.terms) }
         ensures bounded { IfOk result (λ terms. All IsBounded terms.terms) }
+        ensures expectations { IfOk result (λ terms. AreExpected (width_of_all self.now.schema.measures) self.now.schema.dims r (rows_in P.weigh self.now) terms.terms) }
+        ensures children { IfOk result (λ terms. AddUpOverChildren (width_of_all self.now.schema.measures) self.now.schema.dims r (rows_in P.weigh self.now) terms.terms) }
     {
         let space = self.schema.space();
         let mut terms = Terms::empty(self.alloc, self.schema.shape().columns());
@@ -154,6 +170,39 @@ impl<P: WeightPolicy + Drop> Cube<P> {
             terms.add_term(den, weight, fact.cols)?;
         }
         Ok(terms)
+    }
+
+    /// The facts with their allocations, in order of their ids, as worlds are made of them: the ids are left out. The one
+    /// error is want of memory.
+    pub fn placed(&self) -> Result<PlacedList, Memory>
+        ensures placed { IfOk result (λ placed. placed ≡ placed_in P.weigh self.now) }
+        ensures allocations { IfOk result (All (λ p. IsAllocation (record { den = p.den; rows = p.rows }))) }
+    {
+        let mut placed = PlacedList::new(self.alloc);
+        for fact in self.facts.iter() {
+            let Some(a) = self.allocations.get(&fact.id) else {
+                unreachable!()
+            };
+            placed.push(place(self.alloc, fact, a)?)?;
+        }
+        Ok(placed)
+    }
+
+    /// What all worlds of the facts come to in `r`, which must be a region of the space: their number, the sum of their
+    /// weights, and for each column, the count first, the total over all worlds of what stands in the region. `Many` is
+    /// answered exactly where there are more than 65,536 worlds, and else `Wide` exactly where their weights come to more
+    /// than 2^60; want of memory is the one other error. It goes through all worlds for each column, and takes memory for the
+    /// rows of the facts, whatever the number of worlds.
+    pub fn worlds(&self, r: Region) -> Result<WorldSum, WorldFault>
+        requires { IsRegion self.now.schema.dims r }
+        ensures sum { IfOk result (λ sum. sum ≡ world_sum_in P.weigh self.now r) }
+        ensures accepted { OnOk result (fault_of (placed_in P.weigh self.now) ≡ None) }
+        ensures refused { IfErr result (IsWorldFault (placed_in P.weigh self.now)) }
+    {
+        let placed = self.placed()?;
+        let space = self.schema.space();
+        let columns = self.schema.shape().columns();
+        enumerate(self.alloc, placed.as_slice(), space, r, columns)
     }
 }
 

@@ -1,5 +1,5 @@
 //! Examples that are computed from the definitions. The functions do nothing: the laws are their contracts.
-ghost use Rattle.std.specs.Prelude.{◌≡◌, [], ◌∷◌, None, Some};
+ghost use Rattle.std.specs.Prelude.{◌≡◌, [], ◌∷◌, None, Some, map, pos};
 ghost use Rattle.cube_base.specs.declared.code.Code.TheVariants as code;
 ghost use Rattle.cube_model.specs.declared.edit.Edit.TheVariants.{Change, Put, Withdraw};
 ghost use Rattle.cube_model.specs.Allocation.{allocation_of, by_count, extended};
@@ -9,11 +9,12 @@ ghost use Rattle.cube_model.specs.Facts.{after};
 ghost use Rattle.fact_records.specs.Examples.{number_and_parts, one_number};
 ghost use Rattle.fact_records.specs.Judge.{judge};
 ghost use Rattle.alloc_rows.specs.Examples.{fact_at, four_facts, two_dims};
+ghost use Rattle.world_law.specs.Worlds.{total, worlds};
 ghost use Rattle.cube_core.specs.Examples.{below_0, by_value, fact_of, four_rows, one_weight, row_alone, term_with, whole_parts, wrong_parts};
 
 /// Rows, answers, refreshed facts and refusals that were worked out by hand. A fact somewhere in three cells is spread over
 /// the two where facts lie, as the counts say, and evenly over all three where no fact lies; so it lies otherwise once one
-/// of these facts moves or is withdrawn.
+/// of these facts moves or is withdrawn. In one of its two worlds it stands where two others do, and in one it does not.
 pub fn worked_cube()
     ensures spread { allocation_of 4 four_rows ≡ Some (record { den = 3; rows = (0, 2) ∷ (4, 1) ∷ [] }) }
     ensures precise { allocation_of 3 four_rows ≡ Some (record { den = 1; rows = (4, 1) ∷ [] }) }
@@ -23,6 +24,9 @@ pub fn worked_cube()
     ensures neighbour { answer 1 two_dims four_rows (3 ∷ 2 ∷ []) ≡ term_with 1 1 50 ∷ term_with 3 1 600 ∷ [] }
     ensures region { answer 1 two_dims four_rows (1 ∷ 0 ∷ []) ≡ term_with 1 3 450 ∷ term_with 3 3 1800 ∷ [] }
     ensures nothing { answer 1 two_dims four_rows (4 ∷ 2 ∷ []) ≡ [] }
+    ensures worlds { map (λ world. world.weight) (worlds four_rows) ≡ 2 ∷ 1 ∷ [] }
+    ensures counted { total two_dims (2 ∷ 2 ∷ []) 0 four_rows ≡ pos 8 }
+    ensures summed { total two_dims (2 ∷ 2 ∷ []) 1 four_rows ≡ pos 2400 }
     ensures replaced { refreshed by_count two_dims four_facts (after (Change (fact_at 3 (4 ∷ 2 ∷ []) 50)) four_facts) ≡ 3 ∷ 4 ∷ [] }
     ensures unchanged { refreshed by_count two_dims four_facts (after (Change (fact_at 2 (2 ∷ 2 ∷ []) 301)) four_facts) ≡ [] }
     ensures withdrawn { refreshed by_count two_dims four_facts (after (Withdraw 1) four_facts) ≡ 4 ∷ [] }

@@ -5,12 +5,13 @@ mod cube;
 mod edits;
 mod fault;
 mod laws;
+mod place;
 mod refreshed;
 mod spreads;
 mod statistics;
-#[cfg(test)]
-mod tests;
 
 pub use cube::{Cube, Receipt};
 pub use fault::EditFault;
 pub use laws::{worked_cube, worked_sums};
+pub use place::PlacedList;
+pub use world_law::{Placed, WorldFault, WorldSum};

@@ -64,14 +64,20 @@ fn spread_each<P: WeightPolicy>(
         let allocation = allocate(alloc, space, policy, stats, fact)?;
         rows += allocation.rows().len() as u64;
         if rows <= MAX_ROWS {
-            keep(&mut kept, fact.id, allocation)?;
+            keep(&mut kept, rows, fact.id, allocation)?;
         }
     }
     Ok((kept, rows))
 }
 
-/// Keeps the allocation of one fact more.
-fn keep(kept: &mut BTreeMap<u64, Alloc>, id: u64, allocation: Alloc) -> Result<(), Memory>
+/// Keeps the allocation of one fact more, with which so many rows are held.
+fn keep(
+    kept: &mut BTreeMap<u64, Alloc>,
+    _rows: u64,
+    id: u64,
+    allocation: Alloc,
+) -> Result<(), Memory>
+    requires few { _rows ≤ MAX_ROWS }
     ensures { OnOk result ((other : ℕ) → get nat_cmp kept.new other ≡ (if other == id then Some allocation else get nat_cmp kept.old other)) }
 {
     match kept.insert(id, allocation) {

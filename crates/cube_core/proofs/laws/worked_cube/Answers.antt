@@ -5,10 +5,11 @@ use Rattle.cube_model.specs.Answer.{answer}
 use Rattle.cube_model.specs.Cells.{all_cells, cells_of, is_inside}
 use Rattle.cube_model.specs.Difference.{refreshed}
 use Rattle.cube_model.specs.Tree.{is_leaf, is_under, leaves, parent, path}
+use Rattle.world_law.specs.Worlds.{worlds}
 use Rattle.cube_core.proofs.laws.worked_cube.Goals as goal
 
 pub returns : goal.returns
-unfolding allocation extended answer refreshed all_cells cells_of is_inside is_leaf is_under leaves parent path
+unfolding allocation extended answer refreshed all_cells cells_of is_inside is_leaf is_under leaves parent path worlds
 returns c = record {
   spread = refl;
   precise = refl;
@@ -18,6 +19,9 @@ returns c = record {
   neighbour = refl;
   region = refl;
   nothing = refl;
+  worlds = refl;
+  counted = refl;
+  summed = refl;
   replaced = refl;
   unchanged = refl;
   withdrawn = refl;
