@@ -1,7 +1,10 @@
 pub mod Doing
 pub mod Ends
+pub mod Measures
 pub mod ReplyEnds
 pub mod Runs
+pub mod SchemaTrees
+pub mod Sound
 pub mod Steps
 pub mod Texts
 pub mod Turns

@@ -98,6 +98,73 @@ hours_replies =
     ++ line_text (codes "error") (codes "value" ∷ [])
     ++ line_text (codes "rows") (codes "4" ∷ codes "2" ∷ codes "Austin" ∷ codes "3" ∷ codes "Dallas" ∷ codes "1" ∷ [])
 
+-- with a number and a distribution
+abbrev pub timed : List ℕ
+timed = two_cities (codes "uniform" ∷ []) (line_text (codes "number") (codes "Hours" ∷ []) ++ line_text (codes "parts") (codes "Quality" ∷ codes "100" ∷ codes "good" ∷ codes "bad" ∷ []))
+
+-- questions where there is no fact
+abbrev pub nothing_to_divide : List ℕ
+nothing_to_divide =
+    timed
+    ++ line_text (codes "count") (codes "TX" ∷ [])
+    ++ line_text (codes "sum") (codes "Hours" ∷ codes "TX" ∷ [])
+    ++ line_text (codes "avg") (codes "Hours" ∷ codes "TX" ∷ [])
+    ++ line_text (codes "pool") (codes "Quality" ∷ codes "TX" ∷ [])
+
+-- the count and the sum are 0, and there is nothing to divide by
+abbrev pub nothing_to_divide_replies : List ℕ
+nothing_to_divide_replies =
+    line_text (codes "count") (codes "0.000000000" ∷ codes "0.000000000" ∷ codes "0" ∷ [])
+    ++ line_text (codes "sum") (codes "0.000000000" ∷ codes "0.000000000" ∷ codes "0" ∷ [])
+    ++ line_text (codes "error") (codes "undefined" ∷ [])
+    ++ line_text (codes "error") (codes "undefined" ∷ [])
+
+-- six hours in a city and some more in the state, with their parts, and what there is in the city
+abbrev pub told_in_fractions : List ℕ
+told_in_fractions =
+    timed
+    ++ line_text (codes "insert") (codes "1" ∷ codes "Austin" ∷ codes "6" ∷ codes "80:20" ∷ [])
+    ++ line_text (codes "insert") (codes "2" ∷ codes "TX" ∷ codes "-7" ∷ codes "50:50" ∷ [])
+    ++ line_text (codes "count") (codes "Austin" ∷ [])
+    ++ line_text (codes "sum") (codes "Hours" ∷ codes "Austin" ∷ [])
+    ++ line_text (codes "avg") (codes "Hours" ∷ codes "Austin" ∷ [])
+    ++ line_text (codes "pool") (codes "Quality" ∷ codes "Austin" ∷ [])
+    ++ line_text (codes "sum") (codes "Quality" ∷ codes "Austin" ∷ [])
+
+-- one half of the state's fact is the city's
+abbrev pub told_in_fractions_replies : List ℕ
+told_in_fractions_replies =
+    line_text (codes "ok") (codes "1" ∷ [])
+    ++ line_text (codes "ok") (codes "1" ∷ [])
+    ++ line_text (codes "count") (codes "1.500000000" ∷ codes "1.500000000" ∷ codes "3/2" ∷ [])
+    ++ line_text (codes "sum") (codes "2.500000000" ∷ codes "2.500000000" ∷ codes "5/2" ∷ [])
+    ++ line_text (codes "avg") (codes "1.666666666" ∷ codes "1.666666667" ∷ codes "5/3" ∷ [])
+    ++ line_text (codes "pool") (codes "0.700000000" ∷ codes "0.700000000" ∷ codes "7/10" ∷ codes "0.300000000" ∷ codes "0.300000000" ∷ codes "3/10" ∷ [])
+    ++ line_text (codes "error") (codes "measure" ∷ [])
+
+-- with a number, where cities weigh as much as they have facts
+abbrev pub counted : List ℕ
+counted = two_cities (codes "count" ∷ []) (line_text (codes "number") (codes "Hours" ∷ []))
+
+-- two facts in a city, one in the other, and one somewhere in the state: all worlds of these at the first city
+abbrev pub listed_worlds : List ℕ
+listed_worlds =
+    counted
+    ++ line_text (codes "insert") (codes "1" ∷ codes "Austin" ∷ codes "100" ∷ [])
+    ++ line_text (codes "insert") (codes "2" ∷ codes "Austin" ∷ codes "300" ∷ [])
+    ++ line_text (codes "insert") (codes "3" ∷ codes "Dallas" ∷ codes "50" ∷ [])
+    ++ line_text (codes "insert") (codes "4" ∷ codes "TX" ∷ codes "600" ∷ [])
+    ++ line_text (codes "worlds") (codes "Austin" ∷ [])
+
+-- in the world of weight 2 three facts stand there with 1000 hours, in that of weight 1 two with 400
+abbrev pub listed_worlds_replies : List ℕ
+listed_worlds_replies =
+    line_text (codes "ok") (codes "1" ∷ [])
+    ++ line_text (codes "ok") (codes "1" ∷ [])
+    ++ line_text (codes "ok") (codes "1" ∷ [])
+    ++ line_text (codes "ok") (codes "1" ∷ [])
+    ++ line_text (codes "worlds") (codes "2" ∷ codes "3" ∷ codes "8" ∷ codes "2400" ∷ [])
+
 -- an input gives these replies, and this many of its lines are refused
 abbrev pub Gives : List ℕ → List ℕ → ℕ → Type 0
 Gives input replies refused = IsSomeAnd (outcome_of input) (λ outcome. (concat outcome.replies ≡ replies) × (outcome.refused ≡ refused))

@@ -1,7 +1,8 @@
 -- Taking the whole input.
-use Rattle.std.specs.Prelude.{◌≡◌, ℕ, ◌+◌, ◌≤◌, List, length, take, drop, Option}
+use Rattle.std.specs.Prelude.{◌≡◌, ℕ, ◌+◌, ◌<◌, ◌≤◌, true, false, List, length, take, drop, Option}
 use Rattle.std.specs.Io.KnownBytes.{Consumes, IsAtEnd}
 use Rattle.cube_base.specs.Outside.{Rose}
+use Rattle.cube_cli.specs.declared.input.Input.{Input}
 use Rattle.cube_cli.specs.declared.input.InputStop.{InputStop}
 use Rattle.cube_cli.specs.declared.input.InputStop.TheVariants.{Fault, TooLong, Memory}
 
@@ -27,13 +28,13 @@ pub record GoesOn (limit : ℕ) (left left_after : Option (List ℕ)) : Type 0 w
   pub bytes : Consumes left left_after input
   pub above : length input ≡ limit + 1
 
--- a piece was taken, with so many bytes; there are none only at the end
-pub record Reads (limit : ℕ) (left left_after : Option (List ℕ)) (input input_after : List ℕ) (len : ℕ) : Type 0 where
-  pub bytes : Consumes left left_after (drop (length input) input_after)
-  pub front : take (length input) input_after ≡ input
-  pub more : length input_after ≡ length input + len
-  pub within : length input_after ≤ limit
-  pub end : len ≡ 0 → IsAtEnd left_after
+-- a piece was taken: more bytes, unless the input ended there
+pub record Reads (limit : ℕ) (left left_after : Option (List ℕ)) (before after : Input) : Type 0 where
+  pub bytes : Consumes left left_after (drop (length before.bytes.items) after.bytes.items)
+  pub front : take (length before.bytes.items) after.bytes.items ≡ before.bytes.items
+  pub within : length after.bytes.items ≤ limit
+  pub more : after.is_ended ≡ false → length before.bytes.items < length after.bytes.items
+  pub end : after.is_ended ≡ true → IsAtEnd left_after
 
 -- Why an input was not taken whole, of which some bytes came before: a read failed within the limit, the byte behind the limit
 -- came, or memory was wanting within it.

@@ -1,6 +1,7 @@
 pub mod Command
 pub mod End
 pub mod Examples
+pub mod Expectations
 pub mod Input
 pub mod Progress
 pub mod ReplyEnds

@@ -1,8 +1,9 @@
 //! The commands, and the top call.
-ghost use Rattle.std.specs.Prelude.{◌≡◌, ◌≤◌, length, map, string_bytes, IfErr, IfOk};
+ghost use Rattle.std.specs.Prelude.{◌≡◌, ◌≤◌, length, map, string_bytes, IfErr, IfOk, IfSome};
 ghost use Rattle.text_lines.specs.Text.{lines_of};
 ghost use Rattle.cube_cli.specs.Command.{command_of};
 ghost use Rattle.cube_cli.specs.End.{IsComplete, IsCompleteTry, Says, SaysOfTry, TookFew};
+ghost use Rattle.cube_cli.specs.Expectations.{AddsUpAfterEachLine, ExpectsAfterEachLine};
 ghost use Rattle.cube_cli.specs.Progress.{BreaksOff, Done};
 ghost use Rattle.cube_cli.specs.Run.{empty_state, run, run_of};
 ghost use Rattle.cube_cli.specs.Seen.{seen_of, sink_seen, source_seen};
@@ -31,10 +32,16 @@ pub enum Command {
 /// in order on a cube of that schema and its policy, and answered unless it is skipped. Replies are gathered into writes
 /// of some tens of kilobytes. Of a run that stops, the sink has a part of the replies to the first `done` lines, with all
 /// but the last of them whole.
+///
+/// What is answered over the facts, after each number of lines, is the exact expectation over all possible worlds of these,
+/// in each of which every fact stands in one cell of its allocation; and where a node of a region has children, the answers
+/// at the regions with each child in its place merge to that at the region.
 pub fn cube<S: Source, K: Sink>(alloc: Global, words: &[String], source: &mut S, out: &mut K) -> End
     ensures says { Says (map string_bytes words.now) (seen_of S.left S.faults K.taken K.faults source.old source.new out.old out.new) result }
     ensures complete { IsComplete (map string_bytes words.now) (seen_of S.left S.faults K.taken K.faults source.old source.new out.old out.new) result }
     ensures few { TookFew (source_seen S.left S.faults source.old source.new) result }
+    ensures expectations { IfSome (S.left source.old) ExpectsAfterEachLine }
+    ensures children { IfSome (S.left source.old) AddsUpAfterEachLine }
 {
     match command_of(words) {
         None => End::Usage,

@@ -1,6 +1,6 @@
 //! Taking the whole input.
-ghost use Rattle.std.specs.Prelude.{◌≡◌, ◌+◌, ◌<◌, ◌≤◌, ◌^◌, ◌++◌, ℕ, List, Option, length, take, IfOk, OnOk, IfErr, OnErr};
-ghost use Rattle.std.specs.Io.KnownBytes.{Consumes, IsAtEnd, Keeps};
+ghost use Rattle.std.specs.Prelude.{◌≡◌, ◌<◌, ◌≤◌, ◌^◌, ℕ, [], List, Option, false, length, IfOk, OnOk, IfErr};
+ghost use Rattle.std.specs.Io.KnownBytes.{Consumes};
 ghost use Rattle.cube_cli.specs.Input.{Reads, StopsReading, Taken};
 
 use cube_base::{Failed, Source};
@@ -46,12 +46,64 @@ pub fn take_input<S: Source>(
     ensures stopped { IfErr result (StopsReading limit (S.left source.old) (S.left source.new) (S.faults source.old) (S.faults source.new)) }
 {
     let mut buffer = zeros(alloc, PIECE)?;
-    let mut input = Vec::new(alloc);
-    'pieces: loop {
-        let len = take_piece(source, &mut buffer, limit, &mut input)?;
-        if len == 0 {
-            return Ok(input);
+    let mut input = Input::new(alloc);
+    'pieces: while !input.is_ended {
+        input.take_piece(source, &mut buffer, limit)?;
+    }
+    Ok(input.bytes)
+}
+
+/// What was taken of an input, and whether that is all of it.
+#[derive(Drop)]
+pub struct Input {
+    pub bytes: Vec<u8>,
+    pub is_ended: bool,
+}
+
+impl Input {
+    // Nothing was taken yet.
+    fn new(alloc: Global) -> Self
+        ensures bytes { result.bytes.items ≡ [] }
+        ensures more { result.is_ended ≡ false }
+    {
+        Input {
+            bytes: Vec::new(alloc),
+            is_ended: false,
         }
+    }
+
+    // Takes one piece of an input that did not end yet, no longer than the buffer and what is left up to the limit and one
+    // byte more. Whether the input is too long is judged before memory is asked for.
+    fn take_piece<S: Source>(
+        &mut self,
+        source: &mut S,
+        buffer: &mut [u8],
+        limit: usize,
+    ) -> Result<(), InputStop>
+        requires more { self.old.is_ended ≡ false }
+        requires room { 0 < length buffer.old }
+        requires moderate { limit < 2 ^ 62 }
+        requires short { length self.old.bytes.items ≤ limit }
+        ensures bytes { OnOk result (Reads limit (S.left source.old) (S.left source.new) self.old self.new) }
+        ensures buffer { length buffer.new ≡ length buffer.old }
+        ensures count { OnOk result (S.faults source.new ≡ S.faults source.old) }
+        ensures stopped { (start : Option (List ℕ)) → Consumes start (S.left source.old) self.old.bytes.items
+            → IfErr result (StopsReading limit start (S.left source.new) (S.faults source.old) (S.faults source.new)) }
+    {
+        let left = limit - self.bytes.len();
+        let room = (left + 1).min(buffer.len());
+        let piece = &mut buffer[..room];
+        let Ok(len) = source.read(piece) else {
+            return Err(InputStop::Fault);
+        };
+        if len > left {
+            return Err(InputStop::TooLong);
+        }
+        if self.bytes.extend_from_slice(&piece[..len]).is_err() {
+            return Err(InputStop::Memory);
+        }
+        self.is_ended = len == 0;
+        Ok(())
     }
 }
 
@@ -60,35 +112,4 @@ fn zeros(alloc: Global, len: usize) -> Result<Vec<u8>, AllocError>
     ensures { IfOk result (λ buffer. length buffer.items ≡ len) }
 {
     vec![in alloc; 0u8; len]
-}
-
-// Takes one piece, no longer than the buffer and what is left up to the limit and one byte more, and says how long
-// it is: 0 at the end. Whether the input is too long is judged before memory is asked for.
-fn take_piece<S: Source>(
-    source: &mut S,
-    buffer: &mut [u8],
-    limit: usize,
-    input: &mut Vec<u8>,
-) -> Result<usize, InputStop>
-    requires room { 0 < length buffer.old }
-    requires moderate { limit < 2 ^ 62 }
-    requires short { length input.old.items ≤ limit }
-    ensures bytes { IfOk result (Reads limit (S.left source.old) (S.left source.new) input.old.items input.new.items) }
-    ensures count { OnOk result (S.faults source.new ≡ S.faults source.old) }
-    ensures stopped { (start : Option (List ℕ)) → Consumes start (S.left source.old) input.old.items
-        → IfErr result (StopsReading limit start (S.left source.new) (S.faults source.old) (S.faults source.new)) }
-{
-    let left = limit - input.len();
-    let room = (left + 1).min(buffer.len());
-    let piece = &mut buffer[..room];
-    let Ok(len) = source.read(piece) else {
-        return Err(InputStop::Fault);
-    };
-    if len > left {
-        return Err(InputStop::TooLong);
-    }
-    if input.extend_from_slice(&piece[..len]).is_err() {
-        return Err(InputStop::Memory);
-    }
-    Ok(len)
 }

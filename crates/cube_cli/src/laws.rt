@@ -3,7 +3,7 @@ ghost use Rattle.std.specs.Prelude.{ℕ, List};
 ghost use Rattle.cube_model.specs.declared.statistic.CellStat.{CellStat};
 ghost use Rattle.schema_text.specs.Schema.{SchemaValue};
 ghost use Rattle.cube_cli.specs.Run.{RunsInParts, State};
-ghost use Rattle.cube_cli.specs.Examples.{Gives, city_and_state, city_and_state_replies, hours, hours_replies, parts_of_outcomes, parts_of_outcomes_replies, refused_and_skipped, refused_and_skipped_replies};
+ghost use Rattle.cube_cli.specs.Examples.{Gives, city_and_state, city_and_state_replies, hours, hours_replies, listed_worlds, listed_worlds_replies, nothing_to_divide, nothing_to_divide_replies, parts_of_outcomes, parts_of_outcomes_replies, refused_and_skipped, refused_and_skipped_replies, told_in_fractions, told_in_fractions_replies};
 
 /// Two inputs worked out by hand. A fact in a city and one somewhere in its state: the count at the city has a term for
 /// each. A fact somewhere in a state counts two halves there, a repeated insert, an unknown line and a question about no
@@ -18,6 +18,19 @@ pub fn worked_examples()
 pub fn worked_measures()
     ensures distribution { Gives parts_of_outcomes parts_of_outcomes_replies 1 }
     ensures weight { Gives hours hours_replies 1 }
+{}
+
+/// Two more with questions. Where there is no fact the count and a sum are 0, and an average and a pooled distribution are not
+/// defined. A fact in a city and one half of another, which lies somewhere in its state: what they count, their hours, the
+/// average of these, and what their parts pool to. A distribution has no sum.
+pub fn worked_questions()
+    ensures none { Gives nothing_to_divide nothing_to_divide_replies 2 }
+    ensures fractions { Gives told_in_fractions told_in_fractions_replies 1 }
+{}
+
+/// One more: a fact of which two thirds are in a city, and the two worlds in which it stands there or in the other city.
+pub fn worked_listing()
+    ensures { Gives listed_worlds listed_worlds_replies 0 }
 {}
 
 /// The state after some lines is that of the run of these lines, and the other lines are done from there.

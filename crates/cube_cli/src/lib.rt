@@ -7,10 +7,13 @@ mod end;
 mod input;
 mod laws;
 mod outbox;
+mod questions;
 mod script;
 mod script_run;
 
 pub use command::{Command, cube};
 pub use end::{End, ErrorLine};
 pub use input::{InputStop, take_input};
-pub use laws::{run_in_two_parts, worked_examples, worked_measures};
+pub use laws::{
+    run_in_two_parts, worked_examples, worked_listing, worked_measures, worked_questions,
+};

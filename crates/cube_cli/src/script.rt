@@ -1,15 +1,14 @@
 //! Doing a line of a script on a cube.
 ghost use Rattle.std.specs.Prelude.{◌≡◌, if◌then◌else◌, IfOk, IfSome, OnErr, OnOk, Some};
-ghost use Rattle.std.specs.Option.{option_copied};
 ghost use Rattle.fact_records.specs.Valid.{IsEditOf};
 ghost use Rattle.schema_text.specs.Schema.{shape_of};
 ghost use Rattle.script_text.specs.LineOf.{IsLineOf};
 ghost use Rattle.script_text.specs.Reply.{NamesCells};
-ghost use Rattle.cube_cli.specs.Run.{cube_at, edited, refusals_in, rows_reply, state_of, step, step_of};
+ghost use Rattle.cube_cli.specs.Run.{cube_at, edited, refusals_in, state_of, step, step_of};
 
-use alloc_rows::Alloc;
+use crate::questions::answer;
 use cell_weight::WeightPolicy;
-use cube_base::{Code, Memory, Pairs};
+use cube_base::{Code, Memory};
 use cube_core::{Cube, EditFault};
 use fact_records::Edit;
 use script_text::{Line, LineFault, Reply, read_line};
@@ -46,10 +45,8 @@ fn do_said<P: WeightPolicy + Drop>(
     ensures same { OnErr result (cube.new ≡ cube.old) }
 {
     match said {
-        Line::Nothing => Ok(None),
         Line::Edit(edit) => Ok(Some(do_edit(cube, &edit)?)),
-        Line::Terms(region) => Ok(Some(Reply::Terms(cube.answer(region)?))),
-        Line::Rows(id) => Ok(Some(rows_reply(alloc, cube.rows(id))?)),
+        other => answer(alloc, cube, other),
     }
 }
 
@@ -67,19 +64,6 @@ fn do_edit<P: WeightPolicy + Drop>(cube: &mut Cube<P>, edit: &Edit) -> Result<Re
         Err(EditFault::Rows { .. }) => Ok(Reply::Error(Code::Rows)),
         Err(EditFault::Memory) => Err(Memory),
     }
-}
-
-/// How a fact is spread: `missing` where there is none.
-fn rows_reply(alloc: Global, allocation: Option<&Alloc>) -> Result<Reply, Memory>
-    ensures { IfOk result (λ reply. reply ≡ rows_reply (option_copied allocation.entry)) }
-{
-    let Some(allocation) = allocation else {
-        return Ok(Reply::Error(Code::Missing));
-    };
-    Ok(Reply::Rows {
-        den: allocation.den(),
-        rows: Pairs::from(allocation.rows().to_vec(alloc)?),
-    })
 }
 
 /// Whether a reply refuses its line.
