@@ -8,6 +8,8 @@ mod ends;
 #[cfg(test)]
 mod faults;
 #[cfg(test)]
+mod fractions;
+#[cfg(test)]
 mod limits;
 #[cfg(test)]
 mod lines;
@@ -19,3 +21,5 @@ mod runs;
 mod schemas;
 #[cfg(test)]
 mod weights;
+#[cfg(test)]
+mod worlds;

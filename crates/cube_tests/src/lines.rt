@@ -3,13 +3,14 @@ use crate::runs::{Case, REPAIRS, WHOLE, expect_each, run};
 use cube_base::Code;
 use cube_cli::End;
 use std::alloc::{AllocError, Global};
+use std::process::Abort;
 use std::test::Fail;
 
 /// The most bytes of a line.
 const MAX_LINE: usize = 4096;
 
 /// A line over the schema of repairs, and why it is refused.
-const REFUSED: [(&[u8], Code); 154] = [
+const REFUSED: [(&[u8], Code); 153] = [
     (b"insert\t1\tAustin\tCam\x01ry\t1", Code::Text),
     (b"insert\t1\tAus\xfftin\tCamry\t1", Code::Text),
     (b"insert\t1\tAustin\tCamry\t1\x7f", Code::Text),
@@ -163,7 +164,113 @@ const REFUSED: [(&[u8], Code); 154] = [
     (b"\xff", Code::Text),
     (b"count\r\tAustin\tCamry", Code::Text),
     (b"\t", Code::Command),
-    (b"count\tAustin\tCamry", Code::Command),
+];
+
+/// The same of words that ask for one number.
+const REFUSED_QUESTIONS: [(&[u8], Code); 103] = [
+    (b"view\tstate", Code::Command),
+    (b"view\tstate\t1", Code::Command),
+    (b"count\tAustin\tCam\x01", Code::Text),
+    (b"count\tAus\xfftin\tCamry", Code::Text),
+    (b"Count\tAustin\tCamry", Code::Command),
+    (b"count \tAustin\tCamry", Code::Command),
+    (b"count", Code::Fields),
+    (b"count\tAustin", Code::Fields),
+    (b"count\tAustin\tCamry\t", Code::Fields),
+    (b"count\tWaco\tCamry", Code::Node),
+    (b"count\tAustin\tWaco", Code::Node),
+    (b"count\tCamry\tAustin", Code::Node),
+    (b"count\t\tCamry", Code::Node),
+    (b"Count\tAustin\tCamry\x01", Code::Text),
+    (b"Count\tAustin", Code::Command),
+    (b"Count\tWaco\tCamry", Code::Command),
+    (b"count\tWaco", Code::Fields),
+    (b"sum\tRepair\tAustin\tCam\x01", Code::Text),
+    (b"sum\tRepair\tAus\xfftin\tCamry", Code::Text),
+    (b"Sum\tRepair\tAustin\tCamry", Code::Command),
+    (b"sum \tRepair\tAustin\tCamry", Code::Command),
+    (b"sum", Code::Fields),
+    (b"sum\tRepair\tAustin", Code::Fields),
+    (b"sum\tRepair\tAustin\tCamry\t", Code::Fields),
+    (b"sum\tRepair\tWaco\tCamry", Code::Node),
+    (b"sum\tRepair\tAustin\tWaco", Code::Node),
+    (b"sum\tRepair\tCamry\tAustin", Code::Node),
+    (b"sum\tRepair\t\tCamry", Code::Node),
+    (b"sum\tPrice\tAustin\tCamry", Code::Measure),
+    (b"sum\t\tAustin\tCamry", Code::Measure),
+    (b"sum\trepair\tAustin\tCamry", Code::Measure),
+    (b"sum\tRepair \tAustin\tCamry", Code::Measure),
+    (b"sum\tPrice\tWaco\tCamry", Code::Node),
+    (b"sum\t\tAustin\t", Code::Node),
+    (b"sum\tPrice\tAustin", Code::Fields),
+    (b"Sum\tRepair\tAustin\tCamry\x01", Code::Text),
+    (b"Sum\tRepair\tAustin", Code::Command),
+    (b"Sum\tRepair\tWaco\tCamry", Code::Command),
+    (b"sum\tRepair\tWaco", Code::Fields),
+    (b"avg\tRepair\tAustin\tCam\x01", Code::Text),
+    (b"avg\tRepair\tAus\xfftin\tCamry", Code::Text),
+    (b"Avg\tRepair\tAustin\tCamry", Code::Command),
+    (b"avg \tRepair\tAustin\tCamry", Code::Command),
+    (b"avg", Code::Fields),
+    (b"avg\tRepair\tAustin", Code::Fields),
+    (b"avg\tRepair\tAustin\tCamry\t", Code::Fields),
+    (b"avg\tRepair\tWaco\tCamry", Code::Node),
+    (b"avg\tRepair\tAustin\tWaco", Code::Node),
+    (b"avg\tRepair\tCamry\tAustin", Code::Node),
+    (b"avg\tRepair\t\tCamry", Code::Node),
+    (b"avg\tPrice\tAustin\tCamry", Code::Measure),
+    (b"avg\t\tAustin\tCamry", Code::Measure),
+    (b"avg\trepair\tAustin\tCamry", Code::Measure),
+    (b"avg\tRepair \tAustin\tCamry", Code::Measure),
+    (b"avg\tPrice\tWaco\tCamry", Code::Node),
+    (b"avg\t\tAustin\t", Code::Node),
+    (b"avg\tPrice\tAustin", Code::Fields),
+    (b"Avg\tRepair\tAustin\tCamry\x01", Code::Text),
+    (b"Avg\tRepair\tAustin", Code::Command),
+    (b"Avg\tRepair\tWaco\tCamry", Code::Command),
+    (b"avg\tRepair\tWaco", Code::Fields),
+    (b"pool\tRepair\tAustin\tCam\x01", Code::Text),
+    (b"pool\tRepair\tAus\xfftin\tCamry", Code::Text),
+    (b"Pool\tRepair\tAustin\tCamry", Code::Command),
+    (b"pool \tRepair\tAustin\tCamry", Code::Command),
+    (b"pool", Code::Fields),
+    (b"pool\tRepair\tAustin", Code::Fields),
+    (b"pool\tRepair\tAustin\tCamry\t", Code::Fields),
+    (b"pool\tRepair\tWaco\tCamry", Code::Node),
+    (b"pool\tRepair\tAustin\tWaco", Code::Node),
+    (b"pool\tRepair\tCamry\tAustin", Code::Node),
+    (b"pool\tRepair\t\tCamry", Code::Node),
+    (b"pool\tPrice\tAustin\tCamry", Code::Measure),
+    (b"pool\t\tAustin\tCamry", Code::Measure),
+    (b"pool\trepair\tAustin\tCamry", Code::Measure),
+    (b"pool\tRepair \tAustin\tCamry", Code::Measure),
+    (b"pool\tPrice\tWaco\tCamry", Code::Node),
+    (b"pool\t\tAustin\t", Code::Node),
+    (b"pool\tPrice\tAustin", Code::Fields),
+    (b"pool\tRepair\tAustin\tCamry", Code::Measure),
+    (b"Pool\tRepair\tAustin\tCamry\x01", Code::Text),
+    (b"Pool\tRepair\tAustin", Code::Command),
+    (b"Pool\tRepair\tWaco\tCamry", Code::Command),
+    (b"pool\tRepair\tWaco", Code::Fields),
+    (b"worlds\tAustin\tCam\x01", Code::Text),
+    (b"worlds\tAus\xfftin\tCamry", Code::Text),
+    (b"worlds\tAustin\tCamry\x7f", Code::Text),
+    (b"Worlds\tAustin\tCamry", Code::Command),
+    (b"world\tAustin\tCamry", Code::Command),
+    (b"worlds \tAustin\tCamry", Code::Command),
+    (b"worlds", Code::Fields),
+    (b"worlds\tAustin", Code::Fields),
+    (b"worlds\tAustin\tCamry\t", Code::Fields),
+    (b"worlds\tWaco\tCamry", Code::Node),
+    (b"worlds\tAustin\tWaco", Code::Node),
+    (b"worlds\tCamry\tAustin", Code::Node),
+    (b"worlds\t\tCamry", Code::Node),
+    (b"Worlds\tAustin\tCamry\x01", Code::Text),
+    (b"worlds\tAustin\x01", Code::Text),
+    (b"Worlds\tAustin", Code::Command),
+    (b"Worlds\tWaco\tCamry", Code::Command),
+    (b"worlds\tWaco", Code::Fields),
+    (b"worlds\tAustin\tWaco\t", Code::Fields),
 ];
 
 /// Whether a line of the schema of repairs is refused for a code.
@@ -178,20 +285,30 @@ fn is_refused(alloc: Global, line: &[u8], code: Code) -> Result<bool, AllocError
     Ok(ran.is(End::Finished { refused: 1 }, &reply))
 }
 
-#[test]
-fn refused_lines(rt: HostRuntime) -> Result<(), Fail> {
-    for (line, code) in &REFUSED {
+/// Each line is refused for its code.
+fn expect_refused(rt: &(impl Abort + AllocGlobal), lines: &[(&[u8], Code)]) -> Result<(), Fail> {
+    for (line, code) in lines {
         let refused = is_refused(rt.alloc(), line, *code)?;
         assert!(rt; refused);
     }
     Ok(())
 }
 
+#[test]
+fn refused_lines(rt: HostRuntime) -> Result<(), Fail> {
+    expect_refused(&rt, &REFUSED)
+}
+
+#[test]
+fn refused_questions(rt: HostRuntime) -> Result<(), Fail> {
+    expect_refused(&rt, &REFUSED_QUESTIONS)
+}
+
 /// A line whose middle is one byte many times: what stands before it, the byte, what stands behind it, and why the line
 /// is refused where it has as many bytes as a line may have.
 type Filled = (&'static [u8], u8, &'static [u8], Code);
 
-const FILLED: [Filled; 27] = [
+const FILLED: [Filled; 33] = [
     (b"insert\t1\tAustin\tCamry\t", b'1', b"", Code::Value),
     (b"insert\t", b'1', b"\tAustin\tCamry\t1", Code::Id),
     (b"insert\t1\t", b'a', b"\tCamry\t1", Code::Node),
@@ -219,6 +336,12 @@ const FILLED: [Filled; 27] = [
     (b"Rows\t", b'1', b"", Code::Command),
     (b"rows\t", b'1', b"\x01", Code::Text),
     (b"terms\t", b'a', b"\r", Code::Fields),
+    (b"count\tAustin\t", b'a', b"", Code::Node),
+    (b"sum\t", b'a', b"\tAustin\tCamry", Code::Measure),
+    (b"avg\tRepair\tAustin", b'a', b"", Code::Fields),
+    (b"pool\tRepair\t", b'a', b"\tCamry", Code::Node),
+    (b"worlds\t", b'a', b"\tCamry", Code::Node),
+    (b"worlds\tAustin", b'a', b"", Code::Fields),
 ];
 
 /// The line with so many bytes in all.
@@ -253,9 +376,9 @@ fn longest_lines(rt: HostRuntime) -> Result<(), Fail> {
 /// Lines that are taken as they stand.
 const TAKEN: [Case; 1] = [(
     REPAIRS,
-    "insert\t4\tTX\tCamry\t600\nchange\t3\tHouston\tCamry\t50\ninsert\t9223372036854775807\tAustin\tCamry\t1\nterms\tAustin\tCamry\nterms\tAustin\tCamry\r\nrows\t4\nwithdraw\t4\n\n\r\n#x\ncount\tAll\tAll\nsum\tRepair\tAll\tAll\navg\tRepair\tAll\tAll\npool\tRepair\tAll\tAll\nview\tstate\nworlds\tAll\tAll\n",
-    "ok\t1\nerror\tmissing\nok\t2\nterms\t1\t1\t2\t601\nterms\t1\t1\t2\t601\nrows\t1\t1\tAustin\tCamry\t1\nok\t0\nerror\tcommand\nerror\tcommand\nerror\tcommand\nerror\tcommand\nerror\tcommand\nerror\tcommand\n",
-    End::Finished { refused: 7 },
+    "insert\t4\tTX\tCamry\t600\nchange\t3\tHouston\tCamry\t50\ninsert\t9223372036854775807\tAustin\tCamry\t1\nterms\tAustin\tCamry\nterms\tAustin\tCamry\r\nrows\t4\nwithdraw\t4\n\n\r\n#x\ncount\tAll\tAll\nsum\tRepair\tAll\tAll\navg\tRepair\tAll\tAll\n",
+    "ok\t1\nerror\tmissing\nok\t2\nterms\t1\t1\t2\t601\nterms\t1\t1\t2\t601\nrows\t1\t1\tAustin\tCamry\t1\nok\t0\ncount\t1.000000000\t1.000000000\t1\nsum\t1.000000000\t1.000000000\t1\navg\t1.000000000\t1.000000000\t1\n",
+    End::Finished { refused: 1 },
 )];
 
 #[test]

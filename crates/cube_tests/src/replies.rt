@@ -64,8 +64,8 @@ const CASES: [Case; 13] = [
     // A node with one leaf stands for it.
     (
         STATES,
-        "insert\t1\tNV\nrows\t1\ninsert\t2\tAll\nrows\t2\n",
-        "ok\t1\nrows\t1\t1\tReno\t1\nok\t1\nrows\t1\t1\tReno\t1\n",
+        "insert\t1\tNV\nrows\t1\ninsert\t2\tAll\nrows\t2\ncount\tReno\n",
+        "ok\t1\nrows\t1\t1\tReno\t1\nok\t1\nrows\t1\t1\tReno\t1\ncount\t2.000000000\t2.000000000\t2\n",
         End::Finished { refused: 0 },
     ),
     // A schema of one node.
@@ -103,9 +103,9 @@ const CASES: [Case; 13] = [
     // Of several faults the first in their order is told, and a fault of the line before one of the edit.
     (
         REPAIRS,
-        "Insert\t1\tAustin\tCamry\t1\ninsert\t1\tAustin\tCamry\ninsert\t0\tWaco\tCamry\t+5\ninsert\t1\tWaco\tCamry\t+5\nsum\tPrice\tWaco\tCamry\nchange\t1\tAustin\tCamry\t+5\nchange\t1\tAustin\tCamry\t5\n",
-        "error\tcommand\nerror\tfields\nerror\tid\nerror\tnode\nerror\tcommand\nerror\tvalue\nerror\tmissing\n",
-        End::Finished { refused: 7 },
+        "Insert\t1\tAustin\tCamry\t1\ninsert\t1\tAustin\tCamry\ninsert\t0\tWaco\tCamry\t+5\ninsert\t1\tWaco\tCamry\t+5\nsum\tPrice\tWaco\tCamry\nsum\tPrice\tAustin\tCamry\npool\tRepair\tAustin\tCamry\nchange\t1\tAustin\tCamry\t+5\nchange\t1\tAustin\tCamry\t5\n",
+        "error\tcommand\nerror\tfields\nerror\tid\nerror\tnode\nerror\tnode\nerror\tmeasure\nerror\tmeasure\nerror\tvalue\nerror\tmissing\n",
+        End::Finished { refused: 9 },
     ),
 ];
 

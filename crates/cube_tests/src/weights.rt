@@ -14,8 +14,8 @@ const BY_HOURS: &str =
 const CASES: [Case; 3] = [
     (
         BY_REPAIRS,
-        "insert\t1\tAustin\tCamry\t100\ninsert\t2\tAustin\tCamry\t300\ninsert\t3\tDallas\tCamry\t50\ninsert\t4\tTX\tCamry\t600\nrows\t4\nterms\tAustin\tCamry\nchange\t2\tAustin\tCamry\t301\nrows\t4\ninsert\t1\tLA\tCivic\t-1\nchange\t3\tDallas\tCamry\t0\nrows\t4\n",
-        "ok\t1\nok\t1\nok\t1\nok\t1\nrows\t450\t2\tAustin\tCamry\t400\tDallas\tCamry\t50\nterms\t2\t1\t2\t400\t450\t400\t240000\nok\t1\nrows\t451\t2\tAustin\tCamry\t401\tDallas\tCamry\t50\nerror\tvalue\nok\t1\nrows\t401\t1\tAustin\tCamry\t401\n",
+        "insert\t1\tAustin\tCamry\t100\ninsert\t2\tAustin\tCamry\t300\ninsert\t3\tDallas\tCamry\t50\ninsert\t4\tTX\tCamry\t600\nrows\t4\nterms\tAustin\tCamry\ncount\tAustin\tCamry\nchange\t2\tAustin\tCamry\t301\nrows\t4\ninsert\t1\tLA\tCivic\t-1\nchange\t3\tDallas\tCamry\t0\nrows\t4\n",
+        "ok\t1\nok\t1\nok\t1\nok\t1\nrows\t450\t2\tAustin\tCamry\t400\tDallas\tCamry\t50\nterms\t2\t1\t2\t400\t450\t400\t240000\ncount\t2.888888888\t2.888888889\t26/9\nok\t1\nrows\t451\t2\tAustin\tCamry\t401\tDallas\tCamry\t50\nerror\tvalue\nok\t1\nrows\t401\t1\tAustin\tCamry\t401\n",
         End::Finished { refused: 1 },
     ),
     // The values of the measure that weighs alone may not be below 0, and a cell whose sum is 0 has no row.

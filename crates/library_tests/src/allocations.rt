@@ -1,0 +1,82 @@
+//! How facts are spread over the cells of their regions.
+ghost use Rattle.std.specs.Prelude.{IfOk};
+ghost use Rattle.cube_model.specs.Cells.{AreRows};
+
+use crate::fixtures::{Node, space_of};
+use alloc_rows::{Alloc, allocate};
+use cell_weight::{ByCount, BySum, StatIndex, Uniform, WeightPolicy};
+use cube_base::Cols;
+use cube_model::{Fact, MAX_CELLS};
+use region_algebra::Space;
+use std::alloc::Global;
+use std::test::Fail;
+
+/// A root with two nodes, of one leaf and of two.
+const PLACES: [Node; 6] = [
+    (0, "All", 0),
+    (1, "NV", 1),
+    (2, "Reno", 2),
+    (1, "TX", 3),
+    (2, "Austin", 4),
+    (2, "Dallas", 5),
+];
+
+/// A node with the cells over which a fact there is spread evenly.
+type Row = (u32, &'static [(u64, u64)]);
+
+/// Nodes of several cells, of one, and with one leaf.
+const SPREAD: [Row; 4] = [
+    (0, &[(0, 1), (1, 1), (2, 1)]),
+    (3, &[(1, 1), (2, 1)]),
+    (4, &[(1, 1)]),
+    (1, &[(0, 1)]),
+];
+
+/// The allocation of a fact at a node of a space of one dimension, where no precise fact lies.
+pub fn spread_alone<P: WeightPolicy>(
+    alloc: Global,
+    space: &Space,
+    policy: &P,
+    node: u32,
+) -> Result<Alloc, Fail>
+    ensures { IfOk result (λ a. AreRows space.now a.rows) }
+{
+    let region = space.region(&[node]).ok_or("no region")?;
+    if space.cell_count(region) > MAX_CELLS {
+        return Err("many cells".into());
+    }
+    let cols = Cols::new(&[]).ok_or("no columns")?;
+    let fact = Fact {
+        id: 1,
+        region,
+        cols,
+    };
+    let stats = StatIndex::new(alloc);
+    Ok(allocate(alloc, space, policy, &stats, &fact)?)
+}
+
+/// Whether a fact is spread evenly, whatever cells weigh.
+fn is_spread(alloc: Global, space: &Space, row: &Row) -> Result<bool, Fail> {
+    let (node, rows) = row;
+    Ok(
+        spread_alone(alloc, space, &Uniform, *node)?.rows() == *rows
+            && spread_alone(alloc, space, &ByCount, *node)?.rows() == *rows
+            && spread_alone(alloc, space, &BySum, *node)?.rows() == *rows,
+    )
+}
+
+fn are_spread(alloc: Global, rows: &[Row]) -> Result<bool, Fail> {
+    let space = space_of(alloc, &[&PLACES])?;
+    for row in rows {
+        if !is_spread(alloc, &space, row)? {
+            return Ok(false);
+        }
+    }
+    Ok(true)
+}
+
+#[test]
+fn facts_are_spread(rt: HostRuntime) -> Result<(), Fail> {
+    assert!(rt; are_spread(rt.alloc(), &SPREAD)?);
+    Ok(())
+}

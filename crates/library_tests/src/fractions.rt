@@ -1,0 +1,50 @@
+//! What a sum and a quotient print.
+use exact_fraction::{MAX_SCALE, Terms, one, ratio};
+use std::alloc::Global;
+use std::test::Fail;
+
+/// A column of terms of which there are none, and what its sum and its quotient print.
+type Row = (u32, &'static str, &'static str);
+
+const PRINTED: [Row; 2] = [
+    (
+        0,
+        "Value { lo: 0, hi: 0, exact: Some((0, 1)) }",
+        "Undefined",
+    ),
+    (
+        2,
+        "Value { lo: 0, hi: 0, exact: Some((0, 1)) }",
+        "Undefined",
+    ),
+];
+
+/// Whether a column prints as its row says.
+fn is_printed(alloc: Global, row: &Row) -> Result<bool, Fail> {
+    let (col, sum, quotient) = row;
+    let terms = Terms::empty(alloc, 3);
+    if *col >= terms.columns() {
+        return Ok(false);
+    }
+    let value = one(&terms, *col);
+    let average = ratio(&terms, *col, MAX_SCALE);
+    Ok(
+        format!(in alloc; "{value:?}")?.as_str() == *sum
+            && format!(in alloc; "{average:?}")?.as_str() == *quotient,
+    )
+}
+
+fn are_printed(alloc: Global, rows: &[Row]) -> Result<bool, Fail> {
+    for row in rows {
+        if !is_printed(alloc, row)? {
+            return Ok(false);
+        }
+    }
+    Ok(true)
+}
+
+#[test]
+fn sums_and_quotients_are_printed(rt: HostRuntime) -> Result<(), Fail> {
+    assert!(rt; are_printed(rt.alloc(), &PRINTED)?);
+    Ok(())
+}
