@@ -40,10 +40,15 @@ IDS = [b"1", b"2", b"3", b"4", b"5", b"6", b"7", b"8", b"9223372036854775807"]
 WRONG_IDS = [b"", b"0", b"-1", b"+1", b"01", b"9223372036854775808", b"18446744073709551617", b"x", b"1 "]
 WRONG_DEPTHS = [b"", b"-1", b"01", b"9", b"10", b"x", b"256", b"4294967296"]
 WRONG_LINES = [
-    *(b"count", b"sum\ta", b"avg\ta\tb", b"pool\ta\tb", b"view\tx", b"view\tx\t1", b"worlds\ta"),
+    *(b"count", b"sum\ta", b"avg\ta\tb", b"pool\ta\tb", b"view\tx", b"view\tx\t1", b"worlds"),
     *(b"Insert\t1\ta", b"insert", b"withdraw", b"rows", b"terms", b"\t", b"x", b"error\tid", b"end", b"node\t1\tz"),
     *(b"parts\tQ\t100\tgood\tbad", b"parts\tQ\t0\tx\ty", b"parts\tQ\t1\tx\tx", b"parts\tQ\t1\tx", b"policy\tem", b"policy\tweight\ta", b"policy\tweight", b"cube\t2", b"cube\t3", b"node\t1\tz\t1", b"dimension\t", b"number\t"),
 ]
+# Words of scripts, and how often they come.
+WORDS = {
+    **{b"insert": 12, b"change": 4, b"withdraw": 2, b"terms": 3, b"rows": 4},
+    **{b"count": 3, b"sum": 3, b"avg": 4, b"pool": 3, b"worlds": 3},
+}
 SKIPPED = [b"", b"\r", b"#", b"# insert\t1", b"#\xff\x00\r", b"#" + b"x" * 5000]
 HOSTILE = [
     *(b"\xff", b"\xc3", b"\xed\xa0\x80", b"\xc0\xaf", b"\xf4\x90\x80\x80", b"\xef\xbb\xbf", b"\xe2\x82", b"\xc2\x80"),
@@ -149,14 +154,28 @@ class Made:
             spoil(self.random, fields)
         return b"\t".join(fields)
 
+    def often(self, word):
+        """How often a word comes: seldom where no measure is of its kind."""
+        kinds = {b"sum": False, b"avg": False, b"pool": True}
+        has_one = word not in kinds or any(bool(m.outcomes) == kinds[word] for m in self.measures)
+        return WORDS[word] if has_one else 0.3
+
+    def measure_name(self, is_distribution):
+        """The name of a measure, mostly of one that is a distribution or is not, as it should be, where there is one."""
+        right = [m.name for m in self.measures if bool(m.outcomes) == is_distribution]
+        names = right if right and self.random.random() < 0.9 else [m.name for m in self.measures] + NAMES
+        return self.random.choice(names)
+
     def fields(self):
         random = self.random
-        word = random.choices([b"insert", b"change", b"withdraw", b"terms", b"rows"], [12, 4, 2, 6, 4])[0]
+        word = random.choices(list(WORDS), [self.often(word) for word in WORDS])[0]
         id = [random.choice(self.ids)]
         nodes = [tree.node(random) for tree in self.trees]
         values = [measure.value() for measure in self.measures]
-        if word == b"terms":
+        if word in (b"count", b"terms", b"worlds"):
             return [word, *nodes]
+        if word in (b"sum", b"avg", b"pool"):
+            return [word, self.measure_name(word == b"pool"), *nodes]
         return [word, *id, *nodes, *values] if word in (b"insert", b"change") else [word, *id]
 
 

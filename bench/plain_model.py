@@ -8,8 +8,9 @@ Left out are faults of the streams, want of memory, and the limit on the bytes o
 that the program does not have yet are refused here as any unknown word is.
 """
 import sys
+from fractions import Fraction
 from itertools import product
-from math import prod
+from math import ceil, floor, lcm, prod
 from typing import Callable, NamedTuple
 
 # Limits.
@@ -27,6 +28,10 @@ MAX_PRODUCT = 2**62  # the products of leaves and of nodes are below it
 MAX_CELLS = 2**20  # of a fact's region
 MAX_FACTS = 2**20
 MAX_ROWS = 2**21  # of all facts
+MAX_WORLDS = 65_536  # that are listed
+MAX_MASS = 2**60  # of the worlds that are listed
+WIDE = 2**120  # the largest denominator and sum of absolute values of a fraction that is told as such
+UNITS = 10**9  # of a bound, in one
 
 # Statuses.
 FINISHED, FINISHED_WITH_REFUSALS, USAGE, SCHEMA_REFUSED = range(4)
@@ -408,6 +413,75 @@ def answer(schema, facts, region):
     return terms
 
 
+# Fractions. Those of Python are in lowest terms, and 0 is 0 over 1.
+
+
+class Told(NamedTuple):
+    """What a reply tells of a number: the fraction itself where it is told as one, and whole numbers of units about it."""
+
+    low: int | None
+    high: int | None
+    exact: Fraction | None
+
+
+def fractions_of(terms, column):
+    return [Fraction(term[1 + column], term[0]) for term in terms]
+
+
+def sum_over(multiple, fractions):
+    return sum(f.numerator * (multiple // f.denominator) for f in fractions)
+
+
+def is_wide(multiple, fractions):
+    return multiple > WIDE or sum(abs(f.numerator) * (multiple // f.denominator) for f in fractions) > WIDE
+
+
+def exactly(number):
+    return Told(floor(number * UNITS), ceil(number * UNITS), number)
+
+
+def total(terms, column):
+    """The sum of a column, the count being column 0."""
+    fractions = fractions_of(terms, column)
+    multiple = lcm(*(f.denominator for f in fractions))
+    if not is_wide(multiple, fractions):
+        return exactly(Fraction(sum_over(multiple, fractions), multiple))
+    return Told(sum(floor(f * UNITS) for f in fractions), sum(ceil(f * UNITS) for f in fractions), None)
+
+
+def quotient(terms, column, scale):
+    """The sum of a column over that of the count and a scale."""
+    refuse_where(not terms, "undefined")
+    sums, counts = fractions_of(terms, column), fractions_of(terms, 0)
+    multiple = lcm(*(f.denominator for f in sums + counts))
+    if not is_wide(multiple, sums) and not is_wide(multiple, counts):
+        number = Fraction(sum_over(multiple, sums), sum_over(multiple, counts) * scale)
+        if number.denominator <= WIDE:
+            return exactly(number)
+    return quotient_of_bounds(total(terms, column), total(terms, 0), scale)
+
+
+def quotient_of_bounds(column, count, scale):
+    if count.low == 0:
+        return Told(None, None, None)
+    least = Fraction(column.low, (count.high if column.low >= 0 else count.low) * scale)
+    most = Fraction(column.high, (count.low if column.high >= 0 else count.high) * scale)
+    return Told(floor(least * UNITS), ceil(most * UNITS), None)
+
+
+def bound_text(units):
+    """A number of units with nine digits behind the point."""
+    if units is None:
+        return "-"
+    whole, rest = divmod(abs(units), UNITS)
+    return f"{'-' if units < 0 else ''}{whole}.{rest:09}"
+
+
+def told_fields(told):
+    exact = "wide" if told.exact is None else str(told.exact)
+    return [bound_text(told.low), bound_text(told.high), exact]
+
+
 # Lines of a script.
 
 
@@ -496,6 +570,43 @@ def do_terms(schema, facts, *names):
     return reply_line(b"terms", len(found), *(number for term in found for number in term)), facts
 
 
+def do_count(schema, facts, *names):
+    found = answer(schema, facts, read_region(schema, names))
+    return reply_line(b"count", *told_fields(total(found, 0))), facts
+
+
+def first_column(schema, place):
+    """The column of the first value of a measure. Column 0 is the count."""
+    return 1 + sum(measure.columns for measure in schema.measures[:place])
+
+
+def read_measure(schema, name, is_distribution):
+    """The place of the measure of this name, which is a distribution or not."""
+    places = [k for k, m in enumerate(schema.measures) if m.name == name and (m.scale is not None) == is_distribution]
+    refuse_where(not places, "measure")
+    return places[0]
+
+
+def do_sum(schema, facts, name, *names):
+    region = read_region(schema, names)
+    column = first_column(schema, read_measure(schema, name, False))
+    return reply_line(b"sum", *told_fields(total(answer(schema, facts, region), column))), facts
+
+
+def do_avg(schema, facts, name, *names):
+    region = read_region(schema, names)
+    column = first_column(schema, read_measure(schema, name, False))
+    return reply_line(b"avg", *told_fields(quotient(answer(schema, facts, region), column, 1))), facts
+
+
+def do_pool(schema, facts, name, *names):
+    region = read_region(schema, names)
+    place = read_measure(schema, name, True)
+    terms, first, measure = answer(schema, facts, region), first_column(schema, place), schema.measures[place]
+    outcomes = [quotient(terms, first + k, measure.scale) for k in range(measure.columns)]
+    return reply_line(b"pool", *(field for told in outcomes for field in told_fields(told))), facts
+
+
 def do_rows(schema, facts, id_text):
     id = read_id(id_text)
     refuse_where(not has_id(facts, id), "missing")
@@ -504,18 +615,44 @@ def do_rows(schema, facts, id_text):
     return reply_line(b"rows", found.denominator, len(found.rows), *items), facts
 
 
+def worlds_of(allocations):
+    """All possible worlds: each fact stands in the cell of one of its rows, whose weights are multiplied."""
+    for rows in product(*(allocation.rows for allocation in allocations)):
+        yield prod(weight for _, weight in rows), [cell for cell, _ in rows]
+
+
+def do_worlds(schema, facts, *names):
+    region = read_region(schema, names)
+    allocations = [allocation for _, allocation in extended(schema, facts)]
+    refuse_where(prod(len(allocation.rows) for allocation in allocations) > MAX_WORLDS, "many")
+    refuse_where(prod(allocation.denominator for allocation in allocations) > MAX_MASS, "wide")
+    rows = [[1, *(value for values in fact.values for value in values)] for fact in facts]
+    number, mass, totals = 0, 0, [0] * first_column(schema, len(schema.measures))
+    for weight, cells in worlds_of(allocations):
+        number, mass = number + 1, mass + weight
+        for row, cell in zip(rows, cells):
+            if is_inside(schema, cell, region):
+                totals = [so_far + weight * value for so_far, value in zip(totals, row)]
+    return reply_line(b"worlds", number, mass, *totals), facts
+
+
 def cell_names(schema, cell):
     return [dim.names[leaf] for dim, leaf in zip(schema.dimensions, cell)]
 
 
-# Each command with what it does, which gives the reply and the facts after it, and whether its line has an id, a node
-# of each dimension, a value of each measure.
+# Each command with what it does, which gives the reply and the facts after it, and whether its line has an id or the
+# name of a measure, a node of each dimension, a value of each measure.
 COMMANDS = {
     b"insert": (do_insert, True, True, True),
     b"change": (do_change, True, True, True),
     b"withdraw": (do_withdraw, True, False, False),
+    b"count": (do_count, False, True, False),
+    b"sum": (do_sum, True, True, False),
+    b"avg": (do_avg, True, True, False),
+    b"pool": (do_pool, True, True, False),
     b"terms": (do_terms, False, True, False),
     b"rows": (do_rows, True, False, False),
+    b"worlds": (do_worlds, False, True, False),
 }
 
 
@@ -523,8 +660,8 @@ def do_line(schema, facts, line):
     """The reply to a line that is not refused, and the facts after it."""
     word, *fields = fields_of(line)
     refuse_where(word not in COMMANDS, "command")
-    command, has_id_field, has_nodes, has_values = COMMANDS[word]
-    count = has_id_field + has_nodes * len(schema.dimensions) + has_values * len(schema.measures)
+    command, has_first, has_nodes, has_values = COMMANDS[word]
+    count = has_first + has_nodes * len(schema.dimensions) + has_values * len(schema.measures)
     refuse_where(len(fields) != count, "fields")
     return command(schema, facts, *fields)
 

@@ -1,7 +1,7 @@
 #!/usr/bin/env python3
 """Examples worked out by hand, each run through the plain model: plain_model_rows.py [slow]
 
-With `slow` those are run too that list millions of cells, in about half a minute and 500 MB. The status is 1 where the
+With `slow` those are run too that list millions of cells or have a thousand facts, in less than a minute and 500 MB. The status is 1 where the
 model says anything else than an example. `|` stands for a TAB.
 """
 import sys
@@ -98,6 +98,39 @@ node|2|LA|4
 end
 """)
 
+# Four models in two cities, where a cell weighs as much as its facts say.
+SHARES = lines_in("""
+cube|1
+policy|weight|Weight
+number|Weight
+number|Value
+dimension|City
+node|0|All
+node|1|a
+node|1|b
+dimension|Model
+node|0|All
+node|1|m1
+node|1|m2
+node|1|m3
+node|1|m4
+end
+""")
+
+# Two leaves with equal shares, and two that weigh as much as they have facts.
+EVEN_LEAVES = lines_in("cube|1\npolicy|uniform\ndimension|Place\nnode|0|All\nnode|1|a\nnode|1|b\nend")
+COUNTED_LEAVES = lines_in("cube|1\npolicy|count\ndimension|Place\nnode|0|All\nnode|1|a\nnode|1|b\nend")
+
+# Primes just below 10^12.
+PRIMES = [999_999_999_989, 999_999_999_961, 999_999_999_959, 999_999_999_937]
+
+# Two cities, and a hundred models that are sold in both.
+MODELS = [
+    *lines_in("cube|1\npolicy|count\ndimension|City\nnode|0|All\nnode|1|a\nnode|1|b\ndimension|Model\nnode|0|All"),
+    *(f"node|1|m{k}" for k in range(1, 101)),
+    "end",
+]
+
 # 1,024 x 1,025 cells, of which 2^20 are at (L, S).
 GRID = [
     *lines_in("cube|1\npolicy|count\ndimension|Left\nnode|0|L"),
@@ -114,6 +147,26 @@ REPAIRS = [
     ("insert|4|TX|Camry|600", "ok|1"),
     ("rows|4", "rows|3|2|Austin|Camry|2|Dallas|Camry|1"),
 ]
+
+
+
+def shares_of_primes():
+    """For each prime a fact of weight 1 in a, one of the rest in b, and one in either city."""
+    for k, prime in enumerate(PRIMES):
+        yield f"insert|{3 * k + 1}|a|m{k + 1}|1|-3", "ok|1"
+        yield f"insert|{3 * k + 2}|b|m{k + 1}|{prime - 1}|5", "ok|1"
+        yield f"insert|{3 * k + 3}|All|m{k + 1}|0|-1000000000000", "ok|1"
+
+
+def shares_of_each_model():
+    """One fact of each model in a, one fewer than its number in b, and one in either city, of which a has the share of one
+    in its number."""
+    id = 0
+    for k in range(1, 101):
+        for place in ["a", *["b"] * (k - 1), "All"]:
+            id += 1
+            yield f"insert|{id}|{place}|m{k}", "ok|1"
+
 
 # Scripts: a name, a schema, and each line with its reply.
 SCRIPTS = [
@@ -136,17 +189,48 @@ SCRIPTS = [
         ("insert|2|All", "ok|1"),
         ("rows|2", "rows|1|1|Reno|1"),
         ("terms|Reno", "terms|1|1|2"),
+        ("count|Reno", "count|2.000000000|2.000000000|2"),
+    ]),
+    ("counts, sums and means", CARS, [
+        *REPAIRS,
+        ("count|Austin|Camry", "count|2.666666666|2.666666667|8/3"),
+        ("sum|Repair|Austin|Camry", "sum|800.000000000|800.000000000|800"),
+        ("avg|Repair|TX|All", "avg|262.500000000|262.500000000|525/2"),
+        ("change|2|Austin|Camry|301", "ok|0"),
+        ("sum|Repair|Austin|Camry", "sum|801.000000000|801.000000000|801"),
+    ]),
+    ("a sum and a mean below 0", CARS, [
+        ("insert|1|Austin|Camry|0", "ok|1"),
+        ("insert|2|Dallas|Camry|0", "ok|1"),
+        ("insert|3|Houston|Camry|0", "ok|1"),
+        ("insert|4|TX|Camry|-1", "ok|1"),
+        ("sum|Repair|Austin|Camry", "sum|-0.333333334|-0.333333333|-1/3"),
+        ("avg|Repair|Austin|Camry", "avg|-0.250000000|-0.250000000|-1/4"),
     ]),
     ("a change of a value alone refreshes nothing", CARS, [
         *REPAIRS,
         ("change|2|Austin|Camry|301", "ok|0"),
         ("terms|Austin|Camry", "terms|2|1|2|401|3|2|1200"),
     ]),
-    ("no fact", CARS, [("terms|All|All", "terms|0")]),
+    ("a common multiple too large for one fraction", SHARES, [
+        *shares_of_primes(),
+        ("count|a|All", "count|4.000000000|4.000000004|wide"),
+        ("sum|Value|a|All", "sum|-16.000000004|-16.000000000|wide"),
+        ("avg|Value|a|All", "avg|-4.000000001|-3.999999996|wide"),
+        ("sum|Weight|a|All", "sum|4.000000000|4.000000000|4"),
+        ("avg|Weight|a|All", "avg|0.999999999|1.000000000|wide"),
+    ]),
+    ("no fact", CARS, [
+        ("count|All|All", "count|0.000000000|0.000000000|0"),
+        ("terms|All|All", "terms|0"),
+        ("sum|Repair|All|All", "sum|0.000000000|0.000000000|0"),
+        ("avg|Repair|All|All", "error|undefined"),
+    ]),
     ("a fact lies by the sums of its cells", BY_REPAIRS, [
         *REPAIRS[:-1],
         ("rows|4", "rows|450|2|Austin|Camry|400|Dallas|Camry|50"),
         ("terms|Austin|Camry", "terms|2|1|2|400|450|400|240000"),
+        ("count|Austin|Camry", "count|2.888888888|2.888888889|26/9"),
         ("change|2|Austin|Camry|301", "ok|1"),
         ("rows|4", "rows|451|2|Austin|Camry|401|Dallas|Camry|50"),
         ("insert|1|LA|Civic|-1", "error|value"),
@@ -165,6 +249,10 @@ SCRIPTS = [
         ("insert|2|LA|100:0", "error|exists"),
         ("terms|Austin", "terms|2|1|1|80|20|2|1|50|50"),
         ("terms|LA", "terms|0"),
+        ("pool|Quality|Austin", "pool|0.700000000|0.700000000|7/10|0.300000000|0.300000000|3/10"),
+        ("pool|Quality|LA", "error|undefined"),
+        ("sum|Quality|Austin", "error|measure"),
+        ("avg|Quality|LA", "error|measure"),
     ]),
     ("a wrong number comes before wrong parts", ["cube|1", "policy|count", "parts|P|2|x|y", "number|n", *QUALITY[3:]], [
         ("insert|1|LA|1:2|x", "error|value"),
@@ -212,6 +300,10 @@ SCRIPTS = [
         ("insert|1|Austin|Camry", "error|fields"),
         ("insert|0|Waco|Camry|+5", "error|id"),
         ("insert|1|Waco|Camry|+5", "error|node"),
+        ("sum|Price|Waco|Camry", "error|node"),
+        ("sum|Price|Austin|Camry", "error|measure"),
+        ("pool|Repair|Austin|Camry", "error|measure"),
+        ("avg|Repair|Austin", "error|fields"),
         ("change|1|Austin|Camry|+5", "error|value"),
         ("change|1|Austin|Camry|5", "error|missing"),
         ("insert|1|Austin|Camry|1\x01|2", "error|text"),
@@ -227,18 +319,47 @@ SCRIPTS = [
         ("#" + "\udcff" * 5000, None),
         ("\r", None),
     ]),
+    ("worlds of four facts", CARS, [
+        ("worlds|All|All", "worlds|1|1|0|0"),
+        *REPAIRS,
+        ("worlds|Austin|Camry", "worlds|2|3|8|2400"),
+        ("worlds|Dallas|Camry", "worlds|2|3|4|750"),
+        ("worlds|Houston|Camry", "worlds|2|3|0|0"),
+        ("worlds|All|All", "worlds|2|3|12|3150"),
+        ("worlds|All", "error|fields"),
+        ("worlds|Austin|Waco", "error|node"),
+    ]),
+    ("the most worlds", EVEN_LEAVES, [
+        *((f"insert|{k}|All", "ok|1") for k in range(1, 17)),
+        ("worlds|All", "worlds|65536|65536|1048576"),
+        ("insert|17|All", "ok|1"),
+        ("worlds|All", "error|many"),
+        ("worlds|b", "error|many"),
+        ("withdraw|17", "ok|0"),
+        ("worlds|b", "worlds|65536|65536|524288"),
+    ]),
     ("words that are not known yet", CARS, [
-        ("count|All|All", "error|command"),
-        ("sum|Repair|All|All", "error|command"),
-        ("avg|Repair|All|All", "error|command"),
-        ("pool|Repair|All|All", "error|command"),
         ("view|state", "error|command"),
-        ("worlds|All|All", "error|command"),
+        ("view|state|1", "error|command"),
     ]),
     ("the most cells of a region", GRID, [("insert|1|L|R", "error|region"), ("change|1|L|R", "error|missing")]),
 ]
 
 SLOW_SCRIPTS = [
+    ("the largest mass of worlds", COUNTED_LEAVES, [
+        *((f"insert|{k}|a", "ok|1") for k in range(1, 1025)),
+        *((f"insert|{k}|All", "ok|1") for k in range(1025, 1031)),
+        ("worlds|a", "worlds|1|1152921504606846976|1187509149745052385280"),
+        ("worlds|b", "worlds|1|1152921504606846976|0"),
+        ("insert|1031|All", "ok|1"),
+        ("worlds|a", "error|wide"),
+        ("worlds|b", "error|wide"),
+    ]),
+    ("denominators whose common multiple is too large", MODELS, [
+        *shares_of_each_model(),
+        ("count|a|All", "count|105.187377472|105.187377557|wide"),
+        ("count|All|All", "count|5150.000000000|5150.000000000|5150"),
+    ]),
     ("the most rows", GRID, [
         ("insert|1|L|R", "error|region"),
         ("insert|1|L|S", "ok|1"),
