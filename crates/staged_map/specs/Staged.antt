@@ -1,8 +1,8 @@
 -- A map in which keys have places, with or without a value.
-use Rattle.std.specs.Prelude.{◌≡◌, ℕ, ◌+◌, ◌<◌, Bool, true, List, length, not, ◌&&◌, ◌||◌, ◌==◌, if◌then◌else◌, Option, Some, None, is_some, slice_index}
-use Rattle.std.specs.Option.{option_flatten}
-use Rattle.std.specs.List.{list_any}
-use Rattle.std.specs.Map.{lookup}
+use Rattle.std.specs.Prelude.{◌≡◌, ℕ, ◌+◌, ◌<◌, Bool, true, List, length, not, ◌&&◌, ◌||◌, ◌==◌, if◌then◌else◌, Option, Some, None, is_some, nat_eq, slice_index, unwrap_or}
+use Rattle.std.specs.Option.{option_flatten, option_map_or}
+use Rattle.std.specs.List.{IsDistinct, list_all, list_any}
+use Rattle.std.specs.Map.{keys_of, lookup}
 
 -- each key that has a place, with its value if it has one
 abbrev pub Places : Type 0 → Type 0
@@ -45,3 +45,25 @@ pub record ReservesSome {V : Type 0} (old new : Places V) (keys : List ℕ) : Ty
 pub record AreKeys {V : Type 0} (places : Places V) (keys : List ℕ) : Type 0 where
   pub ascending : (i : ℕ) → i + 1 < length keys → slice_index keys i < slice_index keys (i + 1)
   pub among : (k : ℕ) → list_any (λ key. k == key) keys ≡ is_some (value_at places k)
+
+-- what is staged: keys, each with the value that it shall have, or None where it shall have neither value nor place
+abbrev pub Entries : Type 0 → Type 0
+Entries V = List (ℕ × Option V)
+
+-- what is staged for a key, if something is
+abbrev pub entry_of : {V : Type 0} → Entries V → ℕ → Option (Option V)
+entry_of entries key = lookup (λ k. key == k) entries
+
+-- no key is staged twice
+abbrev pub AreOfDifferentKeys : {V : Type 0} → Entries V → Type 0
+AreOfDifferentKeys entries = IsDistinct nat_eq (keys_of entries)
+
+-- each key that shall have a value has a place
+abbrev pub have_places : {V : Type 0} → Places V → Entries V → Bool
+have_places places entries = list_all (λ entry. not (is_some entry.1) || has_place places entry.0) entries
+
+-- Each key that has an entry has what the entry says, and every other key what it had. A key that has an entry has a
+-- place exactly where it has a value.
+pub record PutsAll {V : Type 0} (old new : Places V) (entries : Entries V) : Type 0 where
+  pub values : (k : ℕ) → value_at new k ≡ unwrap_or (entry_of entries k) (value_at old k)
+  pub places : (k : ℕ) → has_place new k ≡ option_map_or is_some (entry_of entries k) (has_place old k)

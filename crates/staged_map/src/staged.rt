@@ -3,7 +3,7 @@ ghost use Rattle.std.specs.Prelude.{◌≡◌, ◌∷◌, [], true, false, map, 
 ghost use Rattle.std.specs.List.{IsDistinct};
 ghost use Rattle.std.specs.Map.{keys_of};
 ghost use Rattle.std.specs.Option.{option_copied};
-ghost use Rattle.staged_map.specs.Staged.{AreKeys, Removes, Reserves, ReservesSome, Sets, has_place, value_at};
+ghost use Rattle.staged_map.specs.Staged.{AreKeys, AreOfDifferentKeys, PutsAll, Removes, Reserves, ReservesSome, Sets, has_place, have_places, value_at};
 
 use cube_base::{Ids, Memory};
 use indexmap::IndexMap;
@@ -57,6 +57,34 @@ impl<V: Drop> Staged<V> {
         ensures removes { Removes self.old self.new key }
     {
         self.places.swap_remove(&key).flatten()
+    }
+
+    /// Gives each key of the entries its value, or takes its place away where the entry has none. All other keys keep what
+    /// they have. The keys differ from one another, and each that gets a value has a place, as `reserve` gives them. It
+    /// takes no memory.
+    pub fn put_all(&mut self, mut entries: Vec<(u64, Option<V>)>)
+        requires distinct { AreOfDifferentKeys entries.items }
+        requires placed { have_places self.old entries.items ≡ true }
+        ensures { PutsAll self.old self.new entries.items }
+    {
+        while let Some((key, value)) = entries.pop() {
+            self.put(key, value);
+        }
+    }
+
+    /// Gives a key that has a place a value, or takes its place away.
+    fn put(&mut self, key: u64, value: Option<V>)
+        requires { have_places self.old ((key, value) ∷ []) ≡ true }
+        ensures { PutsAll self.old self.new ((key, value) ∷ []) }
+    {
+        match value {
+            Some(value) => {
+                let _ = self.set(key, value);
+            }
+            None => {
+                let _ = self.remove(key);
+            }
+        }
     }
 
     /// Gives each of the keys a place. On an error some of them may have got one. It takes no memory where each has a
