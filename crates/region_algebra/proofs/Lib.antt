@@ -4,9 +4,10 @@ pub mod Intervals
 pub mod Meets
 pub mod Numbers
 pub mod Turns
+pub mod Wheels
 pub mod Tuples
+pub mod InsideDigits
 pub mod Spaces
 pub mod Growing
 pub mod Children
 pub mod Partition
-pub mod Runs

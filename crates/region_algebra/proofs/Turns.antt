@@ -1,11 +1,11 @@
 -- One dimension more or less: what cells and regions over the dimensions from d on are by those from d + 1 on.
-use Rattle.std.proofs.Common.{◌≡◌, ℕ, zero, suc, ◌+◌, ◌-◌, ◌*◌, ◌/◌, ◌%◌, ◌<◌, ◌≤◌, Bool, true, false, List, [], ◌∷◌, length, drop, get_or, refl, sym, ap, ◌∙◌, true≢false, arith}
+use Rattle.std.proofs.Common.{◌≡◌, ℕ, zero, suc, ◌+◌, ◌-◌, ◌*◌, ◌<◌, ◌≤◌, Bool, true, false, List, [], ◌∷◌, length, drop, get_or, refl, sym, ap, ◌∙◌, true≢false, arith}
 use Rattle.std.specs.Prelude.{if◌then◌else◌, All, Some, slice_get}
 use Rattle.std.specs.Option.{option_map}
 use Rattle.std.specs.List.{flat_map, range_with_len}
 use Rattle.std.proofs.lemmas.List.{length-map, drop_more, drop_all}
 use Rattle.std.proofs.lemmas.List.FromFn.{length-range_with_len}
-use Rattle.std.proofs.lemmas.Nat.{div-add-mod', mul-le, mod_below}
+use Rattle.std.proofs.lemmas.Nat.{mul-le}
 use Rattle.std.proofs.lemmas.Option.{slice_get-map, slice_get_within, get_or_from_slice_get, slice_get_read}
 use Rattle.std.proofs.lemmas.List.Elements.{All-cons, All-head, All-tail}
 use Rattle.cube_model.specs.Tree.{Dimension, IsTree, leaves}
@@ -13,7 +13,7 @@ use Rattle.cube_model.specs.Cells.{all_cells, is_inside, places_from, cells_of, 
 use Rattle.cube_model.specs.Limits.{SPACE_LIMIT}
 use Rattle.region_algebra.specs.Space.{cell_total, is_region, region_total}
 use Rattle.region_algebra.specs.Stepped.{IsStepped}
-use Rattle.region_algebra.proofs.Codes.{shifted, cells_of-cons, cells_of-nil, length-all_cells, length-cells_of-cons, length-cells_of-nil, slice_get-back, slice_get-front}
+use Rattle.region_algebra.proofs.Codes.{shifted, cells_of-cons, cells_of-nil, length-all_cells, length-cells_of-cons, length-cells_of-nil, slice_get-front}
 use Rattle.region_algebra.proofs.Intervals.{some_leaf, some_leaf_under, some_node}
 use Rattle.region_algebra.proofs.Meets.{is_region-cons}
 
@@ -110,76 +110,9 @@ count_turn dims nodes d e dim node first n count at range is =
     let turned : count * n ≡ n * count = omega arith in
     turned ∙ rw (at.dims_are, at.nodes_are, is) (sym (length-cells_of-cons dim (drop e dims) node (drop e nodes) ∙ rw range (ap (λ m. m * length (cells_of (drop e dims) (drop e nodes))) (length-range_with_len first n))))
 
--- the first of the cells behind so many runs
-pub nth-runs : (n : ℕ) (cells : List ℕ) (first w i j k cell : ℕ) → i < w → slice_get cells j ≡ Some cell → j < length cells → k ≡ i * length cells + j → slice_get (flat_map (shifted n cells) (range_with_len first w)) k ≡ Some ((first + i) * n + cell)
-nth-runs n cells first zero i j k cell within is inside place = absurd (omega arith)
-nth-runs n cells first (suc w) zero j k cell within is inside place =
-    let at : k ≡ j = omega (arith, place) in
-    let now : first + 0 ≡ first = omega arith in
-    rw (at, now) (slice_get-front (shifted n cells first) (flat_map (shifted n cells) (range_with_len (first + 1) w)) j (omega (arith, length-map cells (λ (c : ℕ). first * n + c))) ∙ slice_get-map (λ c. first * n + c) cells j ∙ ap (option_map (λ c. first * n + c)) is)
-nth-runs n cells first (suc w) (suc i) j k cell within is inside place =
-    let behind : k ≡ length (shifted n cells first) + (i * length cells + j) = rw (length-map cells (λ (c : ℕ). first * n + c)) (grind (arith, place)) in
-    let now : first + suc i ≡ first + 1 + i = omega arith in
-    rw now (slice_get-back (shifted n cells first) (flat_map (shifted n cells) (range_with_len (first + 1) w)) (i * length cells + j) k behind ∙ nth-runs n cells (first + 1) w i j (i * length cells + j) cell (omega arith) is inside refl)
-
--- a place among the cells, taken apart: so many runs of the others, and a place in the next
-pub record IsNth (dims : List Dimension) (nodes : List ℕ) (d place left code : ℕ) : Type 0 where
-  pub low : left * length (cells_of (drop d dims) (drop d nodes)) ≤ place
-  pub high : place < left * length (cells_of (drop d dims) (drop d nodes)) + length (cells_of (drop d dims) (drop d nodes))
-  pub at : slice_get (cells_of (drop d dims) (drop d nodes)) (place - left * length (cells_of (drop d dims) (drop d nodes))) ≡ Some code
-
-split_place : (left n m place : ℕ) → 0 < n → left * m ≤ place → place < left * m + m
-    → ((left / n) * (n * m) ≤ place) × (place < (left / n) * (n * m) + n * m) × (place - (left / n) * (n * m) ≡ (left % n) * m + (place - left * m))
-split_place left n m place some low high =
-    let whole : left / n * n + left % n ≡ left = div-add-mod' left n in
-    let parts : left * m ≡ (left / n) * (n * m) + (left % n) * m = ap (λ l. l * m) (sym whole) ∙ grind arith in
-    let most : (left % n) * m + m ≤ n * m = omega (arith, mul-le (suc (left % n)) m n m (mod_below left n some) (omega arith)) in
-    (omega (arith, parts), omega (arith, parts, most), omega (arith, parts))
-
-pub nth_turn : (dims : List Dimension) (nodes : List ℕ) (d e place left code first n step : ℕ) (dim : Dimension) (node : ℕ) → Here dims nodes d e dim node → leaf_places dim node ≡ range_with_len first n → 0 < n → step ≡ cell_total (drop e dims)
-    → IsNth dims nodes e place left code → IsNth dims nodes d place (left / n) (code + (first + left % n) * step)
-nth_turn dims nodes d e place left code first n step dim node at range some steps nth =
-    let cells = cells_of (drop e dims) (drop e nodes) in
-    let these : cells_of (drop d dims) (drop d nodes) ≡ flat_map (shifted step cells) (range_with_len first n) = rw (at.dims_are, at.nodes_are) (cells_of-cons dim (drop e dims) node (drop e nodes) ∙ rw (range, length-all_cells (drop e dims), steps) refl) in
-    let many : length (cells_of (drop d dims) (drop d nodes)) ≡ n * length cells = sym (count_turn dims nodes d e dim node first n (length cells) at range refl) ∙ omega arith in
-    let parts = split_place left n (length cells) place some nth.low nth.high in
-    let found : slice_get (flat_map (shifted step cells) (range_with_len first n)) (place - (left / n) * (n * length cells)) ≡ Some ((first + left % n) * step + code) = nth-runs step cells first n (left % n) (place - left * length cells) (place - (left / n) * (n * length cells)) code (mod_below left n some) nth.at (omega (arith, nth.low, nth.high)) parts.2 in
-    record {
-      low = rw many parts.0;
-      high = rw many parts.1;
-      at = rw (many, these, found) (ap Some (omega arith));
-    }
-
 -- over no dimension there is one cell
 pub cells-at_end : (dims : List Dimension) (nodes : List ℕ) (d : ℕ) → is_region dims nodes ≡ true → length dims ≤ d → cells_of (drop d dims) (drop d nodes) ≡ 0 ∷ []
 cells-at_end dims nodes d names all = rw (drop_all d dims all, drop_all d nodes (omega (arith, is_region-length dims nodes names))) cells_of-nil
-
-pub nth_start : (dims : List Dimension) (nodes : List ℕ) (d place : ℕ) → is_region dims nodes ≡ true → d ≡ length dims → IsNth dims nodes d place place 0
-nth_start dims nodes d place names all =
-    let one = cells-at_end dims nodes d names (omega (arith, all)) in
-    let start : place - place * 1 ≡ 0 = omega arith in
-    record { low = rw one (omega arith); high = rw one (omega arith); at = rw (one, start) refl }
-
-none_left : (left m place : ℕ) → left * m ≤ place → place < m → left ≡ 0
-none_left zero m place low within = refl
-none_left (suc left) m place low within =
-    let more : suc left * m ≡ m + left * m = grind arith in
-    absurd (omega (arith, more))
-
-pub nth_done : (dims : List Dimension) (nodes : List ℕ) (place left code : ℕ) → IsNth dims nodes 0 place left code → place < length (cells_of dims nodes) → slice_get (cells_of dims nodes) place ≡ Some code
-nth_done dims nodes place left code nth within =
-    let none : left ≡ 0 = none_left left (length (cells_of dims nodes)) place nth.low within in
-    let all : place - left * length (cells_of dims nodes) ≡ place = rw none (omega arith) in
-    ap (slice_get (cells_of dims nodes)) (sym all) ∙ nth.at
-
--- the code so far is below the number of cells there, and so is the next
-pub nth_below : (dims : List Dimension) (nodes : List ℕ) (d place left code : ℕ) → IsNth dims nodes d place left code → code < cell_total (drop d dims)
-nth_below dims nodes d place left code nth =
-    let cells = cells_of (drop d dims) (drop d nodes) in
-    let index = place - left * length cells in
-    let inside : index < length cells = slice_get_within cells index code nth.at in
-    let read : get_or cells index 0 ≡ code = get_or_from_slice_get cells index code 0 nth.at in
-    omega (arith, read, cells-below (drop d dims) (drop d nodes) index 0 inside)
 
 -- the next dimension before, as it is read
 pub before : (dims : List Dimension) (nodes : List ℕ) (d e : ℕ) (dim : Dimension) (node : ℕ) → is_region dims nodes ≡ true → e ≤ length dims → 0 < e → d ≡ e - 1 → dim ≡ get_or dims d dim → slice_get nodes d ≡ Some node → Here dims nodes d e dim node
@@ -200,9 +133,25 @@ count_next dims nodes d e first end n count dim node trees total at range is cou
     let next = count_turn dims nodes d e dim node first n count at (range-of dim node first end n range is) counted in
     (next, omega (arith, next, cells-few (drop d dims) (drop d nodes), cell_total-drop dims d trees, total))
 
-pub nth_next : (dims : List Dimension) (steps nodes : List ℕ) (d e place left code low first end n quotient rest : ℕ) (dim : Dimension) (node : ℕ) → IsStepped cell_total dims steps → Here dims nodes d e dim node → e ≤ length dims → 0 < e → d ≡ e - 1
-    → leaf_places dim node ≡ range_with_len first (end - first) → first < end → n ≡ end - first → low ≡ first → quotient ≡ left / n → rest ≡ left % n → IsNth dims nodes e place left code
-    → IsNth dims nodes d place quotient (code + (low + rest) * get_or steps d 0) × (code + (low + rest) * get_or steps d 0 < SPACE_LIMIT)
-nth_next dims steps nodes d e place left code low first end n quotient rest dim node stepped at within behind next range some is same divides remains nth =
-    let turned = nth_turn dims nodes d e place left code first n (get_or steps d 0) dim node at (range-of dim node first end n range is) (omega arith) (step-before cell_total dims steps d e stepped within behind next) nth in
-    rw (same, divides, remains) (turned, omega (arith, nth_below dims nodes d place (left / n) (code + (first + left % n) * get_or steps d 0) turned, cell_total-drop dims d stepped.trees, stepped.limit))
+-- cells over the dimensions from one on, in the words of those behind it
+pub cells-here : (dims : List Dimension) (nodes : List ℕ) (d e first end step : ℕ) (dim : Dimension) (node : ℕ) → Here dims nodes d e dim node → leaf_places dim node ≡ range_with_len first (end - first) → step ≡ cell_total (drop e dims)
+    → cells_of (drop d dims) (drop d nodes) ≡ flat_map (shifted step (cells_of (drop e dims) (drop e nodes))) (range_with_len first (end - first))
+cells-here dims nodes d e first end step dim node at range steps =
+    rw (at.dims_are, at.nodes_are) (cells_of-cons dim (drop e dims) node (drop e nodes) ∙ rw (range, length-all_cells (drop e dims), steps) refl)
+
+-- the first of the cells
+first-shifted : (n : ℕ) (cells : List ℕ) (first w cell : ℕ) → 0 < w → slice_get cells 0 ≡ Some cell → slice_get (flat_map (shifted n cells) (range_with_len first w)) 0 ≡ Some (cell + first * n)
+first-shifted n cells first zero cell some is = absurd (omega arith)
+first-shifted n cells first (suc w) cell some is =
+    slice_get-front (shifted n cells first) (flat_map (shifted n cells) (range_with_len (first + 1) w)) 0 (omega (arith, length-map cells (λ (c : ℕ). first * n + c), slice_get_within cells 0 cell is))
+    ∙ slice_get-map (λ c. first * n + c) cells 0 ∙ ap (option_map (λ c. first * n + c)) is ∙ ap Some (omega arith)
+
+pub first_next : (dims : List Dimension) (steps nodes : List ℕ) (d e code low first end : ℕ) (dim : Dimension) (node : ℕ) → IsStepped cell_total dims steps → Here dims nodes d e dim node → e ≤ length dims → 0 < e → d ≡ e - 1
+    → leaf_places dim node ≡ range_with_len first (end - first) → first < end → low ≡ first → slice_get (cells_of (drop e dims) (drop e nodes)) 0 ≡ Some code
+    → (slice_get (cells_of (drop d dims) (drop d nodes)) 0 ≡ Some (code + low * get_or steps d 0)) × (code + low * get_or steps d 0 < SPACE_LIMIT)
+first_next dims steps nodes d e code low first end dim node stepped at within behind next range some same is =
+    let step = step-before cell_total dims steps d e stepped within behind next in
+    let found : slice_get (cells_of (drop d dims) (drop d nodes)) 0 ≡ Some (code + low * get_or steps d 0) =
+    rw (cells-here dims nodes d e first end (get_or steps d 0) dim node at range step, same) (first-shifted (get_or steps d 0) (cells_of (drop e dims) (drop e nodes)) first (end - first) code (omega arith) is) in
+    let read : get_or (cells_of (drop d dims) (drop d nodes)) 0 0 ≡ code + low * get_or steps d 0 = get_or_from_slice_get (cells_of (drop d dims) (drop d nodes)) 0 (code + low * get_or steps d 0) 0 found in
+    (found, omega (arith, read, cells-below (drop d dims) (drop d nodes) 0 0 (slice_get_within (cells_of (drop d dims) (drop d nodes)) 0 (code + low * get_or steps d 0) found), cell_total-drop dims d stepped.trees, stepped.limit))

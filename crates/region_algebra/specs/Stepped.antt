@@ -1,9 +1,8 @@
 -- What a space keeps beside its dimensions.
-use Rattle.std.specs.Prelude.{◌≡◌, ℕ, ◌+◌, ◌<◌, ◌≤◌, List, None, Some, All, length, drop, get_or, slice_get}
+use Rattle.std.specs.Prelude.{◌≡◌, ℕ, ◌+◌, ◌<◌, List, None, All, length, drop, get_or}
 use Rattle.cube_model.specs.Tree.{Dimension, IsTree}
-use Rattle.cube_model.specs.Cells.{cells_of}
 use Rattle.cube_model.specs.Limits.{SPACE_LIMIT}
-use Rattle.region_algebra.specs.Space.{IsRegion, cell_total, product, region_total}
+use Rattle.region_algebra.specs.Space.{cell_total, product, region_total}
 use Rattle.region_algebra.specs.Fault.{space_fault}
 
 -- for each number the product of those behind it, the product of all being below the limit
@@ -22,16 +21,3 @@ pub record IsSteppedSpace (dims : List Dimension) (cell_steps region_steps : Lis
   pub accepted : space_fault dims ≡ None
   pub cells : IsStepped cell_total dims cell_steps
   pub regions : IsStepped region_total dims region_steps
-
--- so many of the cells, from a place on, have the codes that follow a cell's
-pub record IsRun (cells : List ℕ) (place cell left : ℕ) : Type 0 where
-  pub next : (k : ℕ) → k < left → slice_get cells (place + k) ≡ Some (cell + 1 + k)
-
--- A walk through a region's cells: its place among them, or behind the last of them, and how many of those before it
--- have the codes that follow the cell that it gave last.
-pub record IsWalk (dims : List Dimension) (region : List ℕ) (place count cell left : ℕ) : Type 0 where
-  pub named : IsRegion dims region
-  pub whole : count ≡ length (cells_of dims region)
-  pub within : place ≤ count
-  pub run : IsRun (cells_of dims region) place cell left
-  pub small : cell + left < SPACE_LIMIT

@@ -1,57 +1,53 @@
 //! A walk through the cells of a region.
-ghost use Rattle.std.specs.Prelude.{◌≡◌, true};
+ghost use Rattle.std.specs.Prelude.{◌≡◌};
 ghost use Rattle.std.specs.Iterator.{YieldsFirst, item_count};
 ghost use Rattle.region_algebra.specs.Space.{IsRegion, cells_left};
 ghost use Rattle.cube_model.specs.Cells.{cells_of};
 
 use crate::Space;
-use cube_model::Region;
+use crate::wheel::{Wheel, turn};
+use cube_model::{MAX_DIMS, Region};
 use std::marker::Model;
 
-/// The codes of a region's cells, ascending, each once. The walk keeps its place in a fixed number of words.
-/// Contracts see the list of the codes that are left.
+/// The codes of a region's cells, ascending, each once. The walk keeps its place in a fixed number of words, and goes on
+/// by additions. Contracts see the list of the codes that are left.
 #[derive(Drop)]
-pub struct CellWalk<'a> {
-    space: &'a Space,
-    region: Region,
-    // The place among the region's cells of the next, and how many cells there are.
-    next: u64,
-    count: u64,
-    // The cell that was given last, and how many behind it have the codes that follow it.
+pub struct CellWalk {
+    // One for each dimension, in the first places.
+    wheels: [Wheel; MAX_DIMS],
+    dims: usize,
+    // The cell where they stand, and whether it is still to be given.
     cell: u64,
-    left: u64,
+    has_more: bool,
 }
 
-impl<'a> Model for CellWalk<'a> {
-    ghost use Rattle.std.specs.Prelude.{ℕ, List, drop};
-    ghost use Rattle.cube_model.specs.Cells.{cells_of};
-    ghost use Rattle.region_algebra.specs.Stepped.{IsWalk};
+impl Model for CellWalk {
+    ghost use Rattle.std.specs.Prelude.{ℕ, List, take};
+    ghost use Rattle.region_algebra.specs.Wheels.{IsWalk, cells_ahead};
 
     ghost Value = { List ℕ };
 
-    ghost view = { λ w. drop w.next (cells_of w.space.now w.region) };
+    ghost view = { λ w. cells_ahead (take w.dims w.wheels) w.has_more };
 
-    ghost invariant = { λ w. IsWalk w.space.now w.region w.next w.count w.cell w.left };
+    ghost invariant = { λ w. IsWalk w.wheels w.dims w.cell };
 }
 
-impl<'a> CellWalk<'a> {
+impl CellWalk {
     /// The walk through the cells of a region.
-    pub(crate) fn new(space: &'a Space, region: Region) -> Self
+    pub(crate) fn new(space: &Space, region: Region) -> Self
         requires { IsRegion space.now region }
         ensures { cells_left result ≡ cells_of space.now region }
     {
         CellWalk {
-            space,
-            region,
-            next: 0,
-            count: space.cell_count(region),
-            cell: 0,
-            left: 0,
+            wheels: space.wheels(region),
+            dims: space.dims() as usize,
+            cell: space.first_cell(region),
+            has_more: true,
         }
     }
 }
 
-impl Iterator for CellWalk<'_> {
+impl Iterator for CellWalk {
     type Item = u64;
 
     ghost next_gives = { YieldsFirst cells_left };
@@ -59,16 +55,14 @@ impl Iterator for CellWalk<'_> {
     ghost remaining = { item_count cells_left };
 
     fn next(&mut self) -> Option<u64> {
-        if self.next == self.count {
+        if !self.has_more {
             return None;
         }
-        if self.left == 0 {
-            (self.cell, self.left) = self.space.run_at(self.region, self.next);
-        } else {
-            self.cell += 1;
-            self.left -= 1;
-        }
-        self.next += 1;
-        Some(self.cell)
+        let given = self.cell;
+        let dims = self.dims;
+        let (cell, has_more) = turn(&mut self.wheels, dims, given);
+        self.cell = cell;
+        self.has_more = has_more;
+        Some(given)
     }
 }

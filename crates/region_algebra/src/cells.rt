@@ -1,11 +1,15 @@
 //! The cells of a region, each by its code.
-ghost use Rattle.std.specs.Prelude.{◌≡◌, ◌+◌, ◌/◌, ◌%◌, ◌<◌, ◌≤◌, All, Some, true, length, nat_le, nat_lt, slice_get, take, ◌&&◌};
+ghost use Rattle.std.specs.Prelude.{◌≡◌, ◌<◌, ◌≤◌, All, Some, true, length, nat_le, nat_lt, slice_get, take, ◌&&◌};
 ghost use Rattle.cube_model.specs.Cells.{all_cells, cells_of, is_among};
 ghost use Rattle.cube_model.specs.Limits.{MAX_DIMS, SPACE_LIMIT};
 ghost use Rattle.cube_model.specs.Tree.{IsTree};
+ghost use Rattle.region_algebra.specs.Inside.{TellsInside};
 ghost use Rattle.region_algebra.specs.Space.{IsRegion, cell_total};
-ghost use Rattle.region_algebra.specs.Stepped.{IsRun, IsStepped};
+ghost use Rattle.region_algebra.specs.Stepped.{IsStepped};
+ghost use Rattle.region_algebra.specs.Wheels.{AreWheels};
 
+use crate::inside::Digit;
+use crate::wheel::Wheel;
 use cube_model::{MAX_DIMS, Region};
 use dim_tree::Dim;
 
@@ -26,59 +30,75 @@ pub fn count(dims: &[Dim], r: Region) -> u64
     count
 }
 
-/// Divides a number by another, and says what is left over. A division takes long: it is spared where the number is the
-/// smaller one, and where the other is 1, as it is where a region has one leaf in a dimension.
-fn divide(n: u64, by: u64) -> (u64, u64)
-    requires { 0 < by }
-    ensures quotient { result.0 ≡ n / by }
-    ensures rest { result.1 ≡ n % by }
-{
-    if n < by {
-        (0, n)
-    } else if by == 1 {
-        (n, 0)
-    } else {
-        (n / by, n % by)
-    }
-}
-
-/// The cell at a place among a region's cells.
-pub fn nth(dims: &[Dim], steps: &[u64; MAX_DIMS], r: Region, place: u64) -> u64
+/// The first of a region's cells.
+pub fn first(dims: &[Dim], steps: &[u64; MAX_DIMS], r: Region) -> u64
     requires steps { IsStepped cell_total dims.now steps.now }
     requires few { length dims.now ≤ MAX_DIMS }
     requires region { IsRegion dims.now r }
-    requires place { place < length (cells_of dims.now r) }
-    ensures { slice_get (cells_of dims.now r) place ≡ Some result }
+    ensures { slice_get (cells_of dims.now r) 0 ≡ Some result }
 {
-    let mut left = place;
     let mut code = 0;
     for d in (0..dims.len()).rev() {
-        let (first, end) = dims[d].leaf_range(r.node(d as u32));
-        let count = u64::from(end - first);
-        let (quotient, rest) = divide(left, count);
-        code += (u64::from(first) + rest) * steps[d];
-        left = quotient;
+        let (first, _) = dims[d].leaf_range(r.node(d as u32));
+        code += u64::from(first) * steps[d];
     }
     code
 }
 
-/// The cell at a place among a region's cells, and how many behind it have the codes that follow: those with the same
-/// leaves but for the last dimension.
-pub fn run_at(dims: &[Dim], steps: &[u64; MAX_DIMS], r: Region, place: u64) -> (u64, u64)
+/// The wheels that go through a region's cells, in the first places. They stand at the first of these.
+pub fn wheels(dims: &[Dim], steps: &[u64; MAX_DIMS], r: Region) -> [Wheel; MAX_DIMS]
+    requires steps { IsStepped cell_total dims.now steps.now }
+    requires few { length dims.now ≤ MAX_DIMS }
+    requires region { IsRegion dims.now r }
+    ensures { AreWheels dims.now r (take (length dims.now) result) }
+{
+    let mut wheels = [Wheel::UNUSED; MAX_DIMS];
+    for d in (0..dims.len()).rev() {
+        let (first, end) = dims[d].leaf_range(r.node(d as u32));
+        wheels[d] = Wheel {
+            first,
+            end,
+            leaf: first,
+            step: steps[d],
+        };
+    }
+    wheels
+}
+
+/// The digits that tell a region's cells from others, in the first places, and how many there are. In a dimension of which
+/// the region has all leaves nothing is asked.
+pub fn digits(dims: &[Dim], steps: &[u64; MAX_DIMS], r: Region) -> ([Digit; MAX_DIMS], usize)
+    requires steps { IsStepped cell_total dims.now steps.now }
+    requires few { length dims.now ≤ MAX_DIMS }
+    requires region { IsRegion dims.now r }
+    ensures { TellsInside dims.now r result.0 result.1 }
+{
+    let mut digits = [Digit::UNUSED; MAX_DIMS];
+    let mut count = 0;
+    for d in 0..dims.len() {
+        let dim = &dims[d];
+        let (first, end) = dim.leaf_range(r.node(d as u32));
+        let digit = Digit {
+            cells: u64::from(dim.leaf_count()) * steps[d],
+            low: u64::from(first) * steps[d],
+            high: u64::from(end) * steps[d],
+        };
+        if digit.is_asked() {
+            digits[count] = digit;
+            count += 1;
+        }
+    }
+    (digits, count)
+}
+
+/// The number of all cells.
+pub fn all_count(dims: &[Dim], steps: &[u64; MAX_DIMS]) -> u64
     requires steps { IsStepped cell_total dims.now steps.now }
     requires some { 1 ≤ length dims.now }
     requires few { length dims.now ≤ MAX_DIMS }
-    requires region { IsRegion dims.now r }
-    requires place { place < length (cells_of dims.now r) }
-    ensures cell { slice_get (cells_of dims.now r) place ≡ Some result.0 }
-    ensures run { IsRun (cells_of dims.now r) (place + 1) result.0 result.1 }
-    ensures small { result.0 + result.1 < SPACE_LIMIT }
+    ensures { result ≡ cell_total dims.now }
 {
-    let last = dims.len() - 1;
-    let (first, end) = dims[last].leaf_range(r.node(last as u32));
-    let width = u64::from(end - first);
-    let cell = nth(dims, steps, r, place);
-    (cell, width - 1 - divide(place, width).1)
+    u64::from(dims[0].leaf_count()) * steps[0]
 }
 
 /// Whether a leaf lies in a range.

@@ -1,18 +1,21 @@
 //! The space over the dimensions of a cube.
-ghost use Rattle.std.specs.Prelude.{◌≡◌, ◌≢◌, ◌↔◌, ◌+◌, ◌<◌, ◌≤◌, ℕ, List, [], true, All, None, Some, Err, length, map, slice_get, slice_set, IsSome, IfOk, IfErr, IsNone, IfSome, OnOk};
+ghost use Rattle.std.specs.Prelude.{◌≡◌, ◌≢◌, ◌↔◌, ◌<◌, ◌≤◌, ℕ, List, [], true, All, None, Some, Err, length, map, slice_get, slice_set, take, IsSome, IfOk, IfErr, IsNone, IfSome, OnOk};
 ghost use Rattle.cube_model.specs.Tree.{Dimension, IsTree, parent};
 ghost use Rattle.cube_model.specs.Cells.{all_cells, cells_of, is_among};
-ghost use Rattle.cube_model.specs.Limits.{MAX_DIMS, SPACE_LIMIT};
+ghost use Rattle.cube_model.specs.Limits.{MAX_DIMS};
 ghost use Rattle.region_algebra.specs.Fault.{space_fault};
 ghost use Rattle.region_algebra.specs.Growth.{IsGrowCause, grow_fault, grown_dims, own_fault};
 ghost use Rattle.region_algebra.specs.declared.growth.GrowFault.TheVariants as grow_faults;
+ghost use Rattle.region_algebra.specs.Inside.{TellsInside, cells_inside};
 ghost use Rattle.region_algebra.specs.Space.{IsRegion, all_regions, cells_left, code_of, common_cells, meet_of, only_cell, cell_total, region_total};
-ghost use Rattle.region_algebra.specs.Stepped.{IsRun};
+ghost use Rattle.region_algebra.specs.Wheels.{AreWheels};
 
 use crate::cell_walk::CellWalk;
 use crate::copies::copies_of;
 use crate::growth::GrowFault;
+use crate::inside::{Digit, Inside};
 use crate::steps::{leaf_counts, node_counts, steps_of};
+use crate::wheel::Wheel;
 use crate::{cells, growth, regions};
 use cube_base::{Memory, Name};
 use cube_model::{MAX_DIMS, Region};
@@ -203,7 +206,7 @@ impl Space {
         ensures within { IfSome result (λ cell. cell < length (all_cells self.now)) }
     {
         if self.cell_count(r) == 1 {
-            Some(self.cell_of(r, 0))
+            Some(self.first_cell(r))
         } else {
             None
         }
@@ -219,12 +222,20 @@ impl Space {
     }
 
     /// The codes of a region's cells, ascending, each once.
-    pub fn cells(&self, r: Region) -> CellWalk<'_>
+    pub fn cells(&self, r: Region) -> CellWalk
         requires { IsRegion self.now r }
         ensures cells { cells_left result ≡ cells_of self.now r }
         ensures within { All (λ cell. cell < length (all_cells self.now)) (cells_left result) }
     {
         CellWalk::new(self, r)
+    }
+
+    /// A test for many cells, whether each is one of a region's.
+    pub fn inside(&self, r: Region) -> Inside<'_>
+        requires { IsRegion self.now r }
+        ensures { cells_inside result ≡ cells_of self.now r }
+    {
+        Inside::new(self, r)
     }
 
     /// An equal space, with nodes and names of its own.
@@ -264,23 +275,34 @@ impl Space {
         }
     }
 
-    /// The cell at a place among a region's cells.
-    pub(crate) fn cell_of(&self, r: Region, place: u64) -> u64
-        requires region { IsRegion self.now r }
-        requires place { place < length (cells_of self.now r) }
-        ensures { slice_get (cells_of self.now r) place ≡ Some result }
+    /// The first of a region's cells.
+    pub(crate) fn first_cell(&self, r: Region) -> u64
+        requires { IsRegion self.now r }
+        ensures { slice_get (cells_of self.now r) 0 ≡ Some result }
     {
-        cells::nth(&self.dims, &self.cell_steps, r, place)
+        cells::first(&self.dims, &self.cell_steps, r)
     }
 
-    /// The cell at a place among a region's cells, and how many behind it have the codes that follow.
-    pub(crate) fn run_at(&self, r: Region, place: u64) -> (u64, u64)
-        requires region { IsRegion self.now r }
-        requires place { place < length (cells_of self.now r) }
-        ensures cell { slice_get (cells_of self.now r) place ≡ Some result.0 }
-        ensures run { IsRun (cells_of self.now r) (place + 1) result.0 result.1 }
-        ensures small { result.0 + result.1 < SPACE_LIMIT }
+    /// The wheels that go through a region's cells, in the first places. They stand at the first of these.
+    pub(crate) fn wheels(&self, r: Region) -> [Wheel; MAX_DIMS]
+        requires { IsRegion self.now r }
+        ensures { AreWheels self.now r (take (length self.now) result) }
     {
-        cells::run_at(&self.dims, &self.cell_steps, r, place)
+        cells::wheels(&self.dims, &self.cell_steps, r)
+    }
+
+    /// The digits that tell a region's cells from others, in the first places, and how many there are.
+    pub(crate) fn digits(&self, r: Region) -> ([Digit; MAX_DIMS], usize)
+        requires { IsRegion self.now r }
+        ensures { TellsInside self.now r result.0 result.1 }
+    {
+        cells::digits(&self.dims, &self.cell_steps, r)
+    }
+
+    /// The number of all cells.
+    pub(crate) fn all_count(&self) -> u64
+        ensures { result ≡ cell_total self.now }
+    {
+        cells::all_count(&self.dims, &self.cell_steps)
     }
 }
