@@ -1,3 +1,11 @@
+pub mod Flat
+pub mod RowSums
+pub mod Missing
+pub mod Backwards
+pub mod Steps
+pub mod Raised
+pub mod Leftover
+pub mod Gathered
 pub mod Ascending
 pub mod Scaled
 pub mod Adding
@@ -5,7 +13,7 @@ pub mod Determined
 pub mod Written
 pub mod Fronts
 pub mod Walk
-pub mod Merging
+pub mod Numerators
 pub mod Merged
 pub mod MergeLaws
 pub mod Subtracting

@@ -1,5 +1,5 @@
 -- Terms merged: what the definition has at each denominator, and its laws.
-use Rattle.std.proofs.Common.{◌≡◌, ℕ, ◌+◌, ◌-◌, ◌≤◌, true, List, [], ◌∷◌, length, map, max, ℤ, pos, ◌+ℤ◌, None, sym, ◌∙◌, refl, arith}
+use Rattle.std.proofs.Common.{◌≡◌, ℕ, ◌+◌, ◌-◌, ◌≤◌, true, List, [], ◌∷◌, length, map, max, ℤ, pos, ◌+ℤ◌, None, sym, ap, subst, ◌∙◌, refl, arith}
 use Rattle.std.specs.List.{range_with_len}
 use Rattle.std.proofs.lemmas.Bool.Decides.{nat_tests}
 use Rattle.std.proofs.lemmas.Int.{ints}
@@ -44,3 +44,12 @@ is_difference whole part difference ok subtracts = record {
   merges = sym (is_merge whole.columns difference.terms part.terms whole.terms ok.some ok.terms
       (record { columns = refl; counts = λ d. sym (subtracts.counts d); sums = λ d k lt. omega (arith, ints, subtracts.sums d k lt) }));
 }
+
+-- a list that has the numerators of both is both merged
+pub is_merge_of : (old other new : TermList) (left : List Term) → left ≡ old.terms → AreTerms old → AreTerms new → Merges (record { columns = old.columns; terms = left }) other new
+    → new ≡ record { columns = old.columns; terms = merge (old.columns - 1) old.terms other.terms }
+is_merge_of old other new left same ok new_ok merges =
+    let of_old : Merges (record { columns = old.columns; terms = old.terms }) other new = subst (λ ts. Merges (record { columns = old.columns; terms = ts }) other new) same merges in
+    let all = is_merge old.columns old.terms other.terms new.terms ok.some (rw merges.columns at new_ok.terms) (record { columns = refl; counts = of_old.counts; sums = of_old.sums }) in
+    let with_terms : new ≡ record { columns = new.columns; terms = merge (old.columns - 1) old.terms other.terms } = ap (λ (ts : List Term). let list : TermList = record { columns = new.columns; terms = ts } in list) all in
+    with_terms ∙ ap (λ (n : ℕ). let list : TermList = record { columns = n; terms = merge (old.columns - 1) old.terms other.terms } in list) merges.columns

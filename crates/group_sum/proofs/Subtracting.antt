@@ -10,7 +10,7 @@ use Rattle.group_sum.specs.Terms.{TermList, are_terms_from}
 use Rattle.group_sum.specs.Heads.{least_head, head_at, rest_at, count_in, sum_in, remainder_in, AreWithin, IsRemainder, HasNoRemainder, HasRemainder}
 use Rattle.group_sum.specs.Merge.{FitsDifference, Subtracts, IsBad, IsFirstBad, HasDifference, HasRemainders}
 use Rattle.group_sum.proofs.Walk.{IsWalk, IsAtDen, walk_first, walk_next, good_before, good_everywhere, head_left, head_right, left_whole}
-use Rattle.group_sum.proofs.Merging.{sum_of, numerator_is, is_term_of}
+use Rattle.group_sum.proofs.Numerators.{sum_of, numerator_is, is_term_of}
 
 -- a term of what is left of another without a part, or none where nothing is
 pub record IsLeft (columns den : ℕ) (whole part left : Option Term) : Type 0 where

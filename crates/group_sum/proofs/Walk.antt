@@ -4,9 +4,9 @@ use Rattle.std.specs.Option.{option_to_list}
 use Rattle.std.proofs.lemmas.Bool.{cases_eq, cases_lt}
 use Rattle.std.proofs.lemmas.Bool.Decides.{nat_tests}
 use Rattle.cube_model.specs.declared.term.Term.{Term}
-use Rattle.cube_model.specs.Answer.{count_of, term_of}
+use Rattle.cube_model.specs.Answer.{term_of}
 use Rattle.group_sum.specs.Terms.{are_terms_from, is_term}
-use Rattle.group_sum.specs.Heads.{least_head, head_at, rest_at, count_in}
+use Rattle.group_sum.specs.Heads.{least_head, head_at, rest_at}
 use Rattle.group_sum.proofs.Ascending.{FindsAfter, first_is, first_then, term_of_below}
 
 -- the least denominator that a term behind these may have
@@ -94,7 +94,6 @@ pub record IsLeast (columns : ℕ) (least den : ℕ) (left right : List Term) : 
   pub from : least ≤ den
   pub of_left : are_terms_from columns den left ≡ true
   pub of_right : are_terms_from columns den right ≡ true
-  pub some : 1 ≤ count_in (head_at left den) + count_in (head_at right den)
 
 pub least_is : (columns least : ℕ) (left right : List Term) → are_terms_from columns least left ≡ true → are_terms_from columns least right ≡ true → (den : ℕ) → least_head left right ≡ Some den → IsLeast columns least den left right
 least_is columns least [] [] left right den is = absurd (cc)
@@ -105,7 +104,6 @@ least_is columns least [] (y ∷ ys) left right den is =
       from = omega (arith, first.from);
       of_left = refl;
       of_right = first_then columns den y ys (record { from = omega arith; whole = first.whole; others = first.others });
-      some = grind (arith, nat_tests, first.whole);
     }
 least_is columns least (x ∷ xs) [] left right den is =
     let same : x.den ≡ den = cc in
@@ -114,7 +112,6 @@ least_is columns least (x ∷ xs) [] left right den is =
       from = omega (arith, first.from);
       of_left = first_then columns den x xs (record { from = omega arith; whole = first.whole; others = first.others });
       of_right = refl;
-      some = grind (arith, nat_tests, first.whole);
     }
 least_is columns least (x ∷ xs) (y ∷ ys) left right den is =
     let same : min x.den y.den ≡ den = cc in
@@ -124,7 +121,6 @@ least_is columns least (x ∷ xs) (y ∷ ys) left right den is =
       from = omega (arith, first.from, second.from);
       of_left = first_then columns den x xs (record { from = omega arith; whole = first.whole; others = first.others });
       of_right = first_then columns den y ys (record { from = omega arith; whole = second.whole; others = second.others });
-      some = grind (arith, nat_tests, first.whole, second.whole);
     }
 
 -- where there is no least denominator, nothing is left
@@ -211,13 +207,6 @@ module _ (columns : ℕ) (Good : ℕ → Option Term → Type 0) (left right : L
       -- they have the columns
       pub left_whole : IfSome (term_of left den) (IsAtDen columns den)
       left_whole = rw head_left at (head_at_whole columns den left_ahead least.of_left)
-
-      pub right_whole : IfSome (term_of right den) (IsAtDen columns den)
-      right_whole = rw head_right at (head_at_whole columns den right_ahead least.of_right)
-
-      -- there is one at least
-      pub some_ahead : 1 ≤ count_of left den + count_of right den
-      some_ahead = rw (head_left, head_right) at least.some
 
       -- at smaller ones all is good
       pub good_before : (d : ℕ) → d < den → Good d (term_of done d)

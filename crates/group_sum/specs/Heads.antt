@@ -1,5 +1,5 @@
 -- The heads of two lists of terms that are walked together, and what becomes of their terms.
-use Rattle.std.specs.Prelude.{◌≡◌, ◌≢◌, ℕ, ◌+◌, ◌-◌, ◌<◌, ◌≤◌, ◌⊎◌, List, [], ◌∷◌, length, Option, Some, None, min, ◌==◌, if◌then◌else◌, ℤ, pos, ◌+ℤ◌, ◌-ℤ◌, nat_abs, slice_get, slice_index_or, ⊤}
+use Rattle.std.specs.Prelude.{◌≡◌, ◌≢◌, ℕ, ◌+◌, ◌-◌, ◌<◌, ◌≤◌, ◌⊎◌, List, [], ◌∷◌, length, Option, Some, None, min, ◌==◌, if◌then◌else◌, ℤ, pos, ◌+ℤ◌, ◌-ℤ◌, nat_abs, slice_get, slice_index_or}
 use Rattle.std.specs.Option.{option_map_or}
 use Rattle.cube_model.specs.declared.term.Term.{Term}
 use Rattle.cube_model.specs.Limits.{WIDE}
@@ -33,17 +33,9 @@ count_in term = option_map_or (λ t. t.count) term 0
 abbrev pub sum_in : Option Term → ℕ → ℤ
 sum_in term k = option_map_or (λ t. slice_index_or t.sums k (pos 0)) term (pos 0)
 
--- the number of further columns of a term, 0 where there is none
-abbrev pub columns_in : Option Term → ℕ
-columns_in term = option_map_or (λ t. length t.sums) term 0
-
 -- those of two terms added up
 abbrev pub total_in : Option Term → Option Term → ℕ → ℤ
 total_in left right k = sum_in left k +ℤ sum_in right k
-
--- sums with those of a term added
-abbrev pub added_in : List ℤ → Option Term → ℕ → ℤ
-added_in sums term k = slice_index_or sums k (pos 0) +ℤ sum_in term k
 
 -- those of a term without those of a part of it
 abbrev pub remainder_in : Option Term → Option Term → ℕ → ℤ
@@ -64,12 +56,9 @@ pub record IsTermOf (den values weight : ℕ) (numerator : ℕ → ℤ) (term : 
   pub columns : length term.sums ≡ values
   pub sums : Lists term.sums numerator
 
--- one term for two, either of which may not be there
-abbrev pub IsTotal : Option Term → Option Term → Term → Type 0
-IsTotal (Some x) (Some y) term = IsTermOf x.den (length x.sums) (x.count + y.count) (total_in (Some x) (Some y)) term
-IsTotal (Some x) None term = term ≡ x
-IsTotal None (Some y) term = term ≡ y
-IsTotal None None _ = ⊤
+-- one term for two
+abbrev pub IsTotal : Term → Term → Term → Type 0
+IsTotal x y term = IsTermOf x.den (length x.sums) (x.count + y.count) (total_in (Some x) (Some y)) term
 
 -- two terms, either of which may not be there, have other sums
 abbrev pub HasOtherSums : ℕ → Option Term → Option Term → Type 0

@@ -1,7 +1,10 @@
 pub mod Terms
+pub mod Rows
 pub mod Share
+pub mod Shares
 pub mod Place
 pub mod Merge
 pub mod Heads
+pub mod Back
 pub mod Examples
 pub mod MergeLaws

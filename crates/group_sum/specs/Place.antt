@@ -1,5 +1,5 @@
 -- Where a denominator stands among terms, or where it would go.
-use Rattle.std.specs.Prelude.{ℕ, List, [], slice_index_or}
+use Rattle.std.specs.Prelude.{ℕ, ◌<◌, List, [], length, slice_index_or}
 use Rattle.cube_base.specs.Search.{IsKeyAt, IsKeyGap}
 use Rattle.cube_model.specs.declared.term.Term.{Term}
 
@@ -18,3 +18,7 @@ IsAt terms den i = IsKeyAt (λ t. t.den) no_term terms den i
 -- a term of the denominator would go at place i: smaller denominators before it, and greater ones from it on
 abbrev pub IsGapFor : List Term → ℕ → ℕ → Type 0
 IsGapFor terms den i = IsKeyGap (λ t. t.den) no_term terms den i
+
+-- a later term has a greater denominator
+pub record Ascend (terms : List Term) : Type 0 where
+  pub each : (i j : ℕ) → i < j → j < length terms → (term_at terms i).den < (term_at terms j).den

@@ -1,15 +1,17 @@
 //! What is left of terms without others.
-ghost use Rattle.std.specs.Prelude.{◌≡◌, ◌≤◌, ◌++◌, length, IfOk, IfErr, OnOk, ◌-ℤ◌, nat_abs, MatchBool, MatchOption};
-ghost use Rattle.std.specs.Option.{option_copied, option_to_list};
+ghost use Rattle.std.specs.Prelude.{◌≡◌, ◌+◌, ◌-◌, ◌<◌, ◌≤◌, Some, [], ◌++◌, length, slice_get, slice_set, IfOk, IfErr, IfSome, OnOk, MatchBool, MatchOption};
+ghost use Rattle.std.specs.Option.{option_copied, option_map, option_to_list};
 ghost use Rattle.cube_model.specs.Limits.{WIDE};
 ghost use Rattle.group_sum.specs.Terms.{AreTerms};
-ghost use Rattle.group_sum.specs.Heads.{AreWithin, HasNoRemainder, HasOtherSums, HasRemainder, HasSameSums, IsRemainder, Lists, remainder_in};
+ghost use Rattle.group_sum.specs.Heads.{AreWithin, HasNoRemainder, HasOtherSums, HasRemainder, HasSameSums, IsRemainder, IsTermOf, count_in, remainder_in};
+ghost use Rattle.group_sum.specs.Place.{term_at};
+ghost use Rattle.group_sum.specs.Rows.{IsRowIn, row_term};
 ghost use Rattle.group_sum.specs.Merge.{Faults, FitsDifference, HasDifference, HasRemainders, IsFirstBad, Subtracts};
 ghost use Rattle.group_sum.specs.declared.difference.SubFault.TheVariants as sub_fault;
 
-use crate::heads::{count, head, least_den, rest, sum};
-use cube_base::{Memory, Nums};
-use cube_model::Term;
+use crate::heads::{count, head, least_den, past, sum};
+use crate::rows::Rows;
+use cube_base::Memory;
 use std::alloc::Global;
 
 /// Why terms have no difference.
@@ -30,122 +32,58 @@ impl From<Memory> for SubFault {
 }
 
 /// The terms that merged with a part give the whole. What is taken away is judged before any memory is taken.
-pub fn subtract(
-    alloc: Global,
-    columns: u32,
-    whole: &[Term],
-    part: &[Term],
-) -> Result<Vec<Term>, SubFault>
-    requires whole { AreTerms (record { columns = columns; terms = whole.now }) }
-    requires part { AreTerms (record { columns = columns; terms = part.now }) }
-    requires within { FitsDifference (record { columns = columns; terms = whole.now }) (record { columns = columns; terms = part.now }) }
-    ensures difference { IfOk result (λ all. Subtracts (record { columns = columns; terms = whole.now })
-        (record { columns = columns; terms = part.now }) (record { columns = columns; terms = all.items })) }
-    ensures fault { IfErr result (Faults (record { columns = columns; terms = whole.now })
-        (record { columns = columns; terms = part.now })) }
-    ensures possible { OnOk result (HasDifference (record { columns = columns; terms = whole.now })
-        (record { columns = columns; terms = part.now })) }
-    ensures terms { IfOk result (λ all. AreTerms (record { columns = columns; terms = all.items })) }
+pub fn subtract(alloc: Global, whole: &Rows, part: &Rows) -> Result<Rows, SubFault>
+    requires columns { whole.now.columns ≡ part.now.columns }
+    requires whole { AreTerms whole.now }
+    requires part { AreTerms part.now }
+    requires within { FitsDifference whole.now part.now }
+    ensures difference { IfOk result (Subtracts whole.now part.now) }
+    ensures fault { IfErr result (Faults whole.now part.now) }
+    ensures possible { OnOk result (HasDifference whole.now part.now) }
+    ensures terms { IfOk result AreTerms }
 {
-    match find_bad(columns, whole, part) {
+    match find_bad(whole, part) {
         Some(den) => Err(SubFault::Less { den }),
-        None => Ok(subtract_all(alloc, columns, whole, part)?),
+        None => Ok(subtract_all(alloc, whole, part)?),
     }
 }
 
 // The smallest denominator at which nothing can be left, if there is one.
-fn find_bad(columns: u32, whole: &[Term], part: &[Term]) -> Option<u64>
-    requires whole { AreTerms (record { columns = columns; terms = whole.now }) }
-    requires part { AreTerms (record { columns = columns; terms = part.now }) }
-    ensures { MatchOption result
-        (HasRemainders (record { columns = columns; terms = whole.now }) (record { columns = columns; terms = part.now }))
-        (IsFirstBad (record { columns = columns; terms = whole.now }) (record { columns = columns; terms = part.now })) }
+fn find_bad(whole: &Rows, part: &Rows) -> Option<u64>
+    requires columns { whole.now.columns ≡ part.now.columns }
+    requires whole { AreTerms whole.now }
+    requires part { AreTerms part.now }
+    ensures { MatchOption result (HasRemainders whole.now part.now) (IsFirstBad whole.now part.now) }
 {
-    let mut whole_ahead = whole;
-    let mut part_ahead = part;
-    'denominators: while let Some(den) = least_den(whole_ahead.first(), part_ahead.first()) {
-        if is_bad(columns - 1, head(whole_ahead, den), head(part_ahead, den)) {
+    let values = whole.columns() - 1;
+    let (mut i, mut j) = (0, 0);
+    'denominators: while let Some(den) = least_den(whole, i, part, j) {
+        if is_bad(values, head(whole, i, den), head(part, j, den)) {
             return Some(den);
         }
-        whole_ahead = rest(whole_ahead, den);
-        part_ahead = rest(part_ahead, den);
+        i = past(whole, i, den);
+        j = past(part, j, den);
     }
     None
 }
 
 // Whether nothing can be left of a term without a part of it.
-fn is_bad(values: u32, whole: Option<&Term>, part: Option<&Term>) -> bool
-    ensures { MatchBool result (HasNoRemainder values (option_copied whole.entry) (option_copied part.entry))
-        (HasRemainder values (option_copied whole.entry) (option_copied part.entry)) }
+fn is_bad(values: u32, whole: Option<&[i128]>, part: Option<&[i128]>) -> bool
+    ensures { MatchBool result
+        (HasNoRemainder values (option_map (row_term 0) (option_copied whole.entry)) (option_map (row_term 0) (option_copied part.entry)))
+        (HasRemainder values (option_map (row_term 0) (option_copied whole.entry)) (option_map (row_term 0) (option_copied part.entry))) }
 {
     let (has, takes) = (count(whole), count(part));
     has < takes || has == takes && differ(values, whole, part)
 }
 
-// The terms that are left, where something can be left at each denominator.
-fn subtract_all(
-    alloc: Global,
-    columns: u32,
-    whole: &[Term],
-    part: &[Term],
-) -> Result<Vec<Term>, Memory>
-    requires whole { AreTerms (record { columns = columns; terms = whole.now }) }
-    requires part { AreTerms (record { columns = columns; terms = part.now }) }
-    requires within { FitsDifference (record { columns = columns; terms = whole.now }) (record { columns = columns; terms = part.now }) }
-    requires possible { HasRemainders (record { columns = columns; terms = whole.now }) (record { columns = columns; terms = part.now }) }
-    ensures difference { IfOk result (λ all. Subtracts (record { columns = columns; terms = whole.now })
-        (record { columns = columns; terms = part.now }) (record { columns = columns; terms = all.items })) }
-    ensures terms { IfOk result (λ all. AreTerms (record { columns = columns; terms = all.items })) }
-{
-    let mut all = Vec::new(alloc);
-    let mut whole_ahead = whole;
-    let mut part_ahead = part;
-    'denominators: while let Some(den) = least_den(whole_ahead.first(), part_ahead.first()) {
-        let left = subtract_term(
-            alloc,
-            den,
-            columns - 1,
-            head(whole_ahead, den),
-            head(part_ahead, den),
-        )?;
-        push_some(&mut all, left)?;
-        whole_ahead = rest(whole_ahead, den);
-        part_ahead = rest(part_ahead, den);
-    }
-    Ok(all)
-}
-
-// What is left of a term without a part of it, if anything is.
-fn subtract_term(
-    alloc: Global,
-    den: u64,
-    values: u32,
-    whole: Option<&Term>,
-    part: Option<&Term>,
-) -> Result<Option<Term>, Memory>
-    requires within { AreWithin values (remainder_in (option_copied whole) (option_copied part)) }
-    requires possible { HasRemainder values (option_copied whole) (option_copied part) }
-    ensures { IfOk result (IsRemainder den values (option_copied whole.entry) (option_copied part.entry)) }
-{
-    let (has, takes) = (count(whole), count(part));
-    if has == takes {
-        return Ok(None);
-    }
-    let mut sums = vec![in alloc; 0i128; values as usize]?;
-    write_remainders(&mut sums, whole, part);
-    Ok(Some(Term {
-        den,
-        count: has - takes,
-        sums: Nums::from(sums),
-    }))
-}
-
 // Whether two terms have other sums.
-fn differ(values: u32, whole: Option<&Term>, part: Option<&Term>) -> bool
-    ensures { MatchBool result (HasOtherSums values (option_copied whole.entry) (option_copied part.entry))
-        (HasSameSums values (option_copied whole.entry) (option_copied part.entry)) }
+fn differ(values: u32, whole: Option<&[i128]>, part: Option<&[i128]>) -> bool
+    ensures { MatchBool result
+        (HasOtherSums values (option_map (row_term 0) (option_copied whole.entry)) (option_map (row_term 0) (option_copied part.entry)))
+        (HasSameSums values (option_map (row_term 0) (option_copied whole.entry)) (option_map (row_term 0) (option_copied part.entry))) }
 {
-    for k in 0..values as usize {
+    for k in 0..values {
         if sum(whole, k) != sum(part, k) {
             return true;
         }
@@ -153,30 +91,84 @@ fn differ(values: u32, whole: Option<&Term>, part: Option<&Term>) -> bool
     false
 }
 
-// Writes the sums of a term without those of a part of it.
-fn write_remainders(sums: &mut [i128], whole: Option<&Term>, part: Option<&Term>)
-    requires { AreWithin (length sums.old) (remainder_in (option_copied whole) (option_copied part)) }
-    ensures { Lists sums.new (remainder_in (option_copied whole.entry) (option_copied part.entry)) }
+// The terms that are left, where something can be left at each denominator.
+fn subtract_all(alloc: Global, whole: &Rows, part: &Rows) -> Result<Rows, Memory>
+    requires columns { whole.now.columns ≡ part.now.columns }
+    requires whole { AreTerms whole.now }
+    requires part { AreTerms part.now }
+    requires within { FitsDifference whole.now part.now }
+    requires possible { HasRemainders whole.now part.now }
+    ensures difference { IfOk result (Subtracts whole.now part.now) }
+    ensures terms { IfOk result AreTerms }
 {
-    for (k, place) in sums.iter_mut().enumerate() {
-        *place = minus(sum(whole, k), sum(part, k));
-    }
+    let mut left = Rows::with_room(alloc, whole.columns(), whole.len())?;
+    push_all_left(&mut left, whole, part)?;
+    Ok(left)
 }
 
-// One numerator without another.
-fn minus(x: i128, y: i128) -> i128
-    requires { nat_abs (x -ℤ y) ≤ WIDE }
-    ensures { result ≡ x -ℤ y }
+// Pushes what is left at each denominator behind no terms, where something can be left at each.
+fn push_all_left(left: &mut Rows, whole: &Rows, part: &Rows) -> Result<(), Memory>
+    requires none { left.old ≡ record { columns = whole.now.columns; terms = [] } }
+    requires columns { whole.now.columns ≡ part.now.columns }
+    requires whole { AreTerms whole.now }
+    requires part { AreTerms part.now }
+    requires within { FitsDifference whole.now part.now }
+    requires possible { HasRemainders whole.now part.now }
+    ensures difference { OnOk result (Subtracts whole.now part.now left.new) }
+    ensures terms { OnOk result (AreTerms left.new) }
 {
-    x - y
-}
-
-// Appends a term, if there is one.
-fn push_some(all: &mut Vec<Term>, term: Option<Term>) -> Result<(), Memory>
-    ensures { OnOk result (all.new.items ≡ all.old.items ++ option_to_list term) }
-{
-    if let Some(term) = term {
-        all.push(term)?;
+    let (mut i, mut j) = (0, 0);
+    'denominators: while let Some(den) = least_den(whole, i, part, j) {
+        push_left(left, den, head(whole, i, den), head(part, j, den))?;
+        i = past(whole, i, den);
+        j = past(part, j, den);
     }
     Ok(())
+}
+
+// Pushes what is left of a term without a part of it, if anything is.
+fn push_left(
+    left: &mut Rows,
+    den: u64,
+    whole: Option<&[i128]>,
+    part: Option<&[i128]>,
+) -> Result<(), Memory>
+    requires whole { IfSome (option_copied whole) (IsRowIn left.old.columns) }
+    requires part { IfSome (option_copied part) (IsRowIn left.old.columns) }
+    requires most { count_in (option_map (row_term 0) (option_copied whole)) ≤ WIDE }
+    requires within { AreWithin (left.old.columns - 1) (remainder_in (option_map (row_term 0) (option_copied whole)) (option_map (row_term 0) (option_copied part))) }
+    requires possible { HasRemainder (left.old.columns - 1) (option_map (row_term 0) (option_copied whole)) (option_map (row_term 0) (option_copied part)) }
+    ensures columns { left.new.columns ≡ left.old.columns }
+    ensures pushed { OnOk result (left.new.terms ≡ left.old.terms ++ option_to_list (slice_get left.new.terms (length left.old.terms))) }
+    ensures is { OnOk result (IsRemainder den (left.old.columns - 1) (option_map (row_term 0) (option_copied whole.entry))
+        (option_map (row_term 0) (option_copied part.entry)) (slice_get left.new.terms (length left.old.terms))) }
+{
+    let (has, takes) = (count(whole), count(part));
+    match whole {
+        Some(row) if has != takes => {
+            let at = left.len();
+            left.push(den, row)?;
+            take_part(left, at, part);
+            Ok(())
+        }
+        _ => Ok(()),
+    }
+}
+
+// Takes a part, if there is one, from the term at a place.
+fn take_part(terms: &mut Rows, at: usize, part: Option<&[i128]>)
+    requires place { at < length terms.old.terms }
+    requires values { length (term_at terms.old.terms at).sums + 1 ≡ terms.old.columns }
+    requires part { IfSome (option_copied part) (IsRowIn terms.old.columns) }
+    requires most { (term_at terms.old.terms at).count ≤ WIDE }
+    requires less { count_in (option_map (row_term 0) (option_copied part)) ≤ (term_at terms.old.terms at).count }
+    requires within { AreWithin (terms.old.columns - 1) (remainder_in (Some (term_at terms.old.terms at)) (option_map (row_term 0) (option_copied part))) }
+    ensures only { terms.new ≡ record { columns = terms.old.columns; terms = slice_set terms.old.terms at (term_at terms.new.terms at) } }
+    ensures left { IsTermOf (term_at terms.old.terms at).den (terms.old.columns - 1)
+        ((term_at terms.old.terms at).count - count_in (option_map (row_term 0) (option_copied part.entry)))
+        (remainder_in (Some (term_at terms.old.terms at)) (option_map (row_term 0) (option_copied part.entry))) (term_at terms.new.terms at) }
+{
+    if let Some(row) = part {
+        terms.take_row(at, row);
+    }
 }

@@ -1,58 +1,70 @@
-//! The heads of two lists of terms that are walked together.
-ghost use Rattle.std.specs.Prelude.{◌≡◌};
-ghost use Rattle.std.specs.Option.{option_copied};
-ghost use Rattle.group_sum.specs.Heads.{count_in, head_at, least_of, rest_at, sum_in};
+//! The heads of two lists of terms that are walked together, each from a place on.
+ghost use Rattle.std.specs.Prelude.{◌≡◌, ◌<◌, ◌≤◌, drop, length, IfSome, MatchBool};
+ghost use Rattle.std.specs.Bool.{OnTrue};
+ghost use Rattle.std.specs.Option.{option_copied, option_map};
+ghost use Rattle.group_sum.specs.Heads.{count_in, head_at, least_head, rest_at, sum_in};
+ghost use Rattle.group_sum.specs.Place.{IsAt};
+ghost use Rattle.group_sum.specs.Rows.{IsRowIn, row_term};
 
-use cube_model::Term;
+use crate::rows::Rows;
 
-/// The smaller of two denominators, if there is a term.
-pub fn least_den(left: Option<&Term>, right: Option<&Term>) -> Option<u64>
-    ensures { result ≡ least_of (option_copied left.entry) (option_copied right.entry) }
+/// The smaller of the denominators in front, if a term is ahead.
+pub fn least_den(left: &Rows, i: usize, right: &Rows, j: usize) -> Option<u64>
+    ensures { result ≡ least_head (drop i left.now.terms) (drop j right.now.terms) }
 {
-    match (left, right) {
+    match (left.den_at(i), right.den_at(j)) {
         (None, None) => None,
-        (None, Some(y)) => Some(y.den),
-        (Some(x), None) => Some(x.den),
-        (Some(x), Some(y)) => Some(x.den.min(y.den)),
+        (None, Some(y)) => Some(y),
+        (Some(x), None) => Some(x),
+        (Some(x), Some(y)) => Some(x.min(y)),
     }
 }
 
-/// The first term, if it has the denominator.
-pub fn head(terms: &[Term], den: u64) -> Option<&Term>
-    ensures { option_copied result ≡ head_at terms.now den }
+/// The numerators of the term in front, if it has the denominator.
+pub fn head(terms: &Rows, at: usize, den: u64) -> Option<&[i128]>
+    ensures term { option_map (row_term den) (option_copied result) ≡ head_at (drop at terms.now.terms) den }
+    ensures row { IfSome (option_copied result) (IsRowIn terms.now.columns) }
 {
-    match terms.first() {
-        Some(term) if term.den == den => Some(term),
-        _ => None,
+    if is_ahead(terms, at, den) {
+        Some(terms.row(at))
+    } else {
+        None
     }
 }
 
-/// The terms without the first, if it has the denominator.
-pub fn rest(terms: &[Term], den: u64) -> &[Term]
-    ensures { result.now ≡ rest_at terms.now den }
+/// The place behind the term in front, if that has the denominator.
+pub fn past(terms: &Rows, at: usize, den: u64) -> usize
+    requires { at ≤ length terms.now.terms }
+    ensures rest { drop result terms.now.terms ≡ rest_at (drop at terms.now.terms) den }
+    ensures within { result ≤ length terms.now.terms }
 {
-    match terms.split_first() {
-        Some((term, others)) if term.den == den => others,
-        _ => terms,
-    }
+    if is_ahead(terms, at, den) { at + 1 } else { at }
 }
 
-/// The count's numerator of a term, 0 where there is none.
-pub fn count(term: Option<&Term>) -> u128
-    ensures { result ≡ count_in (option_copied term.entry) }
+/// Whether a term is in front, and has the denominator.
+pub fn is_ahead(terms: &Rows, at: usize, den: u64) -> bool
+    ensures ahead { MatchBool result (IsAt terms.now.terms den at) (IsAt terms.now.terms den at → ⊥) }
+    ensures next { OnTrue result (at < usize.MAX) }
 {
-    match term {
-        Some(term) => term.count,
+    at < terms.len() && terms.den(at) == den
+}
+
+/// The count's numerator of a row, 0 where there is none.
+pub fn count(row: Option<&[i128]>) -> u128
+    ensures { result ≡ count_in (option_map (row_term 0) (option_copied row.entry)) }
+{
+    match row {
+        Some(row) => row.first().copied().unwrap_or(0).unsigned_abs(),
         None => 0,
     }
 }
 
 /// The numerator of a further column, 0 where there is none.
-pub fn sum(term: Option<&Term>, k: usize) -> i128
-    ensures { result ≡ sum_in (option_copied term.entry) k }
+pub fn sum(row: Option<&[i128]>, k: u32) -> i128
+    ensures { result ≡ sum_in (option_map (row_term 0) (option_copied row.entry)) k }
 {
-    match term {
-        Some(term) => term.sums.as_slice().get(k).copied().unwrap_or(0),
+    match row {
+        Some(row) => row.get(k as usize + 1).copied().unwrap_or(0),
         None => 0,
     }
 }

@@ -1,123 +1,123 @@
-//! The terms of two lists merged.
-ghost use Rattle.std.specs.Prelude.{◌≡◌, ◌+◌, ◌<◌, ◌≤◌, Some, [], ◌∷◌, ◌++◌, length, IfOk, ◌+ℤ◌, nat_abs, vec_len, vec_capacity};
-ghost use Rattle.std.specs.Option.{option_to_list};
-ghost use Rattle.std.specs.VecDeque.{deque_len};
-ghost use Rattle.cube_model.specs.Limits.{WIDE};
+//! Other terms merged into own ones, in place.
+ghost use Rattle.std.specs.Prelude.{◌≡◌, ◌+◌, ◌-◌, ◌<◌, ◌≤◌, length, take, Some, None, if◌then◌else◌, ◌==◌};
 ghost use Rattle.group_sum.specs.Terms.{AreTerms};
-ghost use Rattle.group_sum.specs.Heads.{AreWithin, IsTotal, Lists, added_in, columns_in, count_in, head_at, rest_at, total_in};
+ghost use Rattle.group_sum.specs.Back.{FitsLevel, IsBehind, StepsBack, missing_in};
 ghost use Rattle.group_sum.specs.Merge.{FitsMerge, Merges};
+ghost use Rattle.group_sum.specs.Place.{Ascend, term_at};
 
-use crate::heads::{least_den, sum};
-use cube_base::{Memory, Nums};
-use cube_model::Term;
-use std::alloc::Global;
-use std::collections::VecDeque;
+use crate::heads::is_ahead;
+use crate::rows::Rows;
 
-/// Merges the terms of both lists, numerators of equal denominators added up. They are moved to a list that has room for
-/// them, which takes no memory. The number of columns stands here for the contract.
-pub fn merge(_columns: u32, room: Vec<Term>, left: Vec<Term>, right: Vec<Term>) -> Vec<Term>
-    requires empty { room.items ≡ [] }
-    requires room { vec_len room + vec_len left + vec_len right ≤ vec_capacity room }
-    requires left { AreTerms (record { columns = _columns; terms = left.items }) }
-    requires right { AreTerms (record { columns = _columns; terms = right.items }) }
-    requires within { FitsMerge (record { columns = _columns; terms = left.items }) (record { columns = _columns; terms = right.items }) }
-    ensures merges { Merges (record { columns = _columns; terms = left.items })
-        (record { columns = _columns; terms = right.items }) (record { columns = _columns; terms = result.items }) }
-    ensures terms { AreTerms (record { columns = _columns; terms = result.items }) }
-{
-    let mut all = room;
-    let mut left_ahead = VecDeque::from(left);
-    let mut right_ahead = VecDeque::from(right);
-    'denominators: while let Some(den) = least_den(left_ahead.front(), right_ahead.front()) {
-        let term = add_up(take(&mut left_ahead, den), take(&mut right_ahead, den));
-        put(&mut all, term);
-    }
-    all
+/// What is still to be merged: so many own terms, and so many others, go to the places before this one.
+#[derive(Clone, Copy, Debug)]
+pub struct Ahead {
+    pub own: usize,
+    pub other: usize,
+    pub place: usize,
 }
 
-// Takes the first term, if it has the denominator, which leaves the others.
-fn take(terms: &mut VecDeque<Term>, den: u64) -> Option<Term>
-    ensures taken { result ≡ head_at terms.old.items den }
-    ensures others { terms.new.items ≡ rest_at terms.old.items den }
-    ensures len { deque_len terms.new + length (option_to_list result) ≡ deque_len terms.old }
+/// How many of the other terms have a denominator that the own terms have not.
+pub fn missing(own: &Rows, other: &Rows) -> usize
+    requires own { Ascend own.now.terms }
+    requires other { Ascend other.now.terms }
+    ensures { result ≡ missing_in own.now.terms other.now.terms }
 {
-    match terms.front() {
-        Some(term) if term.den == den => terms.pop_front(),
-        _ => None,
+    let (mut i, mut missing) = (0, 0);
+    for j in 0..other.len() {
+        let den = other.den(j);
+        i = first_from(own, i, den);
+        if !is_ahead(own, i, den) {
+            missing += 1;
+        }
     }
+    missing
 }
 
-// Makes one term of two of a denominator, of which one may not be there.
-fn add_up(left: Option<Term>, right: Option<Term>) -> Term
-    requires some { 1 ≤ count_in left + count_in right }
-    requires count { count_in left + count_in right ≤ WIDE }
-    requires sums { AreWithin (columns_in left) (total_in left right) }
-    ensures { IsTotal left right result }
+// The first place from one on at which the denominator is not smaller.
+fn first_from(terms: &Rows, from: usize, den: u64) -> usize
+    requires { IsBehind terms.now.terms den from }
+    ensures behind { IsBehind terms.now.terms den result }
+    ensures first { result < length terms.now.terms → den ≤ (term_at terms.now.terms result).den }
 {
-    match (left, right) {
-        (Some(term), Some(other)) => raise_by(term, &other),
-        (Some(term), None) => term,
-        (None, Some(term)) => term,
-        (None, None) => unreachable!(),
+    let mut at = from;
+    'smaller: while at < terms.len() && terms.den(at) < den {
+        at += 1;
     }
+    at
 }
 
-// Adds the numerators of another term.
-fn raise_by(term: Term, other: &Term) -> Term
-    requires count { term.count + other.now.count ≤ WIDE }
-    requires sums { AreWithin (length term.sums) (total_in (Some term) (Some other.now)) }
-    ensures { IsTotal (Some term) (Some other.now) result }
+/// Merges other terms into the own ones, which stand in front of as many as are missing. Numerators of equal denominators
+/// are added up. It begins at the back, so that each place is written once, and no term before it is read.
+pub fn merge(rows: &mut Rows, own: usize, other: &Rows)
+    requires columns { rows.old.columns ≡ other.now.columns }
+    requires own { AreTerms (record { columns = rows.old.columns; terms = take own rows.old.terms }) }
+    requires other { AreTerms other.now }
+    requires room { length rows.old.terms ≡ own + missing_in (take own rows.old.terms) other.now.terms }
+    requires within { FitsMerge (record { columns = rows.old.columns; terms = take own rows.old.terms }) other.now }
+    ensures merges { Merges (record { columns = rows.old.columns; terms = take own rows.old.terms }) other.now rows.new }
+    ensures terms { AreTerms rows.new }
 {
-    let Term { den, count, sums } = term;
-    let mut sums = sums.into_vec();
-    add_sums(&mut sums, other);
-    Term {
-        den,
-        count: count + other.count,
-        sums: Nums::from(sums),
+    let mut ahead = Ahead {
+        own,
+        other: other.len(),
+        place: rows.len(),
+    };
+    'back: while ahead.other > 0 {
+        ahead = step(rows, other, ahead);
     }
 }
 
-// Adds the sums of a term, place by place.
-fn add_sums(sums: &mut [i128], other: &Term)
-    requires { AreWithin (length sums.old) (added_in sums.old (Some other.now)) }
-    ensures { Lists sums.new (added_in sums.old (Some other.now)) }
+// Fills the last place with the greater of the last terms, or with what both add up to.
+fn step(rows: &mut Rows, other: &Rows, ahead: Ahead) -> Ahead
+    requires columns { rows.old.columns ≡ other.now.columns }
+    requires some { 1 ≤ ahead.other }
+    requires others { ahead.other ≤ length other.now.terms }
+    requires own { ahead.own ≤ ahead.place }
+    requires some_place { 1 ≤ ahead.place }
+    requires places { ahead.place ≤ length rows.old.terms }
+    requires within { FitsLevel rows.old other.now ahead }
+    ensures columns { rows.new.columns ≡ rows.old.columns }
+    ensures steps { StepsBack rows.old.terms other.now.terms rows.new.terms ahead result }
 {
-    for (k, place) in sums.iter_mut().enumerate() {
-        *place = plus(*place, sum(Some(other), k));
+    let (j, place) = (ahead.other - 1, ahead.place - 1);
+    let den = other.den(j);
+    match last_den(rows, ahead.own) {
+        Some(own) if own > den => {
+            rows.copy(ahead.own - 1, place);
+            Ahead {
+                own: ahead.own - 1,
+                other: ahead.other,
+                place,
+            }
+        }
+        Some(own) if own == den => {
+            rows.copy(ahead.own - 1, place);
+            rows.add_row(place, other.row(j));
+            Ahead {
+                own: ahead.own - 1,
+                other: j,
+                place,
+            }
+        }
+        _ => {
+            rows.write(place, den, other.row(j));
+            Ahead {
+                own: ahead.own,
+                other: j,
+                place,
+            }
+        }
     }
 }
 
-// Two numerators added up.
-fn plus(x: i128, y: i128) -> i128
-    requires { nat_abs (x +ℤ y) ≤ WIDE }
-    ensures { result ≡ x +ℤ y }
+// The denominator of the last of so many terms, if there are any.
+fn last_den(rows: &Rows, len: usize) -> Option<u64>
+    requires { len ≤ length rows.now.terms }
+    ensures { result ≡ (if len == 0 then None else Some (term_at rows.now.terms (len - 1)).den) }
 {
-    x + y
-}
-
-// Appends a term to a list that has room for it.
-fn put(all: &mut Vec<Term>, term: Term)
-    requires { vec_len all.old < vec_capacity all.old }
-    ensures items { all.new.items ≡ all.old.items ++ term ∷ [] }
-    ensures len { vec_len all.new ≡ vec_len all.old + 1 }
-    ensures room { vec_capacity all.old ≤ vec_capacity all.new }
-{
-    let _ = all.push(term);
-}
-
-/// Copies the terms.
-pub fn copy_terms(alloc: Global, terms: &[Term]) -> Result<Vec<Term>, Memory>
-    ensures { IfOk result (λ all. all.items ≡ terms.now) }
-{
-    let mut all = Vec::with_capacity(alloc, terms.len())?;
-    for term in terms {
-        let sums = Vec::from_slice(alloc, term.sums.as_slice())?;
-        all.push(Term {
-            den: term.den,
-            count: term.count,
-            sums: Nums::from(sums),
-        })?;
+    if len == 0 {
+        None
+    } else {
+        Some(rows.den(len - 1))
     }
-    Ok(all)
 }

@@ -1,20 +1,17 @@
 //! Sums grouped by denominator.
-ghost use Rattle.std.specs.Prelude.{◌≡◌, ◌+◌, ◌-◌, ◌<◌, ◌≤◌, [], length, slice_get, Some, OnOk, OnErr, IfOk, IfErr, IfSome, ◌∷◌, true, slice_index_or, pos};
-ghost use Rattle.std.specs.Option.{option_copied, option_map};
-ghost use Rattle.cube_model.specs.Answer.{count_of, merge, numerator_of, term_of};
-ghost use Rattle.cube_model.specs.Limits.{WIDE};
-ghost use Rattle.group_sum.specs.Terms.{AddsShare, AreTerms, Fits, NeedsTerm, is_term};
+ghost use Rattle.std.specs.Prelude.{◌≡◌, ◌+◌, ◌-◌, ◌<◌, ◌≤◌, [], length, slice_get, Some, OnOk, OnErr, IfOk, IfErr, ◌∷◌, slice_index_or, pos};
+ghost use Rattle.std.specs.Option.{option_map};
+ghost use Rattle.cube_model.specs.Answer.{count_of, merge, numerator_of};
+ghost use Rattle.group_sum.specs.Terms.{AddsShare, AreTerms, Fits, NeedsTerm};
 ghost use Rattle.group_sum.specs.Place.{IsAt, IsGapFor};
 ghost use Rattle.group_sum.specs.Merge.{Faults, FitsDifference, FitsMerge, HasDifference, IsDifference};
 
 use crate::difference::{SubFault, subtract};
-use crate::merge::{copy_terms, merge};
-use crate::share::{make_term, raise};
+use crate::merge::{merge, missing};
+use crate::rows::Rows;
 use cube_base::{Cols, MAX_COLS, Memory};
-use cube_model::Term;
 use std::alloc::Global;
 use std::marker::Model;
-use std::mem;
 
 /// The most columns of an answer, the count included.
 pub const MAX_COLUMNS: u32 = MAX_COLS as u32 + 1;
@@ -25,8 +22,7 @@ pub const MAX_COLUMNS: u32 = MAX_COLS as u32 + 1;
 #[derive(Debug, Drop)]
 pub struct Terms {
     alloc: Global,
-    columns: u32,
-    terms: Vec<Term>,
+    rows: Rows,
 }
 
 impl Model for Terms {
@@ -34,9 +30,9 @@ impl Model for Terms {
 
     ghost Value = { TermList };
 
-    ghost view = { λ t. record { columns = t.columns; terms = t.terms.items } };
+    ghost view = { λ t. t.rows };
 
-    ghost invariant = { λ t. AreTerms (record { columns = t.columns; terms = t.terms.items }) };
+    ghost invariant = { λ t. AreTerms t.rows };
 }
 
 impl Terms {
@@ -48,8 +44,7 @@ impl Terms {
     {
         Terms {
             alloc,
-            columns,
-            terms: Vec::new(alloc),
+            rows: Rows::new(alloc, columns),
         }
     }
 
@@ -58,7 +53,7 @@ impl Terms {
         ensures columns { result ≡ self.now.columns }
         ensures terms { AreTerms self.now }
     {
-        self.columns
+        self.rows.columns()
     }
 
     /// The number of terms.
@@ -66,7 +61,7 @@ impl Terms {
         ensures count { result ≡ length self.now.terms }
         ensures terms { AreTerms self.now }
     {
-        self.terms.len() as u64
+        self.rows.len() as u64
     }
 
     /// The denominator of the term at a place, from 0.
@@ -74,7 +69,7 @@ impl Terms {
         requires { i < length self.now.terms }
         ensures { option_map (λ t. t.den) (slice_get self.now.terms i) ≡ Some result }
     {
-        self.terms[i as usize].den
+        self.rows.den(i as usize)
     }
 
     /// The numerator of a column of the term at a place, from 0.
@@ -83,16 +78,16 @@ impl Terms {
         requires column { col < self.now.columns }
         ensures { option_map (λ t. slice_index_or (pos t.count ∷ t.sums) col (pos 0)) (slice_get self.now.terms i) ≡ Some result }
     {
-        numerator(&self.terms[i as usize], col)
+        self.rows.row(i as usize)[col as usize]
     }
 
     /// The numerator of the count at a denominator: 0 where there is no term.
     pub fn count_num(&self, den: u64) -> i128
         ensures { result ≡ pos (count_of self.now.terms den) }
     {
-        match self.find(den) {
-            Some(term) => term.count as i128,
-            None => 0,
+        match self.search(den) {
+            Ok(at) => self.rows.row(at)[0],
+            Err(_) => 0,
         }
     }
 
@@ -101,9 +96,9 @@ impl Terms {
         requires { col < self.now.columns }
         ensures { result ≡ numerator_of self.now.terms den col }
     {
-        match self.find(den) {
-            Some(term) => numerator(term, col),
-            None => 0,
+        match self.search(den) {
+            Ok(at) => self.rows.row(at)[col as usize],
+            Err(_) => 0,
         }
     }
 
@@ -121,18 +116,19 @@ impl Terms {
         ensures memory { OnErr result (NeedsTerm self.old.terms den weight) }
         ensures terms { AreTerms self.new }
     {
-        let alloc = self.alloc;
+        let place = self.search(den);
         if weight == 0 {
             return Ok(());
         }
-        match self.search(den) {
+        match place {
             Ok(at) => {
-                raise(alloc, &mut self.terms[at], weight, cols);
+                self.rows.raise(at, weight, cols);
                 Ok(())
             }
             Err(at) => {
-                let term = make_term(alloc, den, weight, cols)?;
-                Ok(self.terms.insert(at, term)?)
+                self.rows.insert_bare(at, den)?;
+                self.rows.raise(at, weight, cols);
+                Ok(())
             }
         }
     }
@@ -150,10 +146,9 @@ impl Terms {
         ensures err { OnErr result (self.new ≡ self.old) }
         ensures terms { AreTerms self.new }
     {
-        let copies = copy_terms(self.alloc, &other.terms)?;
-        let room = Vec::with_capacity(self.alloc, self.terms.len() + copies.len())?;
-        let terms = mem::replace(&mut self.terms, Vec::new(self.alloc));
-        self.terms = merge(self.columns, room, terms, copies);
+        let own = self.rows.len();
+        self.rows.grow(missing(&self.rows, &other.rows))?;
+        merge(&mut self.rows, own, &other.rows);
         Ok(())
     }
 
@@ -169,23 +164,11 @@ impl Terms {
         ensures fault { IfErr result (Faults self.now other.now) }
         ensures terms { IfOk result AreTerms }
     {
-        let terms = subtract(self.alloc, self.columns, &self.terms, &other.terms)?;
+        let rows = subtract(self.alloc, &self.rows, &other.rows)?;
         Ok(Terms {
             alloc: self.alloc,
-            columns: self.columns,
-            terms,
+            rows,
         })
-    }
-
-    // The term of a denominator, if there is one.
-    fn find(&self, den: u64) -> Option<&Term>
-        ensures found { option_copied result ≡ term_of self.now.terms den }
-        ensures term { IfSome result (λ term. is_term self.now.columns term.now ≡ true) }
-    {
-        match self.search(den) {
-            Ok(at) => Some(&self.terms[at]),
-            Err(_) => None,
-        }
     }
 
     // Where the term of a denominator is, or where it would go.
@@ -194,19 +177,6 @@ impl Terms {
         ensures absent { IfErr result (IsGapFor self.now.terms den) }
         ensures terms { AreTerms self.now }
     {
-        self.terms.binary_search_by_key(&den, |term| term.den)
-    }
-}
-
-// The numerator of a column of a term, the count being column 0.
-fn numerator(term: &Term, col: u32) -> i128
-    requires within { term.now.count ≤ WIDE }
-    requires column { col ≤ length term.now.sums }
-    ensures { result ≡ slice_index_or (pos term.now.count ∷ term.now.sums) col (pos 0) }
-{
-    if col == 0 {
-        term.count as i128
-    } else {
-        term.sums.as_slice()[col as usize - 1]
+        self.rows.search(den)
     }
 }

@@ -1,52 +1,52 @@
-use Rattle.std.proofs.Common.{arith}
-use Rattle.group_sum.proofs.Fronts.{least_front}
-use Rattle.group_sum.proofs.Merging.{merging_first, some_count, count_fits, sums_fit, some_in_front, merging_next, merged_all}
+use Rattle.std.proofs.Common.{◌≡◌, ℕ, take, subst, refl, arith}
+use Rattle.group_sum.proofs.Backwards.{IsBack, back_first, back_last, merges_of}
+use Rattle.group_sum.proofs.Steps.{steps_back, some_place, fits_level}
 use Rattle.group_sum.proofs.merge.merge.Goals as goal
 
--- before the first denominator nothing is merged
-pub denominators-init : goal.denominators-init
-denominators-init c = record {
-  merging = rw (c.requires.empty, c.from-left_ahead.ensures.0, c.from-right_ahead.ensures.0) (merging_first _ _ _ c.requires.left.terms c.requires.right.terms);
-  room = omega arith;
-}
-
--- one of the terms in front has the least denominator at least, and they fit
-pub add_up-term-requires-clause-some : goal.add_up-term-requires-clause-some
-add_up-term-requires-clause-some c =
-    let least = least_front _ _ _ _ c.front.ensures.item c.front-in-denominators.ensures.item _ c.in-Some.ensures in
-    rw (c.take.ensures.taken, c.take-in-Some.ensures.taken) (some_count _ _ _ _ _ _ c.denominators.invariant.merging c.requires.left.some c.requires.within _ least)
-
-pub add_up-term-requires-clause-count : goal.add_up-term-requires-clause-count
-add_up-term-requires-clause-count c =
-    let least = least_front _ _ _ _ c.front.ensures.item c.front-in-denominators.ensures.item _ c.in-Some.ensures in
-    rw (c.take.ensures.taken, c.take-in-Some.ensures.taken) (count_fits _ _ _ _ _ _ c.denominators.invariant.merging c.requires.left.some c.requires.within _ least)
-
-pub add_up-term-requires-clause-sums : goal.add_up-term-requires-clause-sums
-add_up-term-requires-clause-sums c =
-    let least = least_front _ _ _ _ c.front.ensures.item c.front-in-denominators.ensures.item _ c.in-Some.ensures in
-    rw (c.take.ensures.taken, c.take-in-Some.ensures.taken) (sums_fit _ _ _ _ _ _ c.denominators.invariant.merging c.requires.left.some c.requires.within _ least)
-
--- it is taken
-pub denominators-smaller : goal.denominators-smaller
-denominators-smaller c =
-    let least = least_front _ _ _ _ c.front.ensures.item c.front-in-denominators.ensures.item _ c.in-Some.ensures in
-    let some = rw (← c.take.ensures.taken, ← c.take-in-Some.ensures.taken) at (some_in_front _ _ _ _ _ _ c.denominators.invariant.merging c.requires.left.some c.requires.within _ least) in
-    omega (arith, some)
-
--- with the total of both all goes on
-pub denominators-preserved : goal.denominators-preserved
-denominators-preserved c =
-    let least = least_front _ _ _ _ c.front.ensures.item c.front-in-denominators.ensures.item _ c.in-Some.ensures in
-    let total = rw (c.take.ensures.taken, c.take-in-Some.ensures.taken) at c.add_up-term.ensures in
-    let next = merging_next _ _ _ _ _ _ c.denominators.invariant.merging c.requires.left.some c.requires.within _ least _ total in
-    let some = rw (← c.take.ensures.taken, ← c.take-in-Some.ensures.taken) at (some_in_front _ _ _ _ _ _ c.denominators.invariant.merging c.requires.left.some c.requires.within _ least) in
+-- at first all are ahead
+pub back-init : goal.back-init
+back-init c =
+    let other_ok = rw (← c.requires.columns) at c.requires.other.terms in
     record {
-      merging = rw (c.put.ensures.items, c.take.ensures.others, c.take-in-Some.ensures.others) next;
-      room = omega (arith, some);
+      columns = refl;
+      back = rw (c.len.ensures, c.len-2.ensures) (back_first c.args.rows.now.columns (take c.args.own c.args.rows.now.terms) c.args.other.now.terms c.requires.own.terms other_ok c.args.rows.now.terms c.args.own (omega (arith, c.requires.room)) refl c.requires.room);
     }
 
--- at the end both are merged
-pub returns-clause-merges : goal.returns-clause-merges
-returns-clause-merges c =
-    let none = least_front _ _ _ _ c.front.ensures.item c.front-in-denominators.ensures.item _ c.in_default.ensures in
-    merged_all _ _ _ _ _ _ c.denominators.invariant.merging none
+pub step-ahead-requires-clause-some_place : goal.step-ahead-requires-clause-some_place
+step-ahead-requires-clause-some_place c =
+    let other_ok = rw (← c.requires.columns) at c.requires.other.terms in
+    some_place c.args.rows.now.columns (take c.args.own c.args.rows.now.terms) c.args.other.now.terms c.requires.own.terms other_ok c.back.rows.terms c.back.ahead c.back.invariant.back (omega arith)
+
+pub step-ahead-requires-clause-within : goal.step-ahead-requires-clause-within
+step-ahead-requires-clause-within c =
+    let other_ok = rw (← c.requires.columns) at c.requires.other.terms in
+    let fits = fits_level c.args.rows.now.columns (take c.args.own c.args.rows.now.terms) c.args.other.now.terms c.requires.own.terms other_ok c.back.rows.terms c.back.ahead c.back.invariant.back (omega arith)
+    c.requires.own.some (record { counts = c.requires.within.counts; sums = c.requires.within.sums }) in
+    record { count = fits.count; sums = λ level. rw c.back.invariant.columns (fits.sums level) }
+
+-- each step takes one
+pub back-smaller : goal.back-smaller
+back-smaller c =
+    let other_ok = rw (← c.requires.columns) at c.requires.other.terms in
+    (steps_back c.args.rows.now.columns (take c.args.own c.args.rows.now.terms) c.args.other.now.terms c.requires.own.terms other_ok c.back.rows.terms c.back.ahead c.back.invariant.back (omega arith)
+    c.requires.own.some (record { counts = c.requires.within.counts; sums = c.requires.within.sums }) c.step-ahead.new.rows.terms c.step-ahead.result c.step-ahead.ensures.steps).fewer
+
+pub back-preserved : goal.back-preserved
+back-preserved c =
+    let other_ok = rw (← c.requires.columns) at c.requires.other.terms in
+    let next = steps_back c.args.rows.now.columns (take c.args.own c.args.rows.now.terms) c.args.other.now.terms c.requires.own.terms other_ok c.back.rows.terms c.back.ahead c.back.invariant.back (omega arith)
+    c.requires.own.some (record { counts = c.requires.within.counts; sums = c.requires.within.sums }) c.step-ahead.new.rows.terms c.step-ahead.result c.step-ahead.ensures.steps in
+    record { columns = omega (arith, c.step-ahead.ensures.columns, c.back.invariant.columns); back = next.back }
+
+-- in the end none of the others is ahead
+pub returns : goal.returns
+returns c =
+    let other_ok = rw (← c.requires.columns) at c.requires.other.terms in
+    let none : c.back.ahead.other ≡ 0 = omega arith in
+    let back = subst (λ (n : ℕ). IsBack c.args.rows.now.columns (take c.args.own c.args.rows.now.terms) c.args.other.now.terms c.back.rows.terms c.back.ahead.own n c.back.ahead.place) none c.back.invariant.back in
+    let merged = back_last c.args.rows.now.columns (take c.args.own c.args.rows.now.terms) c.args.other.now.terms c.requires.own.terms other_ok c.back.rows.terms c.back.ahead.own c.back.ahead.place back in
+    let merges = merges_of _ _ _ _ c.requires.own.some merged in
+    record {
+      merges = record { columns = c.back.invariant.columns; counts = merges.counts; sums = merges.sums };
+      terms = record { some = rw c.back.invariant.columns c.requires.own.some; most = rw c.back.invariant.columns c.requires.own.most; terms = rw c.back.invariant.columns merged.terms };
+    }

@@ -1,13 +1,23 @@
-use Rattle.std.proofs.Common.{List, ap}
-use Rattle.cube_model.specs.declared.term.Term.{Term}
+use Rattle.std.proofs.Common.{ℕ, take, sym, ap, subst, ◌∙◌}
+use Rattle.std.proofs.lemmas.List.{take_at}
+use Rattle.group_sum.specs.Merge.{Merges}
 use Rattle.group_sum.specs.Terms.{TermList}
-use Rattle.group_sum.proofs.Merged.{is_merge}
+use Rattle.group_sum.proofs.Ascending.{ascends}
+use Rattle.group_sum.proofs.Merged.{is_merge_of}
 use Rattle.group_sum.proofs.terms.Terms.add.Goals as goal
+
+-- terms ascend
+pub missing-requires-clause-own : goal.missing-requires-clause-own
+missing-requires-clause-own c = record { each = ascends _ 1 _ c.self.invariant.terms }
+
+pub missing-requires-clause-other : goal.missing-requires-clause-other
+missing-requires-clause-other c = record { each = ascends _ 1 _ c.other.invariant.terms }
 
 -- terms that have the numerators of both are both merged
 pub returns-clause-ok : goal.returns-clause-ok
 returns-clause-ok c =
-    let all = is_merge _ _ _ _ c.self.invariant.some c.merge.ensures.terms.terms c.merge.ensures.merges in
-    let of_both = rw (c.in_ok-copies.ensures, c.deref.ensures.value, c.replace-terms.ensures.value) at all in
-    let with : List Term → TermList = λ terms. record { columns = c.self.inside.columns; terms = terms } in
-    rw (← c.self.view_is, ← c.other.view_is) (ap with of_both)
+    let grown = c.in_ok-grow.ensures.ok in
+    let kept = ap (λ (list : TermList). take c.len-own.result list.terms) grown ∙ take_at c.self.inside.rows.terms _ c.len-own.result (sym c.len-own.ensures) in
+    let columns = ap (λ (list : TermList). list.columns) grown in
+    let merges = subst (λ (n : ℕ). Merges (record { columns = n; terms = take c.len-own.result c.grow.new.self.terms }) c.other.inside.rows c.merge.new.rows) columns c.merge.ensures.merges in
+    rw (← c.self.view_is, ← c.other.view_is) (is_merge_of c.self.inside.rows c.other.inside.rows c.merge.new.rows _ kept c.self.invariant c.merge.ensures.terms merges)

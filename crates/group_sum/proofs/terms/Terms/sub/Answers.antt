@@ -4,6 +4,5 @@ use Rattle.group_sum.proofs.terms.Terms.sub.Goals as goal
 -- what is left, merged with the part, is the whole
 pub returns-clause-difference : goal.returns-clause-difference
 returns-clause-difference c =
-    let subtracts = rw (c.deref.ensures.value, c.deref-2.ensures.value) at c.in_ok-terms.ensures.difference in
-    let is = is_difference _ _ _ c.self.invariant subtracts in
+    let is = is_difference _ _ _ c.self.invariant c.in_ok-rows.ensures.difference in
     rw (← c.self.view_is, ← c.other.view_is) (record { columns = is.columns; merges = is.merges })

@@ -1,0 +1,78 @@
+use Rattle.std.proofs.Common.{◌≡◌, ◌+◌, ◌-◌, ◌∙◌, List, ℤ, Some, length, sym, ap, rules}
+use Rattle.std.specs.Vec.{with_items}
+use Rattle.std.proofs.lemmas.List.{with_items_is}
+use borrow.Rule.Slice.PartMut.{put_mid}
+use Rattle.cube_model.specs.declared.term.Term.{Term}
+use Rattle.group_sum.specs.Rows.{row_term, terms_in}
+use Rattle.group_sum.specs.Terms.{TermList}
+use Rattle.group_sum.specs.Place.{term_at}
+use Rattle.group_sum.specs.Heads.{total_in}
+use Rattle.group_sum.proofs.Flat.{IsLent, IsWritten, length_lent, row_fits, row_lent, invariant_written, only_written, row_of_lent, there_written}
+use Rattle.group_sum.proofs.RowSums.{IsRowOf, total_fits_row, total_of_row}
+use Rattle.group_sum.proofs.rows.Rows.add_row.Goals as goal
+
+-- the row ends among the numerators
+pub start-from-requires : goal.start-from-requires
+start-from-requires c =
+    let place = rw (← c.self.view_is) at c.requires.place in
+    rw c.deref.ensures.value (row_fits _ _ _ _ c.self.invariant c.args.at place)
+
+-- it is lent
+lent : (c : goal.After-add_up-arg-1) → IsLent c.self.inside.columns (terms_in c.self.inside.columns c.self.inside.dens.items c.self.inside.nums.items) c.self.inside.dens.items c.self.inside.nums.items c.args.at c.start-from.result c.deref_mut.result.now
+lent c = record { flat = c.self.invariant; place = rw (← c.self.view_is) at c.requires.place; start_is = c.start-from.ensures.start; lent_is = c.deref_mut.ensures.value }
+
+pub add_up-requires-clause-columns : goal.add_up-requires-clause-columns
+add_up-requires-clause-columns c = (rw (← c.self.view_is) at c.requires.columns) ∙ sym (length_lent _ _ _ _ _ _ _ (lent c))
+
+-- so the numerators fit it
+pub add_up-requires-clause-within : goal.add_up-requires-clause-within
+add_up-requires-clause-within c =
+    let count = rw (← c.self.view_is) at c.requires.count in
+    let sums = rw (← c.self.view_is) at c.requires.sums in
+    total_fits_row _ (term_at (terms_in c.self.inside.columns c.self.inside.dens.items c.self.inside.nums.items) c.args.at) _ _ (record { of_term = row_lent _ _ _ _ _ _ _ (lent c); len = row_of_lent _ _ _ _ _ _ _ (lent c); is_row = c.requires.row }) count sums
+
+-- it is written over
+len : (c : goal.After-self-1) → length c.add_up.new.row ≡ c.self.inside.columns
+len c = search rules
+
+abbrev items : (c : goal.After-self-1) → List ℤ
+items c = (with_items c.self.inside.nums (put_mid c.start-from.result (c.start-from.result + c.self.inside.columns - c.start-from.result) c.deref_mut.result.now c.add_up.new.row)).items
+
+items_are : (c : goal.After-self-1) → items c ≡ put_mid c.start-from.result (c.start-from.result + c.self.inside.columns - c.start-from.result) c.deref_mut.result.now c.add_up.new.row
+items_are c = with_items_is c.self.inside.nums _ (search rules)
+
+is_lent : (c : goal.After-self-1) → IsLent c.self.inside.columns (terms_in c.self.inside.columns c.self.inside.dens.items c.self.inside.nums.items) c.self.inside.dens.items c.self.inside.nums.items c.args.at c.start-from.result c.deref_mut.result.now
+is_lent c = record { flat = c.self.invariant; place = rw (← c.self.view_is) at c.requires.place; start_is = c.start-from.ensures.start; lent_is = c.deref_mut.ensures.value }
+
+abbrev here : (c : goal.After-self-1) → Term
+here c = term_at (terms_in c.self.inside.columns c.self.inside.dens.items c.self.inside.nums.items) c.args.at
+
+becomes : (c : goal.After-self-1) → IsRowOf (here c).den (length (here c).sums) ((here c).count + (row_term 0 c.args.row.now).count) (total_in (Some (here c)) (Some (row_term 0 c.args.row.now))) c.add_up.new.row
+becomes c =
+    total_of_row _ _ _ _ (record { of_term = row_lent _ _ _ _ _ _ _ (is_lent c); len = row_of_lent _ _ _ _ _ _ _ (is_lent c); is_row = c.requires.row }) c.add_up.new.row (len c) c.add_up.ensures
+
+abbrev written : (c : goal.After-self-1) → IsWritten c.self.inside.columns (terms_in c.self.inside.columns c.self.inside.dens.items c.self.inside.nums.items) c.self.inside.dens.items c.self.inside.nums.items c.args.at c.add_up.new.row (items c)
+written c = record {
+  start = c.start-from.result;
+  lent = c.deref_mut.result.now;
+  is_lent = record { flat = c.self.invariant; place = rw (← c.self.view_is) at c.requires.place; start_is = c.start-from.ensures.start; lent_is = c.deref_mut.ensures.value };
+  len = len c;
+  is_row = (becomes c).is_row;
+  now_is = items_are c;
+}
+
+pub invariant_of-self : goal.invariant_of-self
+invariant_of-self c = invariant_written _ _ _ _ _ _ _ (written c)
+
+-- that term alone is another
+pub returns-clause-only : goal.returns-clause-only
+returns-clause-only c =
+    let only = only_written _ _ _ _ _ _ _ (written c) in
+    rw (← c.self.view_is) (ap (λ (ts : List Term). let list : TermList = record { columns = c.self.inside.columns; terms = ts } in list) only)
+
+-- and it has the numerators
+pub returns-clause-total : goal.returns-clause-total
+returns-clause-total c =
+    let there = there_written _ _ _ _ _ _ _ (written c) in
+    let of = (becomes c).term in
+    rw (← c.self.view_is, there) (record { has_den = of.has_den; count = of.count; columns = of.columns; sums = of.sums })

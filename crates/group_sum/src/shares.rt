@@ -1,0 +1,54 @@
+//! Many shares at once.
+ghost use Rattle.std.specs.Prelude.{◌≡◌, ◌≤◌, [], All, IfOk, OnOk, IsPermutation};
+ghost use Rattle.group_sum.specs.Terms.{AreTerms};
+ghost use Rattle.group_sum.specs.Shares.{AddUpTo, IsShare, SharesFit};
+
+use crate::terms::{MAX_COLUMNS, Terms};
+use cube_base::{Cols, Memory};
+use std::alloc::Global;
+
+/// A weight at a denominator, with the values that it weighs.
+#[derive(Clone, Copy, Debug)]
+pub struct Share {
+    /// The denominator.
+    pub den: u64,
+    /// The weight.
+    pub weight: u64,
+    /// The values of the columns behind the count.
+    pub cols: Cols,
+}
+
+/// The terms that shares in any order add up to, over a number of columns, the count included. The shares are sorted by
+/// denominator, so that each term is put behind the others. The one error is want of memory.
+///
+/// Each denominator is at least 1, and each share has a value for each column but the count. At no denominator do the
+/// weights, or the absolute values of the products with the values of a column, add up to more than 2^120.
+pub fn terms_of_shares(alloc: Global, columns: u32, shares: &mut [Share]) -> Result<Terms, Memory>
+    requires some { 1 ≤ columns }
+    requires most { columns ≤ MAX_COLUMNS }
+    requires shares { All (IsShare columns) shares.old }
+    requires within { SharesFit columns shares.old }
+    ensures ok { IfOk result (AddUpTo columns shares.old) }
+    ensures terms { IfOk result AreTerms }
+    ensures order { IsPermutation shares.old shares.new }
+{
+    shares.sort_unstable_by_key(|share| share.den);
+    let mut terms = Terms::empty(alloc, columns);
+    add_all(&mut terms, shares)?;
+    Ok(terms)
+}
+
+// Adds each of the shares, in their order, to no terms.
+fn add_all(terms: &mut Terms, shares: &[Share]) -> Result<(), Memory>
+    requires terms { AreTerms terms.old }
+    requires none { terms.old.terms ≡ [] }
+    requires shares { All (IsShare terms.old.columns) shares.now }
+    requires within { SharesFit terms.old.columns shares.now }
+    ensures ok { OnOk result (AddUpTo terms.old.columns shares.now terms.new) }
+    ensures terms { OnOk result (AreTerms terms.new) }
+{
+    for share in shares {
+        terms.add_term(share.den, share.weight, share.cols)?;
+    }
+    Ok(())
+}
