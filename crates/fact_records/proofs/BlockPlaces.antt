@@ -1,5 +1,5 @@
 -- Where facts and ids stand in blocks, and what a search there finds.
-use Rattle.std.proofs.Common.{◌≡◌, ℕ, inl, inr, ◌+◌, ◌-◌, ◌<◌, ◌≤◌, List, [], length, get_or, Some, None, take, refl, sym, ap, ◌∙◌, arith}
+use Rattle.std.proofs.Common.{◌≡◌, ℕ, inl, inr, ◌+◌, ◌-◌, ◌<◌, ◌≤◌, List, [], length, get_or, Some, refl, sym, ap, ◌∙◌, arith}
 use Rattle.std.specs.declared.cmp.Ordering.TheVariants.{Less, Equal, Greater}
 use Rattle.std.specs.List.{slice_get}
 use Rattle.std.specs.List.Sorted.{IsNonDecreasingBy, IsPartitionPoint}
@@ -7,7 +7,6 @@ use Rattle.std.specs.Ordering.{nat_cmp, ordering_index}
 use Rattle.std.proofs.lemmas.Bool.{cases_lt, cases_eq}
 use Rattle.std.proofs.lemmas.Cmp.{ranked}
 use Rattle.std.proofs.lemmas.List.{get_or_read}
-use Rattle.std.proofs.lemmas.Option.{slice_get_past}
 use Rattle.cube_base.proofs.Search.{comparisons_rise}
 use Rattle.cube_model.specs.declared.edit.Fact.{Fact}
 use Rattle.fact_records.specs.BlockList.{AllFilled, IsAt, all_facts, block_at, place_in_all}
@@ -21,16 +20,6 @@ pub read_at : (used : List (List Fact)) (i k : ℕ) (block facts : List Fact) (f
 read_at used i k block facts fact at is_block is_facts is_fact =
     let same : facts ≡ block_at used i = is_facts ∙ get_or_read used i block at.block is_block [] in
     slice_get-flat used i k fact at.block at.at ∙ ap Some (sym (is_fact ∙ ap (λ l. get_or l k fact) same))
-
--- the same, where the place among all is counted down block by block; behind the last block there is nothing
-pub nth_here : (used : List (List Fact)) (i left n : ℕ) (block facts : List Fact) (fact : Fact) → length (all_facts (take i used)) + left ≡ n → i < length used → left < length facts → block ≡ get_or used i block → facts ≡ block → fact ≡ get_or facts left fact → Some fact ≡ slice_get (all_facts used) n
-nth_here used i left n block facts fact counted in_use in_block is_block is_facts is_fact =
-    let same : facts ≡ block_at used i = is_facts ∙ get_or_read used i block in_use is_block [] in
-    let at : IsAt used i left = record { block = in_use; at = omega (arith, ap length same) } in
-    sym (read_at used i left block facts fact at is_block is_facts is_fact) ∙ ap (slice_get (all_facts used)) counted
-
-pub nth_past : (used : List (List Fact)) (i left n : ℕ) → length (all_facts (take i used)) + left ≡ n → length used ≤ i → None ≡ slice_get (all_facts used) n
-nth_past used i left n counted behind = sym (slice_get_past (all_facts used) n (omega (arith, place-end used i behind)))
 
 -- ids do not fall
 ids_rise : (facts : List Fact) → IsAscending facts → (i j : ℕ) → i ≤ j → j < length facts → id_at facts i ≤ id_at facts j

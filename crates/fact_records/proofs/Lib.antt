@@ -1,6 +1,7 @@
 pub mod AcceptedValues
 pub mod Ascending
 pub mod BlockPlaces
+pub mod BlockStarts
 pub mod Columns
 pub mod Edits
 pub mod Filling
@@ -13,4 +14,5 @@ pub mod Load
 pub mod NodeFields
 pub mod PartTexts
 pub mod Rooms
+pub mod Stocking
 pub mod ValueFields

@@ -53,6 +53,11 @@ pub load_halves : (full front back : List Fact) (rest : List (List Fact)) → le
 load_halves full front back [] all first second = omega arith
 load_halves full front back (next ∷ rest) all first second = omega arith
 
+-- two blocks with few facts in one: where the last was one of them, it may count more by a half
+pub load_joined : (front back : List Fact) (rest : List (List Fact)) → length front + length back ≤ HALF → load ((front ++ back) ∷ rest) ≤ load (front ∷ back ∷ rest) + HALF
+load_joined front back [] few = omega (arith, length-append front back)
+load_joined front back (next ∷ rest) few = omega (arith, length-append front back)
+
 -- the load at a block, and after another was written over it
 load-at : (used : List (List Fact)) (i : ℕ) → i < length used → load used ≡ excess (take i used) + load (block_at used i ∷ drop (suc i) used)
 load-at used i lt = ap load (split_at used i lt) ∙ load-behind (take i used) (block_at used i) (drop (suc i) used)

@@ -5,10 +5,13 @@ pub mod Examples
 pub mod FactList
 pub mod Fields
 pub mod Judge
+pub mod Joining
 pub mod Kept
 pub mod MeasureFields
 pub mod Outcomes
 pub mod Room
 pub mod Shape
+pub mod Starts
+pub mod Stocked
 pub mod Valid
 pub mod Values

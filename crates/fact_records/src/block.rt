@@ -1,5 +1,5 @@
 //! A block: a few facts, and the room for a fixed number of them, which is taken once.
-ghost use Rattle.std.specs.Prelude.{◌≡◌, ◌<◌, ◌≤◌, [], Some, length, take, drop, slice_get, slice_set, insert, remove, IfOk};
+ghost use Rattle.std.specs.Prelude.{◌≡◌, ◌+◌, ◌<◌, ◌≤◌, [], ◌++◌, Some, length, take, drop, slice_get, slice_set, insert, remove, IfOk};
 
 use cube_model::Fact;
 use std::alloc::{AllocError, Global};
@@ -86,5 +86,17 @@ impl Block {
             unreachable!()
         }
         self.facts.truncate(from);
+    }
+
+    /// Moves all facts of another block behind these.
+    pub(crate) fn append(&mut self, other: &mut Block)
+        requires { length self.old + length other.old ≤ BLOCK }
+        ensures facts { self.new ≡ self.old ++ other.old }
+        ensures emptied { other.new ≡ [] }
+    {
+        if self.facts.extend_from_slice(&other.facts).is_err() {
+            unreachable!()
+        }
+        other.facts.truncate(0);
     }
 }

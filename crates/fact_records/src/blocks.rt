@@ -1,11 +1,15 @@
 //! Blocks of facts one after another, and blocks in stock for facts to come.
-ghost use Rattle.std.specs.Prelude.{◌≡◌, ◌+◌, ◌^◌, ◌<◌, ◌≤◌, [], Some, length, take, drop, slice_get, slice_set, insert, remove, All, OnOk};
+ghost use Rattle.std.specs.Prelude.{◌≡◌, ◌+◌, ◌^◌, ◌<◌, ◌≤◌, [], Some, length, take, drop, slice_get, slice_set, insert, remove, All, OnOk, true};
 ghost use Rattle.std.specs.Vec.{vec_capacity, vec_len};
+ghost use Rattle.std.specs.Option.{option_copied};
 ghost use Rattle.fact_records.specs.BlockList.{AllFilled, IsAt, IsPlace, all_facts, block_at, load, place_in_all, spare_of};
+ghost use Rattle.fact_records.specs.Joining.{IsJoined, are_sparse, joined};
 ghost use Rattle.fact_records.specs.Room.{MakesRoom};
 
 use crate::block::{BLOCK, Block};
-use crate::search::Place;
+use crate::in_room::{insert_in_room, push_in_room};
+use crate::search::{Place, nth};
+use crate::starts::{count_all, lower, raise};
 use cube_model::Fact;
 use std::alloc::{AllocError, Global};
 use std::marker::Model;
@@ -19,18 +23,21 @@ pub(crate) const HALF: usize = 128;
 pub(crate) struct Blocks {
     alloc: Global,
     used: Vec<Block>,
+    // For each block in use the number of facts before it.
+    starts: Vec<u64>,
     stock: Vec<Block>,
 }
 
 impl Model for Blocks {
     ghost use Rattle.std.specs.Vec.{vec_len, vec_capacity};
-    ghost use Rattle.fact_records.specs.BlockList.{BlockList, IsStocked};
+    ghost use Rattle.fact_records.specs.BlockList.{BlockList};
+    ghost use Rattle.fact_records.specs.Stocked.{AreStocked};
 
     ghost Value = { BlockList };
 
     ghost view = { λ b. record { used = b.used.items; stock = vec_len b.stock } };
 
-    ghost invariant = { λ b. IsStocked (vec_len b.used) (vec_capacity b.used) b.stock.items (vec_capacity b.stock) };
+    ghost invariant = { λ b. AreStocked b.used.items (vec_len b.used) (vec_capacity b.used) b.starts.items (vec_capacity b.starts) b.stock.items (vec_capacity b.stock) };
 }
 
 impl Blocks {
@@ -41,6 +48,7 @@ impl Blocks {
         Blocks {
             alloc,
             used: Vec::new(alloc),
+            starts: Vec::new(alloc),
             stock: Vec::new(alloc),
         }
     }
@@ -57,6 +65,14 @@ impl Blocks {
         ensures { result ≡ self.now.stock }
     {
         self.stock.len()
+    }
+
+    /// The fact at a place among all: None exactly from their number on.
+    pub(crate) fn nth(&self, i: u64) -> Option<&Fact>
+        requires { AllFilled self.now.used }
+        ensures { option_copied result ≡ slice_get (all_facts self.now.used) i }
+    {
+        nth(&self.used, &self.starts, i)
     }
 
     /// The facts of a block.
@@ -79,7 +95,8 @@ impl Blocks {
         self.replace_within(place, fact)
     }
 
-    /// Takes out the fact at a place. A block that is empty then goes to the stock.
+    /// Takes out the fact at a place. Where its block and the one behind it or before it have few facts between them, they
+    /// become one. A block that is empty goes to the stock.
     pub(crate) fn remove(&mut self, place: Place) -> Fact
         requires place { IsAt self.old.used place.block place.at }
         requires filled { AllFilled self.old.used }
@@ -91,8 +108,43 @@ impl Blocks {
         let fact = self.remove_within(place);
         if self.block(place.block).is_empty() {
             self.retire(place.block);
+        } else {
+            self.join_sparse(place.block);
         }
         fact
+    }
+
+    /// Joins a block with the one behind it or the one before it, where both have few facts.
+    fn join_sparse(&mut self, block: usize)
+        requires place { block < length self.old.used }
+        requires filled { AllFilled self.old.used }
+        ensures { IsJoined self.old self.new }
+    {
+        if self.are_sparse(block) {
+            self.join(block);
+        } else if block > 0 && self.are_sparse(block - 1) {
+            self.join(block - 1);
+        }
+    }
+
+    /// Whether a block has one behind it, and both together have no more facts than a half of a block.
+    fn are_sparse(&self, block: usize) -> bool
+        requires { block < length self.now.used }
+        ensures { result ≡ are_sparse self.now.used block }
+    {
+        self.used.len() > block + 1 && self.block(block).len() + self.block(block + 1).len() <= HALF
+    }
+
+    /// Moves the facts of the block behind a block to the end of that block, and gives the other to the stock.
+    fn join(&mut self, block: usize)
+        requires { are_sparse self.old.used block ≡ true }
+        ensures used { self.new.used ≡ joined self.old.used block }
+        ensures stock { self.new.stock ≡ self.old.stock + 1 }
+    {
+        let mut next = self.used.remove(block + 1);
+        self.used[block].append(&mut next);
+        self.starts.remove(block + 1);
+        push_in_room(&mut self.stock, next);
     }
 
     /// Puts a fact in at a place. Where its block is full, a block of the stock makes room.
@@ -100,6 +152,7 @@ impl Blocks {
         requires place { IsPlace self.old.used place.block place.at }
         requires filled { AllFilled self.old.used }
         requires spare { 0 < spare_of self.old }
+        requires few { length (all_facts self.old.used) + 1 < 2 ^ 64 }
         ensures facts { all_facts self.new.used ≡ insert (all_facts self.old.used) (place_in_all self.old.used place.block place.at) fact }
         ensures filled { AllFilled self.new.used }
         ensures spare { spare_of self.old ≤ spare_of self.new + 1 }
@@ -144,10 +197,12 @@ impl Blocks {
         requires place { place.block < length self.old.used }
         requires within { place.at ≤ length (block_at self.old.used place.block) }
         requires room { length (block_at self.old.used place.block) < BLOCK }
+        requires few { length (all_facts self.old.used) + 1 < 2 ^ 64 }
         ensures used { self.new.used ≡ slice_set self.old.used place.block (insert (block_at self.old.used place.block) place.at fact) }
         ensures stock { self.new.stock ≡ self.old.stock }
     {
         self.used[place.block].insert(place.at, fact);
+        raise(&mut self.starts, place.block + 1);
     }
 
     /// Writes a fact over one in its block.
@@ -167,20 +222,22 @@ impl Blocks {
         ensures used { self.new.used ≡ slice_set self.old.used place.block (remove (block_at self.old.used place.block) place.at) }
         ensures stock { self.new.stock ≡ self.old.stock }
     {
-        self.used[place.block].remove(place.at)
+        let fact = self.used[place.block].remove(place.at);
+        lower(&mut self.starts, place.block + 1);
+        fact
     }
 
-    /// Puts an empty block of the stock before the one at a place, or behind all.
+    /// Puts an empty block of the stock behind all, which is its place.
     fn add(&mut self, block: usize)
-        requires place { block ≤ length self.old.used }
+        requires place { block ≡ length self.old.used }
         requires stock { 0 < self.old.stock }
         ensures used { self.new.used ≡ insert self.old.used block [] }
         ensures stock { self.new.stock + 1 ≡ self.old.stock }
     {
+        let start = count_all(&self.used, &self.starts);
         let empty = self.stock.pop().unwrap();
-        if self.used.insert(block, empty).is_err() {
-            unreachable!()
-        }
+        insert_in_room(&mut self.used, block, empty);
+        insert_in_room(&mut self.starts, block, start);
     }
 
     /// Splits a full block in two halves.
@@ -194,9 +251,9 @@ impl Blocks {
     {
         let mut end = self.stock.pop().unwrap();
         self.used[block].move_end(HALF, &mut end);
-        if self.used.insert(block + 1, end).is_err() {
-            unreachable!()
-        }
+        let start = self.starts[block] + HALF as u64;
+        insert_in_room(&mut self.used, block + 1, end);
+        insert_in_room(&mut self.starts, block + 1, start);
     }
 
     /// Gives a block without facts to the stock.
@@ -207,9 +264,8 @@ impl Blocks {
         ensures stock { self.new.stock ≡ self.old.stock + 1 }
     {
         let empty = self.used.remove(block);
-        if self.stock.push(empty).is_err() {
-            unreachable!()
-        }
+        self.starts.remove(block);
+        push_in_room(&mut self.stock, empty);
     }
 
     /// Makes the stock at least so large. On an error it may have grown.
@@ -224,6 +280,7 @@ impl Blocks {
             return Ok(());
         }
         self.used.reserve(stock)?;
+        self.starts.reserve(stock)?;
         self.stock.reserve(self.used.len() + stock)?;
         fill(alloc, &mut self.stock, stock)
     }

@@ -6,7 +6,7 @@ ghost use Rattle.fact_records.specs.FactList.{IsAscending, fact_of, facts_left};
 
 use crate::FactWalk;
 use crate::blocks::{Blocks, HALF, load};
-use crate::search::{fact_at, nth, search};
+use crate::search::{fact_at, search};
 use cube_base::Memory;
 use cube_model::Fact;
 use std::alloc::Global;
@@ -75,7 +75,7 @@ impl FactList {
     pub fn nth(&self, i: u64) -> Option<&Fact>
         ensures { option_copied result ≡ slice_get self.now.facts i }
     {
-        nth(self.blocks.used(), i)
+        self.blocks.nth(i)
     }
 
     /// The facts in order. It takes no memory.

@@ -9,12 +9,14 @@ mod copies;
 mod fact_list;
 mod fact_reader;
 mod fact_walk;
+mod in_room;
 mod judge;
 mod laws;
 mod measure_reader;
 mod places;
 mod search;
 mod shape;
+mod starts;
 mod value_reader;
 mod values;
 

@@ -1,11 +1,13 @@
 //! Places of facts in blocks.
-ghost use Rattle.std.specs.Prelude.{◌≡◌, ◌+◌, ◌<◌, Some, length, slice_get, IfOk, IfErr};
+ghost use Rattle.std.specs.Prelude.{◌≡◌, ◌+◌, ◌<◌, Some, length, slice_get, IfSome, IsNone, IfOk, IfErr};
 ghost use Rattle.std.specs.Option.{option_copied};
 ghost use Rattle.fact_records.specs.BlockList.{AllFilled, IsAt, IsPlace, all_facts, place_in_all};
 ghost use Rattle.fact_records.specs.Cut.{IsCut, IsGapAt, IsIdAt, id_at};
 ghost use Rattle.fact_records.specs.FactList.{IsAscending};
+ghost use Rattle.fact_records.specs.Starts.{IsStartBefore, starts_of};
 
 use crate::block::Block;
+use crate::starts;
 use cube_model::Fact;
 
 /// A place of a fact: which block, and where in it.
@@ -75,17 +77,28 @@ pub(crate) fn fact_at(used: &[Block], place: Place) -> &Fact
     &used[place.block].as_slice()[place.at]
 }
 
-/// The fact at a place among all.
-pub(crate) fn nth(used: &[Block], i: u64) -> Option<&Fact>
+/// The last block before which there are no more facts than a number: None exactly where there is no block.
+fn block_before(used: &[Block], starts: &[u64], i: u64) -> Option<usize>
+    requires filled { AllFilled used.now }
+    requires counted { starts.now ≡ starts_of used.now }
+    ensures in_range { IfSome result (λ block. block < length used.now) }
+    ensures found { IfSome result (λ block. IsStartBefore starts.now i block) }
+    ensures none { IsNone result → length used.now ≡ 0 }
+{
+    starts::block_of(starts, i)
+}
+
+/// The fact at a place among all, by the number of facts before each block: None exactly from their number on.
+pub(crate) fn nth<'a>(used: &'a [Block], starts: &[u64], i: u64) -> Option<&'a Fact>
+    requires filled { AllFilled used.now }
+    requires counted { starts.now ≡ starts_of used.now }
     ensures { option_copied result ≡ slice_get (all_facts used.now) i }
 {
-    let mut left = i;
-    for block in used {
-        let facts = block.as_slice();
-        if left < facts.len() as u64 {
-            return Some(&facts[left as usize]);
-        }
-        left -= facts.len() as u64;
+    let block = block_before(used, starts, i)?;
+    let at = i - starts[block];
+    let facts = used[block].as_slice();
+    if at < facts.len() as u64 {
+        return Some(&facts[at as usize]);
     }
     None
 }

@@ -11,6 +11,11 @@ insert-requires-clause-spare c =
     let some = room_for_new (all_facts c.self.inside.blocks.used) c.args.fact.id _ _ (rw c.used.ensures at c.in-Err.ensures.gap) (rw (← c.self.view_is) at c.requires) in
     omega (arith, some, c.self.invariant.room)
 
+pub insert-requires-clause-few : goal.insert-requires-clause-few
+insert-requires-clause-few c =
+    let some = room_for_new (all_facts c.self.inside.blocks.used) c.args.fact.id _ _ (rw c.used.ensures at c.in-Err.ensures.gap) (rw (← c.self.view_is) at c.requires) in
+    omega (arith, some, c.self.invariant.fits, c.self.invariant.counted)
+
 pub overflow_add-self : goal.overflow_add-self
 overflow_add-self c =
     let some = room_for_new (all_facts c.self.inside.blocks.used) c.args.fact.id _ _ (rw c.used.ensures at c.in-Err.ensures.gap) (rw (← c.self.view_is) at c.requires) in

@@ -1,0 +1,54 @@
+//! For each block the number of facts before it.
+ghost use Rattle.std.specs.Prelude.{◌≡◌, ◌+◌, ◌-◌, ◌^◌, ◌<◌, All, IfSome, IsNone, length};
+ghost use Rattle.std.specs.Vec.{vec_capacity};
+ghost use Rattle.fact_records.specs.BlockList.{all_facts};
+ghost use Rattle.fact_records.specs.Starts.{IsRising, IsStartBefore, mapped_from, starts_of};
+
+use crate::block::Block;
+
+/// Counts one fact more before each block from one on.
+pub(crate) fn raise(starts: &mut Vec<u64>, from: usize)
+    requires { All (λ start. start + 1 < 2 ^ 64) starts.old.items }
+    ensures items { starts.new.items ≡ mapped_from (λ start. start + 1) from starts.old.items }
+    ensures capacity { vec_capacity starts.new ≡ vec_capacity starts.old }
+{
+    for block in from..starts.len() {
+        starts[block] += 1;
+    }
+}
+
+/// Counts one fact fewer before each block from one on.
+pub(crate) fn lower(starts: &mut Vec<u64>, from: usize)
+    ensures items { starts.new.items ≡ mapped_from (λ start. start - 1) from starts.old.items }
+    ensures capacity { vec_capacity starts.new ≡ vec_capacity starts.old }
+{
+    for block in from..starts.len() {
+        starts[block] = starts[block].saturating_sub(1);
+    }
+}
+
+/// The number of all facts.
+pub(crate) fn count_all(used: &[Block], starts: &[u64]) -> u64
+    requires counted { starts.now ≡ starts_of used.now }
+    requires few { length (all_facts used.now) < 2 ^ 64 }
+    ensures { result ≡ length (all_facts used.now) }
+{
+    if used.is_empty() {
+        return 0;
+    }
+    let last = used.len() - 1;
+    starts[last] + used[last].as_slice().len() as u64
+}
+
+/// The last block before which there are no more facts than a number: None exactly where there is no block.
+pub(crate) fn block_of(starts: &[u64], i: u64) -> Option<usize>
+    requires { IsRising starts.now }
+    ensures found { IfSome result (λ block. IsStartBefore starts.now i block) }
+    ensures none { IsNone result → length starts.now ≡ 0 }
+{
+    match starts.binary_search(&i) {
+        Ok(block) => Some(block),
+        Err(0) => None,
+        Err(next) => Some(next - 1),
+    }
+}
