@@ -14,7 +14,7 @@ use Rattle.cube_model.proofs.Ascending.{ascends_cells, ascends_filter, ascends_m
 use Rattle.alloc_rows.specs.Alloc.{IsAllocation}
 
 -- the rows of a region's cells ascend
-rows_of-ascend : (weight : ℕ → ℕ) (dims : List Dimension) (region : List ℕ) → ascends_from (λ row. row.0) 0 (rows_of weight (cells_of dims region)) ≡ true
+pub rows_of-ascend : (weight : ℕ → ℕ) (dims : List Dimension) (region : List ℕ) → ascends_from (λ row. row.0) 0 (rows_of weight (cells_of dims region)) ≡ true
 rows_of-ascend weight dims region =
     let cells = cells_of dims region in
     let all = map (λ cell. (cell, weight cell)) cells in

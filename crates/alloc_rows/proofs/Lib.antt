@@ -1,4 +1,9 @@
 pub mod Ascending
+pub mod Changes
+pub mod OneRow
+pub mod RowPlaces
 pub mod Spreading
+pub mod Stepped
 pub mod Weighed
+pub mod WeightedPart
 pub mod WithinSum

@@ -1,5 +1,5 @@
 -- What is spread over a region, for facts and over its cells.
-use Rattle.std.proofs.Common.{◌≡◌, ℕ, suc, ◌<◌, Bool, true, false, List, [], ◌∷◌, length, map, refl, ap, ◌∙◌, arith}
+use Rattle.std.proofs.Common.{◌≡◌, ℕ, suc, ◌<◌, Bool, true, false, List, [], ◌∷◌, length, map, refl, ap, ◌∙◌, subst, arith}
 use Rattle.std.proofs.lemmas.List.Elements.{All-filter, All-map}
 use Rattle.std.proofs.lemmas.List.Sums.{sum_by-cons}
 use Rattle.std.specs.List.{sum_by}
@@ -7,22 +7,22 @@ use Rattle.std.specs.Prelude.{All, IfOk, Ok, Err, Result, nat_lt, ◌==◌, if�
 use Rattle.cube_model.specs.declared.edit.Fact.{Fact}
 use Rattle.cube_model.specs.declared.statistic.CellStat.{CellStat}
 use Rattle.cube_model.specs.Allocation.{Allocation, Policy, allocation, rows_of, stat_of, spread, spread_by, spread_evenly}
-use Rattle.cube_model.specs.Cells.{AreRows, all_cells, cells_of}
+use Rattle.cube_model.specs.Cells.{AreRows, all_cells, cells_of, is_single}
 use Rattle.cube_model.specs.Tree.{Dimension}
 use Rattle.region_algebra.proofs.Spaces.{cells-within}
 use Rattle.cell_weight.specs.Stats.{stat_at}
 use Rattle.staged_map.specs.Staged.{Places}
-use Rattle.alloc_rows.specs.Alloc.{AreStatsOf, IsAllocationOf}
+use Rattle.alloc_rows.specs.Alloc.{AreStatsIn, IsAllocationOf, IsSpreadOf}
 
 -- weights that are equal at each cell spread equally
-sum_by-same : (v w : ℕ → ℕ) (cells : List ℕ) → All (λ cell. v cell ≡ w cell) cells → sum_by v cells ≡ sum_by w cells
+pub sum_by-same : (v w : ℕ → ℕ) (cells : List ℕ) → All (λ cell. v cell ≡ w cell) cells → sum_by v cells ≡ sum_by w cells
 sum_by-same v w [] same = refl
 sum_by-same v w (cell ∷ cells) same =
     let here : v cell ≡ w cell = same 0 0 (omega arith) in
     let rest : sum_by v cells ≡ sum_by w cells = sum_by-same v w cells (λ k d within. same (suc k) d (omega arith)) in
     omega (arith, here, rest, sum_by-cons v cell cells, sum_by-cons w cell cells)
 
-rows_of-same : (v w : ℕ → ℕ) (cells : List ℕ) → All (λ cell. v cell ≡ w cell) cells → rows_of v cells ≡ rows_of w cells
+pub rows_of-same : (v w : ℕ → ℕ) (cells : List ℕ) → All (λ cell. v cell ≡ w cell) cells → rows_of v cells ≡ rows_of w cells
 rows_of-same v w [] same = refl
 rows_of-same v w (cell ∷ cells) same =
     let here : v cell ≡ w cell = same 0 0 (omega arith) in
@@ -31,16 +31,32 @@ rows_of-same v w (cell ∷ cells) same =
 pub spread-same : (v w : ℕ → ℕ) (cells : List ℕ) → All (λ cell. v cell ≡ w cell) cells → spread v cells ≡ spread w cells
 spread-same v w cells same = rw (sum_by-same v w cells same, rows_of-same v w cells same) refl
 
+-- what is spread over several cells, by the sum and the rows of their weights
+pub spread-several : (weight : ℕ → ℕ) (cells : List ℕ) (total : ℕ) (rows : List (ℕ × ℕ)) → is_single cells ≡ false → total ≡ sum_by weight cells → rows ≡ rows_of weight cells
+    → (if total == 0 then spread_evenly cells else record { den = total; rows = rows }) ≡ spread weight cells
+spread-several weight cells total rows several sum are = rw (several, sum, are) refl
+
 -- what is spread by the statistics of facts is the facts' allocation
-allocation-spread : (policy : Policy) (dims : List Dimension) (facts : List Fact) (fact : Fact) (places : Places CellStat)
-    → AreStatsOf policy dims facts places (cells_of dims fact.region) → spread (λ cell. policy.weigh (stat_at places cell)) (cells_of dims fact.region) ≡ allocation policy dims facts fact
+allocation-spread : (policy : Policy) (dims : List Dimension) (facts : List Fact) (fact : Fact) (stats : ℕ → CellStat)
+    → AreStatsIn policy dims facts stats (cells_of dims fact.region) → spread (λ cell. policy.weigh (stats cell)) (cells_of dims fact.region) ≡ allocation policy dims facts fact
 unfolding allocation
-allocation-spread policy dims facts fact places are =
-    spread-same (λ cell. policy.weigh (stat_at places cell)) (λ cell. policy.weigh (stat_of policy dims facts cell)) (cells_of dims fact.region) (λ k d within. ap policy.weigh (are k d within))
+allocation-spread policy dims facts fact stats are =
+    spread-same (λ cell. policy.weigh (stats cell)) (λ cell. policy.weigh (stat_of policy dims facts cell)) (cells_of dims fact.region) (λ k d within. ap policy.weigh (are k d within))
+
+allocation-there : (policy : Policy) (dims : List Dimension) (facts : List Fact) (fact : Fact) (stats : ℕ → CellStat) (region : List ℕ) → fact.region ≡ region
+    → AreStatsIn policy dims facts stats (cells_of dims region) → spread (λ cell. policy.weigh (stats cell)) (cells_of dims region) ≡ allocation policy dims facts fact
+allocation-there policy dims facts fact stats region there =
+    subst (λ (r : List ℕ). AreStatsIn policy dims facts stats (cells_of dims r) → spread (λ cell. policy.weigh (stats cell)) (cells_of dims r) ≡ allocation policy dims facts fact) there
+    (allocation-spread policy dims facts fact stats)
+
+pub IsSpreadOf-spread : {E : Type 0} (result : Result Allocation E) (weigh : CellStat → ℕ) (dims : List Dimension) (stats : ℕ → CellStat) (region : List ℕ)
+    → IfOk result (λ a. a ≡ spread (λ cell. weigh (stats cell)) (cells_of dims region)) → IfOk result (IsSpreadOf weigh dims stats region)
+IsSpreadOf-spread (Ok a) weigh dims stats region is = λ adds facts fact there are. is ∙ allocation-there (record { weigh = weigh; adds = adds }) dims facts fact stats region there are
+IsSpreadOf-spread (Err e) weigh dims stats region is = tt
 
 pub IsAllocationOf-spread : {E : Type 0} (result : Result Allocation E) (weigh : CellStat → ℕ) (dims : List Dimension) (fact : Fact) (places : Places CellStat)
     → IfOk result (λ a. a ≡ spread (λ cell. weigh (stat_at places cell)) (cells_of dims fact.region)) → IfOk result (IsAllocationOf weigh dims places fact)
-IsAllocationOf-spread (Ok a) weigh dims fact places is = λ adds facts are. is ∙ allocation-spread (record { weigh = weigh; adds = adds }) dims facts fact places are
+IsAllocationOf-spread (Ok a) weigh dims fact places is = λ adds facts are. is ∙ allocation-spread (record { weigh = weigh; adds = adds }) dims facts fact (stat_at places) are
 IsAllocationOf-spread (Err e) weigh dims fact places is = tt
 
 -- what is spread over a region has rows of its cells

@@ -1,7 +1,9 @@
 -- Two small spaces and facts in them, of which rows were worked out by hand.
 use Rattle.std.specs.Prelude.{ℕ, List, [], ◌∷◌, pos}
 use Rattle.cube_model.specs.declared.edit.Fact.{Fact}
+use Rattle.cube_model.specs.declared.statistic.CellStat.{CellStat}
 use Rattle.cube_model.specs.Tree.{Dimension, Entry}
+use Rattle.cell_weight.specs.Stats.{no_facts}
 
 -- a node without a name
 abbrev node : ℕ → ℕ → Entry
@@ -34,3 +36,15 @@ fact_somewhere = fact_at 4 (1 ∷ 2 ∷ []) 600
 -- two facts on one cell, a third on its neighbour, and that one
 abbrev pub four_facts : List Fact
 four_facts = fact_at 1 (2 ∷ 2 ∷ []) 100 ∷ fact_at 2 (2 ∷ 2 ∷ []) 300 ∷ fact_at 3 (3 ∷ 2 ∷ []) 50 ∷ fact_somewhere ∷ []
+
+-- the cells where that one may be
+abbrev pub three_cells : List ℕ
+three_cells = 0 ∷ 4 ∷ 8 ∷ []
+
+-- no cell has facts
+abbrev pub no_stats : ℕ → CellStat
+no_stats cell = no_facts
+
+-- of some facts at a cell only their number is known
+abbrev pub facts : ℕ → CellStat
+facts count = record { count = count; sum = 0 }

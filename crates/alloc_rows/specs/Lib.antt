@@ -1,2 +1,4 @@
 pub mod Alloc
+pub mod Changed
 pub mod Examples
+pub mod Rows

@@ -1,9 +1,14 @@
-//! Examples that are computed from the definitions. The function does nothing: the law is its contract.
-ghost use Rattle.std.specs.Prelude.{◌≡◌, [], ◌∷◌};
-ghost use Rattle.cube_model.specs.Allocation.{allocation, by_count, by_sum, uniform};
+//! What follows from the definitions, and examples that are computed from them. The functions do nothing: the laws are
+//! their contracts.
+ghost use Rattle.std.specs.Prelude.{◌≡◌, ℕ, List, [], ◌∷◌, ◌++◌};
+ghost use Rattle.cube_model.specs.Allocation.{allocation, by_count, by_sum, spread, uniform, weigh_count};
 ghost use Rattle.cube_model.specs.Answer.{weight_inside};
 ghost use Rattle.cube_model.specs.Cells.{cells_of};
-ghost use Rattle.alloc_rows.specs.Examples.{fact_at, fact_somewhere, four_facts, one_dim, two_dims};
+ghost use Rattle.cube_model.specs.declared.statistic.CellStat.{CellStat};
+ghost use Rattle.staged_map.specs.Staged.{Places};
+ghost use Rattle.cell_weight.specs.Stats.{Installs, no_facts, stat_at};
+ghost use Rattle.alloc_rows.specs.Changed.{Change, changes_among, new_stats, stat_after};
+ghost use Rattle.alloc_rows.specs.Examples.{fact_at, fact_somewhere, facts, four_facts, no_stats, one_dim, three_cells, two_dims};
 
 /// Rows that were worked out by hand. A fact somewhere in three cells is spread over the two where precise facts lie, as
 /// their counts or the sums of their values say; its own value does not matter. It is spread evenly over all three by the
@@ -23,4 +28,29 @@ pub fn worked_rows()
     ensures inside { weight_inside (cells_of two_dims (2 ∷ 2 ∷ [])) (allocation by_count two_dims four_facts fact_somewhere) ≡ 2 }
     ensures all_inside { weight_inside (cells_of two_dims (1 ∷ 0 ∷ [])) (allocation by_count two_dims four_facts fact_somewhere) ≡ 3 }
     ensures none_inside { weight_inside (cells_of two_dims (4 ∷ 2 ∷ [])) (allocation by_count two_dims four_facts fact_somewhere) ≡ 0 }
+{}
+
+/// Statistics after changes, and what is spread by them. Changes that follow others come to both, the later first. The
+/// changes of a region's cells are all that count there, so that a region without any keeps its allocation. And where the
+/// changes were installed, what was spread by the statistics after them is what is spread by those that are kept: the next
+/// step begins with it.
+pub fn steps_compose()
+    ensures twice { (stats : ℕ → CellStat) (first second : List Change) (cell : ℕ) → stat_after (stat_after stats first) second cell ≡ stat_after stats (second ++ first) cell }
+    ensures inside { (weigh : CellStat → ℕ) (stats : ℕ → CellStat) (changes : List Change) (cells : List ℕ)
+        → spread (λ cell. weigh (stat_after stats (changes_among cells changes) cell)) cells ≡ spread (λ cell. weigh (stat_after stats changes cell)) cells }
+    ensures installed { (weigh : CellStat → ℕ) (old new : Places CellStat) (changes : List Change) (cells : List ℕ) → Installs old new (new_stats changes)
+        → spread (λ cell. weigh (stat_after (stat_at old) changes cell)) cells ≡ spread (λ cell. weigh (stat_at new cell)) cells }
+{}
+
+/// Rows that were worked out by hand, where the counts of cells change. A cell that gets its first fact gets a row, and
+/// takes the place of even ones; one that loses its last loses its row, and where no other is left all are even. A fact that
+/// moves from one cell to another takes all of the weight along.
+pub fn worked_steps()
+    ensures first { spread (λ cell. weigh_count (stat_after no_stats ((4, no_facts, facts 1) ∷ []) cell)) three_cells ≡ record { den = 1; rows = (4, 1) ∷ [] } }
+    ensures another { spread (λ cell. weigh_count (stat_after (stat_after no_stats ((4, no_facts, facts 1) ∷ [])) ((0, no_facts, facts 2) ∷ []) cell)) three_cells
+        ≡ record { den = 3; rows = (0, 2) ∷ (4, 1) ∷ [] } }
+    ensures moved { spread (λ cell. weigh_count (stat_after (stat_after no_stats ((4, no_facts, facts 1) ∷ [])) ((4, facts 1, no_facts) ∷ (8, no_facts, facts 1) ∷ []) cell)) three_cells
+        ≡ record { den = 1; rows = (8, 1) ∷ [] } }
+    ensures last { spread (λ cell. weigh_count (stat_after (stat_after no_stats ((4, no_facts, facts 1) ∷ [])) ((4, facts 1, no_facts) ∷ []) cell)) three_cells
+        ≡ record { den = 3; rows = (0, 1) ∷ (4, 1) ∷ (8, 1) ∷ [] } }
 {}

@@ -4,7 +4,9 @@
 mod laws;
 mod rows;
 mod spread;
+mod stepping;
 
-pub use laws::worked_rows;
+pub use laws::{steps_compose, worked_rows, worked_steps};
 pub use rows::{Alloc, inside};
-pub use spread::allocate;
+pub use spread::{allocate, allocate_at};
+pub use stepping::step;

@@ -1,13 +1,15 @@
 //! An allocation, and how much of it lies inside a region.
-ghost use Rattle.std.specs.Prelude.{◌≡◌, ◌≤◌};
+ghost use Rattle.std.specs.Prelude.{◌≡◌, ◌≤◌, IfOk};
 ghost use Rattle.cube_model.specs.Answer.{weight_inside};
 ghost use Rattle.cube_model.specs.Cells.{AreRows, cells_of};
 ghost use Rattle.region_algebra.specs.Space.{IsRegion};
 ghost use Rattle.alloc_rows.specs.Alloc.{IsAllocation};
 
-use cube_base::Pairs;
+use cube_base::Memory;
 use cube_model::Region;
 use region_algebra::Space;
+use shared_list::SharedPairs;
+use std::alloc::Global;
 use std::marker::Model;
 
 /// How a fact is spread: rows of a cell and its weight, ascending by cell, and the denominator, which is the sum of the
@@ -15,7 +17,7 @@ use std::marker::Model;
 #[derive(Debug, Drop)]
 pub struct Alloc {
     den: u64,
-    rows: Pairs,
+    rows: SharedPairs,
 }
 
 impl Model for Alloc {
@@ -31,14 +33,12 @@ impl Model for Alloc {
 
 impl Alloc {
     /// These rows over this denominator.
-    pub(crate) fn of_rows(den: u64, rows: Vec<(u64, u64)>) -> Self
+    pub(crate) fn of_rows(alloc: Global, den: u64, rows: Vec<(u64, u64)>) -> Result<Self, Memory>
         requires { IsAllocation (record { den = den; rows = rows.items }) }
-        ensures { result ≡ record { den = den; rows = rows.items } }
+        ensures { IfOk result (λ a. a ≡ record { den = den; rows = rows.items }) }
     {
-        Alloc {
-            den,
-            rows: Pairs::from(rows),
-        }
+        let rows = SharedPairs::from_vec(alloc, rows)?;
+        Ok(Alloc { den, rows })
     }
 
     /// The denominator: the sum of the rows' weights.
@@ -56,20 +56,39 @@ impl Alloc {
     {
         self.rows.as_slice()
     }
+
+    /// The rows as a list of their own on the same storage: no row is copied.
+    pub fn shared_rows(&self) -> Result<SharedPairs, Memory>
+        ensures rows { IfOk result (λ rows. rows ≡ self.now.rows) }
+        ensures kept { IsAllocation self.now }
+    {
+        self.rows.share()
+    }
+
+    /// An equal allocation on the same storage: no row is copied.
+    pub fn share(&self) -> Result<Self, Memory>
+        ensures { IfOk result (λ a. a ≡ self.now) }
+    {
+        Ok(Alloc {
+            den: self.den,
+            rows: self.rows.share()?,
+        })
+    }
 }
 
 /// How much of an allocation lies inside a region: the sum of the weights of the rows whose cells are the region's. The
-/// region is one of the space, and so are the cells, as `allocate` gives them. It takes no memory and costs a few
-/// operations a row and dimension.
+/// region is one of the space, and so are the cells, as `allocate` gives them. It takes no memory; the region is looked up once,
+/// and a row costs a division at most in each dimension of which the region has not all leaves.
 pub fn inside(a: &Alloc, space: &Space, r: Region) -> u64
     requires region { IsRegion space.now r }
     requires cells { AreRows space.now a.now.rows }
     ensures sum { result ≡ weight_inside (cells_of space.now r) a.now }
     ensures most { result ≤ a.now.den }
 {
+    let region = space.inside(r);
     let mut sum = 0;
     for (cell, weight) in a.rows() {
-        if space.contains(r, *cell) {
+        if region.holds(*cell) {
             sum += *weight;
         }
     }

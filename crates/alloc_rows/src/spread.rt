@@ -1,12 +1,12 @@
 //! The allocation of a fact.
-ghost use Rattle.std.specs.Prelude.{◌≡◌, ◌<◌, ◌≤◌, IfOk, length};
+ghost use Rattle.std.specs.Prelude.{◌≡◌, ◌<◌, ◌≤◌, ◌==◌, if◌then◌else◌, IfOk, length};
 ghost use Rattle.std.specs.List.{sum_by};
 ghost use Rattle.cube_model.specs.Allocation.{rows_of, spread, spread_evenly};
-ghost use Rattle.cube_model.specs.Cells.{AreRows, cells_of};
+ghost use Rattle.cube_model.specs.Cells.{AreRows, cells_of, is_single};
 ghost use Rattle.cube_model.specs.Limits.{DEN_LIMIT, MAX_CELLS};
 ghost use Rattle.cell_weight.specs.Stats.{stat_at};
 ghost use Rattle.region_algebra.specs.Space.{IsRegion};
-ghost use Rattle.alloc_rows.specs.Alloc.{AreFewAt, IsAllocationOf};
+ghost use Rattle.alloc_rows.specs.Alloc.{AreFewAt, IsAllocation, IsAllocationOf, IsSpreadOf};
 
 use crate::Alloc;
 use cell_weight::{StatIndex, WeightPolicy};
@@ -33,11 +33,12 @@ pub fn allocate<P: WeightPolicy>(
     ensures of_facts { IfOk result (IsAllocationOf (P.weigh policy.now) space.now stats.now f.now) }
     ensures cells { IfOk result (λ a. AreRows space.now a.rows) }
 {
-    spread_over(alloc, space, policy, stats, f.region)
+    allocate_at(alloc, space, policy, stats, f.region)
 }
 
-/// The allocation of a fact in this region.
-fn spread_over<P: WeightPolicy>(
+/// The allocation of every fact in a region, as `allocate` gives it: that depends on the region alone. The conditions are
+/// those of `allocate`.
+pub fn allocate_at<P: WeightPolicy>(
     alloc: Global,
     space: &Space,
     policy: &P,
@@ -47,16 +48,23 @@ fn spread_over<P: WeightPolicy>(
     requires region { IsRegion space.now r }
     requires few { length (cells_of space.now r) ≤ MAX_CELLS }
     requires counted { AreFewAt space.now stats.now r }
-    ensures { IfOk result (λ a. a ≡ spread (λ cell. P.weigh policy.now (stat_at stats.now cell)) (cells_of space.now r)) }
+    ensures spread { IfOk result (λ a. a ≡ spread (λ cell. P.weigh policy.now (stat_at stats.now cell)) (cells_of space.now r)) }
+    ensures of_facts { IfOk result (IsSpreadOf (P.weigh policy.now) space.now (stat_at stats.now) r) }
+    ensures cells { IfOk result (λ a. AreRows space.now a.rows) }
 {
-    if space.cell_count(r) == 1 {
+    if is_single(space, r) {
         return spread_evenly(alloc, space, r);
     }
     let (total, rows) = weigh_cells(alloc, space, policy, stats, r)?;
-    if total == 0 {
-        return spread_evenly(alloc, space, r);
-    }
-    Ok(Alloc::of_rows(total, rows))
+    settle(alloc, space, r, total, rows)
+}
+
+/// Whether a region is one cell alone.
+fn is_single(space: &Space, r: Region) -> bool
+    requires { IsRegion space.now r }
+    ensures { result ≡ is_single (cells_of space.now r) }
+{
+    space.cell_count(r) == 1
 }
 
 /// The sum of the weights of a region's cells, and the cells that weigh something with their weights, ascending.
@@ -86,6 +94,25 @@ fn weigh_cells<P: WeightPolicy>(
     Ok((total, rows))
 }
 
+/// The rows of the cells that weigh something over their sum or, where that is 0, even ones.
+pub(crate) fn settle(
+    alloc: Global,
+    space: &Space,
+    r: Region,
+    total: u64,
+    rows: Vec<(u64, u64)>,
+) -> Result<Alloc, Memory>
+    requires region { IsRegion space.now r }
+    requires few { length (cells_of space.now r) ≤ MAX_CELLS }
+    requires weighed { 1 ≤ total → IsAllocation (record { den = total; rows = rows.items }) }
+    ensures { IfOk result (λ a. a ≡ (if total == 0 then spread_evenly (cells_of space.now r) else record { den = total; rows = rows.items })) }
+{
+    if total == 0 {
+        return spread_evenly(alloc, space, r);
+    }
+    Alloc::of_rows(alloc, total, rows)
+}
+
 /// Weight 1 for each of a region's cells.
 fn spread_evenly(alloc: Global, space: &Space, r: Region) -> Result<Alloc, Memory>
     requires region { IsRegion space.now r }
@@ -97,5 +124,5 @@ fn spread_evenly(alloc: Global, space: &Space, r: Region) -> Result<Alloc, Memor
     for cell in space.cells(r) {
         rows.push((cell, 1))?;
     }
-    Ok(Alloc::of_rows(count, rows))
+    Alloc::of_rows(alloc, count, rows)
 }

@@ -5,4 +5,4 @@ use Rattle.alloc_rows.proofs.WithinSum.{sum_inside}
 use Rattle.alloc_rows.proofs.rows.inside.Given as goal
 
 abbrev pub invariant-loop-cell : goal.invariant-loop-cell
-invariant-loop-cell l = l.sum ≡ sum_inside (cells_of l.space l.r) (take l.cell-index l.cell-items)
+invariant-loop-cell l = l.sum ≡ sum_inside (cells_of l.fn.space l.fn.r) (take l.cell-index l.cell-items)
