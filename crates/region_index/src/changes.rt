@@ -1,0 +1,128 @@
+//! Changes of the facts' regions: which codes they name, and what they make of the ids at one of them.
+ghost use Rattle.std.specs.Prelude.{◌≡◌, ◌∷◌, [], ◌++◌, ◌||◌, ◌==◌, ℕ, IfOk, OnOk, filter, if◌then◌else◌, map, not, ◌&&◌};
+ghost use Rattle.std.specs.List.{list_any};
+ghost use Rattle.cube_model.specs.Cells.{is_among};
+ghost use Rattle.region_index.specs.Content.{AreAscending, ids_at};
+
+use cube_base::{Ids, Memory};
+use staged_map::Staged;
+use std::alloc::{AllocError, Global};
+
+/// The numbers, ascending, each once.
+pub fn ascending(mut ids: Vec<u64>) -> Vec<u64>
+    ensures ascending { AreAscending result.items }
+    ensures same { (id : ℕ) → is_among result.items id ≡ is_among ids.items id }
+{
+    ids.sort_unstable();
+    ids.dedup();
+    ids
+}
+
+/// Equal pairs.
+pub fn copied(alloc: Global, pairs: &[(u64, u64)]) -> Result<Vec<(u64, u64)>, AllocError>
+    ensures { IfOk result (λ copy. copy.items ≡ pairs.now) }
+{
+    pairs.iter().copied().collect(alloc)
+}
+
+/// The codes of pairs, one behind the other.
+fn codes_in(
+    alloc: Global,
+    puts: &[(u64, u64)],
+    drops: &[(u64, u64)],
+) -> Result<Vec<u64>, AllocError>
+    ensures { IfOk result (λ codes. codes.items ≡ map (λ pair. pair.0) (puts.now ++ drops.now)) }
+{
+    puts.iter().chain(drops).map(|pair| pair.0).collect(alloc)
+}
+
+/// The codes that changes name, ascending, each once.
+pub fn changed_codes(
+    alloc: Global,
+    puts: &[(u64, u64)],
+    drops: &[(u64, u64)],
+) -> Result<Vec<u64>, Memory>
+    ensures ascending { IfOk result (λ codes. AreAscending codes.items) }
+    ensures named { IfOk result (λ codes. (code : ℕ) → is_among codes.items code ≡ list_any (λ pair. pair.0 == code) (puts.now ++ drops.now)) }
+{
+    Ok(ascending(codes_in(alloc, puts, drops)?))
+}
+
+/// The ids of pairs by their code, in the order of the pairs.
+pub fn by_code(alloc: Global, pairs: &[(u64, u64)]) -> Result<Staged<Ids>, Memory>
+    ensures { IfOk result (λ groups. (code : ℕ) → ids_at groups code ≡ map (λ pair. pair.1) (filter (λ pair. pair.0 == code) pairs.now)) }
+{
+    let mut groups = Staged::new(alloc);
+    for (code, id) in pairs {
+        add(alloc, &mut groups, *code, *id)?;
+    }
+    Ok(groups)
+}
+
+/// Puts an id behind those at a code.
+fn add(alloc: Global, groups: &mut Staged<Ids>, code: u64, id: u64) -> Result<(), Memory>
+    ensures { OnOk result ((c : ℕ) → ids_at groups.new c ≡ ids_at groups.old c ++ (if code == c then id ∷ [] else [])) }
+{
+    let mut ids = groups.remove(code).unwrap_or(Ids::new(alloc));
+    ids.push(id)?;
+    groups.reserve(&[code])?;
+    let _ = groups.set(code, ids);
+    Ok(())
+}
+
+/// The ids at a code.
+pub fn at_code(groups: &Staged<Ids>, code: u64) -> &[u64]
+    ensures { result.now ≡ ids_at groups.now code }
+{
+    match groups.get(code) {
+        Some(ids) => ids.as_slice(),
+        None => &[],
+    }
+}
+
+/// The ids with more behind them.
+fn appended(mut ids: Vec<u64>, more: &[u64]) -> Result<Vec<u64>, Memory>
+    ensures { IfOk result (λ all. all.items ≡ ids.items ++ more.now) }
+{
+    ids.extend_from_slice(more)?;
+    Ok(ids)
+}
+
+/// Equal ids, ascending, each once.
+pub fn ascending_copy(alloc: Global, ids: &[u64]) -> Result<Vec<u64>, Memory>
+    ensures ascending { IfOk result (λ copy. AreAscending copy.items) }
+    ensures same { IfOk result (λ copy. (id : ℕ) → is_among copy.items id ≡ is_among ids.now id) }
+{
+    Ok(ascending(appended(Vec::new(alloc), ids)?))
+}
+
+/// Whether an id is among ascending ones.
+fn is_in(ids: &[u64], id: u64) -> bool
+    requires { AreAscending ids.now }
+    ensures { result ≡ is_among ids.now id }
+{
+    ids.binary_search(&id).is_ok()
+}
+
+/// The ids that are not among ascending ones.
+fn kept(alloc: Global, ids: &[u64], dropped: &[u64]) -> Result<Vec<u64>, Memory>
+    requires { AreAscending dropped.now }
+    ensures { IfOk result (λ kept. kept.items ≡ filter (λ id. not (is_among dropped.now id)) ids.now) }
+{
+    let mut kept = Vec::new(alloc);
+    for id in ids {
+        if !is_in(dropped, *id) {
+            kept.push(*id)?;
+        }
+    }
+    Ok(kept)
+}
+
+/// The ids but for the dropped ones, and with those that are put, ascending, each once.
+pub fn changed(alloc: Global, ids: &[u64], put: &[u64], dropped: &[u64]) -> Result<Vec<u64>, Memory>
+    requires { AreAscending dropped.now }
+    ensures ascending { IfOk result (λ changed. AreAscending changed.items) }
+    ensures members { IfOk result (λ changed. (id : ℕ) → is_among changed.items id ≡ (is_among put.now id || (is_among ids.now id && not (is_among dropped.now id)))) }
+{
+    Ok(ascending(appended(kept(alloc, ids, dropped)?, put)?))
+}

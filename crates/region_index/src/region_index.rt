@@ -1,0 +1,192 @@
+//! The index of the imprecise facts.
+ghost use Rattle.std.specs.Prelude.{◌≡◌, ◌+◌, ◌<◌, ◌≤◌, ◌||◌, ◌&&◌, ℕ, [], IfOk, OnErr, length, map, not};
+ghost use Rattle.cube_model.specs.Cells.{all_cells, is_among};
+ghost use Rattle.region_index.specs.Content.{AreAscending, AreIdsAt, ids_at};
+ghost use Rattle.region_index.specs.Changes.{Applies, IsStagedFor, IsUnchanged, held, ids_after, staging};
+ghost use Rattle.region_index.specs.Over.{codes_over};
+ghost use Rattle.region_index.specs.Walk.{Probes};
+
+use crate::Steps;
+use crate::changes::{ascending, ascending_copy, at_code, by_code, changed, changed_codes, copied};
+use crate::walk::Walk;
+use cube_base::{Ids, Memory, Pairs};
+use region_algebra::Space;
+use staged_map::Staged;
+use std::alloc::Global;
+use std::marker::Model;
+use std::sync::ledger::Ledger;
+
+/// What `RegionIndex::stage` makes ready for `RegionIndex::install`: the changes, and the ids that it sets at the codes
+/// that they name. Contracts see both.
+#[derive(Drop)]
+pub struct RegionStage {
+    puts: Pairs,
+    drops: Pairs,
+    entries: Vec<(u64, Option<Ids>)>,
+}
+
+impl Model for RegionStage {
+    ghost use Rattle.region_index.specs.Changes.{Staging};
+
+    ghost Value = { Staging };
+
+    ghost view = { λ s. record { puts = s.puts; drops = s.drops; entries = s.entries.items } };
+}
+
+/// The ids of the imprecise facts by the code of their region. A code without ids takes no room. Contracts see the
+/// codes with their ids, as the places of the map beneath.
+#[derive(Drop)]
+pub struct RegionIndex {
+    ids: Staged<Ids>,
+    alloc: Global,
+}
+
+impl Model for RegionIndex {
+    ghost use Rattle.region_index.specs.Content.{Content, IsContent};
+
+    ghost Value = { Content };
+
+    ghost view = { λ i. i.ids };
+
+    ghost invariant = { λ i. IsContent i.ids };
+}
+
+impl RegionIndex {
+    /// No id is held. It takes no memory.
+    pub fn new(alloc: Global) -> Self
+        ensures { result ≡ [] }
+    {
+        RegionIndex {
+            ids: Staged::new(alloc),
+            alloc,
+        }
+    }
+
+    /// The ids that are held at the regions over a cell, ascending, each once. A step is a probe of a region or an id
+    /// that is handed out. Where memory is wanting, the steps are no more than the regions.
+    pub fn covering<L: Ledger>(
+        &self,
+        space: &Space,
+        cell: u64,
+        steps: &mut Steps<L>,
+    ) -> Result<Ids, Memory>
+        requires { cell < length (all_cells space.now) }
+        ensures ids { IfOk result (AreIdsAt self.now (codes_over space.now cell)) }
+        ensures steps { IfOk result (λ ids. steps.new ≡ steps.old + length (codes_over space.now cell) + length ids) }
+        ensures err { OnErr result (steps.new ≤ steps.old + length (codes_over space.now cell)) }
+    {
+        let ids = ascending(self.found(space, cell, steps)?);
+        steps.add(ids.len() as u64);
+        Ok(Ids::from(ids))
+    }
+
+    /// The ids at each region over a cell, one region behind the other.
+    fn found<L: Ledger>(
+        &self,
+        space: &Space,
+        cell: u64,
+        steps: &mut Steps<L>,
+    ) -> Result<Vec<u64>, Memory>
+        requires { cell < length (all_cells space.now) }
+        ensures ok { IfOk result (λ found. Probes self.now (codes_over space.now cell) [] found.items steps.old steps.new) }
+        ensures err { OnErr result (steps.new ≤ steps.old + length (codes_over space.now cell)) }
+    {
+        // What a space says of its dimensions.
+        let _ = space.dims();
+        let walk = Walk {
+            ids: &self.ids,
+            space,
+            leaves: space.cell_at(cell),
+        };
+        let mut found = Vec::new(self.alloc);
+        walk.over(0, 0, &mut found, steps)?;
+        Ok(found)
+    }
+
+    /// Makes changes of the ids ready, each a region's code and an id: the drops are taken away first, and then the puts
+    /// are added. A drop that is not there changes nothing, and an id is held once at a code. What is held stays in
+    /// every case.
+    pub fn stage(
+        &mut self,
+        puts: &[(u64, u64)],
+        drops: &[(u64, u64)],
+    ) -> Result<RegionStage, Memory>
+        ensures changes { IfOk result (λ stage. (stage.puts ≡ puts.now) × (stage.drops ≡ drops.now)) }
+        ensures staged { IfOk result (IsStagedFor self.new) }
+        ensures content { IsUnchanged self.old self.new }
+    {
+        let codes = changed_codes(self.alloc, puts, drops)?;
+        let stage = self.staged(&codes, puts, drops)?;
+        self.ids.reserve(&codes)?;
+        Ok(stage)
+    }
+
+    /// The changes, with the ids that they make at the codes.
+    fn staged(
+        &self,
+        codes: &[u64],
+        puts: &[(u64, u64)],
+        drops: &[(u64, u64)],
+    ) -> Result<RegionStage, Memory>
+        ensures { IfOk result (λ stage. stage ≡ staging self.now codes.now puts.now drops.now) }
+    {
+        Ok(RegionStage {
+            puts: Pairs::from(copied(self.alloc, puts)?),
+            drops: Pairs::from(copied(self.alloc, drops)?),
+            entries: self.entries(codes, puts, drops)?,
+        })
+    }
+
+    /// The ids that changes make at the codes.
+    fn entries(
+        &self,
+        codes: &[u64],
+        puts: &[(u64, u64)],
+        drops: &[(u64, u64)],
+    ) -> Result<Vec<(u64, Option<Ids>)>, Memory>
+        ensures { IfOk result (λ entries. entries.items ≡ map (λ code. (code, held (ids_after puts.now drops.now code (ids_at self.now code)))) codes.now) }
+    {
+        let put = by_code(self.alloc, puts)?;
+        let dropped = by_code(self.alloc, drops)?;
+        let mut entries = Vec::new(self.alloc);
+        for code in codes {
+            let ids = self.changed_at(*code, at_code(&put, *code), at_code(&dropped, *code))?;
+            entries.push((*code, held(ids)))?;
+        }
+        Ok(entries)
+    }
+
+    /// The ids at a code but for those that are dropped, and with those that are put, ascending, each once.
+    fn changed_at(&self, code: u64, put: &[u64], dropped: &[u64]) -> Result<Vec<u64>, Memory>
+        ensures ascending { IfOk result (λ ids. AreAscending ids.items) }
+        ensures members { IfOk result (λ ids. (id : ℕ) → is_among ids.items id ≡ (is_among put.now id || (is_among (ids_at self.now code) id && not (is_among dropped.now id)))) }
+        ensures before { AreAscending (ids_at self.now code) }
+    {
+        let dropped = ascending_copy(self.alloc, dropped)?;
+        changed(self.alloc, at_code(&self.ids, code), put, &dropped)
+    }
+
+    /// Carries out the changes. What is held is what they were staged for. It takes no memory.
+    pub fn install(&mut self, stage: RegionStage)
+        requires { IsStagedFor self.old stage }
+        ensures { Applies self.old self.new stage.puts stage.drops }
+    {
+        let RegionStage {
+            puts: _puts,
+            drops: _drops,
+            entries,
+        } = stage;
+        self.ids.put_all(entries);
+    }
+}
+
+/// The ids, where there are some: a code without ids takes no room.
+fn held(ids: Vec<u64>) -> Option<Ids>
+    ensures { result ≡ held ids.items }
+{
+    if ids.is_empty() {
+        None
+    } else {
+        Some(Ids::from(ids))
+    }
+}
