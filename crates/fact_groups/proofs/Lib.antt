@@ -1,0 +1,11 @@
+pub mod Answering
+pub mod Ascending
+pub mod Differing
+pub mod Edits
+pub mod Elsewhere
+pub mod Frame
+pub mod Groups
+pub mod Partition
+pub mod Refreshing
+pub mod Sharing
+pub mod Statistics

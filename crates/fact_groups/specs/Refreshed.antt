@@ -1,0 +1,28 @@
+-- Which facts an edit refreshes, told by the cells that weigh otherwise.
+use Rattle.std.specs.Prelude.{ℕ, Bool, List, true, not, ◌&&◌, ◌==◌, if◌then◌else◌, find}
+use Rattle.std.specs.Option.{option_map_or}
+use Rattle.cube_model.specs.declared.edit.Edit.{Edit}
+use Rattle.cube_model.specs.declared.edit.Fact.{Fact}
+use Rattle.cube_model.specs.Allocation.{Policy}
+use Rattle.cube_model.specs.Difference.{is_same}
+use Rattle.cube_model.specs.Facts.{after}
+use Rattle.cube_model.specs.Tree.{Dimension}
+use Rattle.fact_groups.specs.Changes.{covers_any, reweighed_cells}
+use Rattle.fact_groups.specs.Edits.{edited_id}
+use Rattle.fact_groups.specs.Groups.{spread_at}
+
+-- a region is spread otherwise after an edit than another was before it
+abbrev pub is_spread_otherwise : Policy → List Dimension → Edit → List Fact → List ℕ → List ℕ → Bool
+is_spread_otherwise policy dims edit facts before now = not (is_same (spread_at policy dims facts before) (spread_at policy dims (after edit facts) now))
+
+-- the fact that an edit gives is new, or lies otherwise than the one of its id did
+abbrev pub is_new_or_moved : Policy → List Dimension → Edit → List Fact → Fact → Bool
+is_new_or_moved policy dims edit facts fact = option_map_or (λ f. is_spread_otherwise policy dims edit facts f.region fact.region) (find (λ f. f.id == fact.id) facts) true
+
+-- another fact is imprecise, its region holds a cell that weighs otherwise, and it is spread otherwise
+abbrev pub is_spread_anew : Policy → List Dimension → Edit → List Fact → Fact → Bool
+is_spread_anew policy dims edit facts fact = covers_any dims (reweighed_cells policy dims edit facts) fact && is_spread_otherwise policy dims edit facts fact.region fact.region
+
+-- an edit refreshes a fact that is there after it
+abbrev pub is_refreshed : Policy → List Dimension → Edit → List Fact → Fact → Bool
+is_refreshed policy dims edit facts fact = if edited_id edit == fact.id then is_new_or_moved policy dims edit facts fact else is_spread_anew policy dims edit facts fact
