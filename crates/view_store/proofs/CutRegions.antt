@@ -1,0 +1,200 @@
+-- The regions of a product of cuts: each cell is in one of them.
+use Rattle.std.proofs.Common.{◌≡◌, ℕ, zero, suc, ◌+◌, ◌*◌, ◌/◌, ◌%◌, ◌<◌, ◌≤◌, ◌≢◌, Bool, true, false, List, [], ◌∷◌, length, get_or, set, take, refl, sym, ap, subst, ◌∙◌, inl, inr, true≢false, eq-eqb, ne_eqb, arith}
+use Rattle.std.specs.Prelude.{All, IfSome, Option, Some, None, nat_lt, slice_get}
+use Rattle.std.specs.Option.{option_and_then, option_map, option_map_or}
+use Rattle.std.proofs.lemmas.Bool.{cases_eq}
+use Rattle.std.proofs.lemmas.Bool.Decides.{nat_tests}
+use Rattle.std.proofs.lemmas.List.{get_or-set_other, get_or-set_same, get_or-take, length-take-le}
+use Rattle.std.proofs.lemmas.List.Elements.{All-get_or, All-head, All-tail}
+use Rattle.std.proofs.lemmas.Nat.{div-add-mod', mod_below}
+use Rattle.std.proofs.lemmas.Option.{get_or_from_slice_get, same_Some, slice_get-get_or, slice_get_within}
+use Rattle.cube_model.specs.Cells.{all_cells, cells_of, is_among, is_inside}
+use Rattle.cube_model.specs.Cut.{cut}
+use Rattle.cube_model.specs.Tree.{Dimension, IsTree, is_leaf, is_under, numbers, place_of}
+use Rattle.dim_tree.proofs.Climbing.{both, together}
+use Rattle.dim_tree.proofs.Renumbering.{are_numbers, length-numbers, number_at, number_at-read, place_of-number_at}
+use Rattle.region_algebra.specs.Space.{all_regions, code_of, is_region, region_total}
+use Rattle.region_algebra.proofs.Codes.{length-all_regions, slice_get-blocks}
+use Rattle.region_algebra.proofs.Numbers.{found-passes, number-at}
+use Rattle.view_store.proofs.LeafTuples.{are_leaves, cells-are, is_among-inside, is_node_leaf}
+use Rattle.region_algebra.proofs.Spaces.{uncode-region}
+use Rattle.region_algebra.proofs.Turns.{is_region-length, region_total-some}
+use Rattle.view_store.specs.Cuts.{IsCodeOver, IsCutNode}
+use Rattle.view_store.specs.Views.{is_in_cuts, region_at}
+use Rattle.view_store.proofs.CutNodes.{in_cut-from, one_in_cut}
+
+-- one node in each dimension, of the cut there, and the leaf is under it
+pub record AreLifted (dims : List Dimension) (depths leaves nodes : List ℕ) (n : ℕ) : Type 0 where
+  pub each : (d : ℕ) → d < n → IfSome (slice_get dims d) (λ dim. IsCutNode dim (get_or depths d 0) (get_or leaves d 0) (get_or nodes d 0))
+
+-- The region of such nodes: it is one of the product of the cuts, and the cell of the leaves is in it.
+pub record IsLifted (dims : List Dimension) (depths leaves nodes : List ℕ) : Type 0 where
+  pub region : is_region dims nodes ≡ true
+  pub cuts : is_in_cuts dims depths nodes ≡ true
+  pub inside : is_inside dims nodes leaves ≡ true
+
+pub lifted : (dims : List Dimension) (depths leaves nodes : List ℕ) → length depths ≡ length dims → length leaves ≡ length dims → length nodes ≡ length dims
+    → AreLifted dims depths leaves nodes (length dims) → IsLifted dims depths leaves nodes
+unfolding is_inside
+lifted [] [] [] [] a b c are = record { region = refl; cuts = refl; inside = refl }
+lifted [] (depth ∷ depths) leaves nodes a b c are = absurd (omega arith)
+lifted [] [] (leaf ∷ leaves) nodes a b c are = absurd (omega arith)
+lifted [] [] [] (node ∷ nodes) a b c are = absurd (omega arith)
+lifted (dim ∷ dims) [] leaves nodes a b c are = absurd (omega arith)
+lifted (dim ∷ dims) (depth ∷ depths) [] nodes a b c are = absurd (omega arith)
+lifted (dim ∷ dims) (depth ∷ depths) (leaf ∷ leaves) [] a b c are = absurd (omega arith)
+lifted (dim ∷ dims) (depth ∷ depths) (leaf ∷ leaves) (node ∷ nodes) a b c are =
+    let here : IsCutNode dim depth leaf node = are.each 0 (omega arith) in
+    let rest = lifted dims depths leaves nodes (omega (arith, a)) (omega (arith, b)) (omega (arith, c)) (record { each = λ d lt. are.each (suc d) (omega arith) }) in
+    record {
+      region = together (grind (arith, nat_tests, here.within)) rest.region;
+      cuts = together here.in_cut rest.cuts;
+      inside = together here.over rest.inside;
+    }
+
+-- one dimension more
+pub lifted-next : (dims : List Dimension) (depths leaves nodes : List ℕ) (d : ℕ) (dim : Dimension) (depth leaf node : ℕ) → AreLifted dims depths leaves nodes d
+    → d < length nodes → slice_get dims d ≡ Some dim → depth ≡ get_or depths d 0 → slice_get leaves d ≡ Some leaf → IsCutNode dim depth leaf node
+    → AreLifted dims depths leaves (set nodes d node) (d + 1)
+lifted-next dims depths leaves nodes d dim depth leaf node are room is deep at here = record {
+  each = λ e lt. elim (cases_eq e d) [
+    | inl same ↦
+        let read : get_or (set nodes d node) d 0 ≡ node = get_or-set_same nodes d node 0 room in
+        let of_leaf : get_or leaves d 0 ≡ leaf = get_or_from_slice_get leaves d leaf 0 at in
+        rw (same, is, ← deep, of_leaf, read) here
+    | inr other ↦
+        let read : get_or (set nodes d node) e 0 ≡ get_or nodes e 0 = get_or-set_other nodes d e node 0 other in
+        rw read (are.each e (omega (arith, other)))
+  ];
+}
+
+-- the first nodes make the region
+pub lifted_first : (dims : List Dimension) (depths leaves nodes : List ℕ) (n d : ℕ) → n ≡ length dims → n ≤ d → n ≤ length nodes → length depths ≡ length dims → is_region dims leaves ≡ true
+    → AreLifted dims depths leaves nodes d → IsLifted dims depths leaves (take n nodes)
+lifted_first dims depths leaves nodes n d count most room deep names are =
+    lifted dims depths leaves (take n nodes) deep (is_region-length dims leaves names) (length-take-le n nodes room ∙ count) (record {
+      each = λ i lt.
+          let read : get_or (take n nodes) i 0 ≡ get_or nodes i 0 = get_or-take n nodes i 0 (omega (arith, count)) in
+          rw read (are.each i (omega (arith, count)));
+    })
+
+-- each dimension is a tree
+pub tree-at : (dims : List Dimension) (d : ℕ) (dim : Dimension) → All IsTree dims → slice_get dims d ≡ Some dim → IsTree dim
+tree-at dims d dim trees is = subst IsTree (get_or_from_slice_get dims d dim dim is) (All-get_or IsTree dims d dim (slice_get_within dims d dim is) trees)
+
+-- a leaf of a cell
+pub leaf-at : (dims : List Dimension) (cell : List ℕ) (d : ℕ) (dim : Dimension) (leaf : ℕ) → are_leaves dims cell ≡ true → slice_get dims d ≡ Some dim → slice_get cell d ≡ Some leaf → (is_leaf dim leaf ≡ true) × (leaf < length dim)
+leaf-at [] cell d dim leaf are is at = absurd (grind arith)
+leaf-at (e ∷ dims) [] d dim leaf are is at = absurd (grind arith)
+leaf-at (e ∷ dims) (z ∷ cell) zero dim leaf are is at =
+    let same : e ≡ dim = grind arith in
+    let it : z ≡ leaf = grind arith in
+    let first = both (is_leaf e z) (nat_lt z (length e)) (both (is_node_leaf e z) (are_leaves dims cell) are).0 in
+    (rw (← same, ← it) first.0, rw (← same, ← it) (grind (arith, nat_tests, first.1)))
+leaf-at (e ∷ dims) (z ∷ cell) (suc d) dim leaf are is at = leaf-at dims cell d dim leaf (both (is_node_leaf e z) (are_leaves dims cell) are).1 is at
+
+pub leaf-of_cell : (dims : List Dimension) (cell : ℕ) (leaves : List ℕ) (d : ℕ) (dim : Dimension) (leaf : ℕ) → All IsTree dims → slice_get (all_cells dims) cell ≡ Some leaves → slice_get dims d ≡ Some dim → slice_get leaves d ≡ Some leaf
+    → (is_leaf dim leaf ≡ true) × (leaf < length dim)
+leaf-of_cell dims cell leaves d dim leaf trees found is at = leaf-at dims leaves d dim leaf (found-passes (are_leaves dims) (all_cells dims) cell leaves (cells-are dims trees) found) is at
+
+-- two regions of the product of the cuts that a cell is in are one
+one_lifted : (dims : List Dimension) (depths leaves a b : List ℕ) → All IsTree dims → are_leaves dims leaves ≡ true → is_in_cuts dims depths a ≡ true → is_in_cuts dims depths b ≡ true → is_inside dims a leaves ≡ true → is_inside dims b leaves ≡ true → a ≡ b
+unfolding is_inside
+one_lifted [] depths leaves [] [] trees are first second above_a above_b = refl
+one_lifted [] depths leaves (x ∷ a) b trees are first second above_a above_b = absurd (true≢false (sym above_a))
+one_lifted [] depths leaves [] (y ∷ b) trees are first second above_a above_b = absurd (true≢false (sym above_b))
+one_lifted (dim ∷ dims) depths leaves [] b trees are first second above_a above_b = absurd (true≢false (sym above_a))
+one_lifted (dim ∷ dims) depths leaves (x ∷ a) [] trees are first second above_a above_b = absurd (true≢false (sym above_b))
+one_lifted (dim ∷ dims) depths [] (x ∷ a) (y ∷ b) trees are first second above_a above_b = absurd (true≢false (sym above_a))
+one_lifted (dim ∷ dims) [] (z ∷ leaves) (x ∷ a) (y ∷ b) trees are first second above_a above_b = absurd (true≢false (sym first))
+one_lifted (dim ∷ dims) (depth ∷ depths) (z ∷ leaves) (x ∷ a) (y ∷ b) trees are first second above_a above_b =
+    let tree = All-head IsTree dim dims trees in
+    let leaf = both (is_node_leaf dim z) (are_leaves dims leaves) are in
+    let within = (both (is_leaf dim z) (nat_lt z (length dim)) leaf.0).1 in
+    let in_a = both (is_among (cut dim depth) x) (is_in_cuts dims depths a) first in
+    let in_b = both (is_among (cut dim depth) y) (is_in_cuts dims depths b) second in
+    let under_a = both (is_under dim z x) (is_inside dims a leaves) above_a in
+    let under_b = both (is_under dim z y) (is_inside dims b leaves) above_b in
+    let same = one_in_cut dim tree depth x y z (grind (arith, nat_tests, within)) (in_cut-from dim tree depth x in_a.0) (in_cut-from dim tree depth y in_b.0) under_a.0 under_b.0 in
+    rw (same, one_lifted dims depths leaves a b (All-tail IsTree dim dims trees) leaf.1 in_a.1 in_b.1 under_a.1 under_b.1) refl
+
+-- a number that stands at a place is that of the node there
+place_of-at : (dim : Dimension) (i x : ℕ) → IsTree dim → slice_get (numbers dim) i ≡ Some x → place_of dim x ≡ Some i
+place_of-at dim i x tree at =
+    let within : i < length dim = omega (arith, slice_get_within (numbers dim) i x at, length-numbers dim) in
+    let read : slice_get (numbers dim) i ≡ Some (number_at dim i) = number-at dim i (number_at dim i) (number_at-read dim i within) in
+    let same : x ≡ number_at dim i = same_Some x (number_at dim i) (sym at ∙ read) in
+    ap (place_of dim) same ∙ place_of-number_at dim (are_numbers dim tree) i within
+
+-- the region of a code has the code
+pub code_of-region : (dims : List Dimension) (code : ℕ) (nodes : List ℕ) → All IsTree dims → slice_get (all_regions dims) code ≡ Some nodes → code_of dims nodes ≡ code
+unfolding all_regions
+code_of-region [] zero nodes trees is = refl
+code_of-region [] (suc code) nodes trees is = absurd (grind arith)
+code_of-region (dim ∷ dims) code nodes trees is =
+    let n = region_total dims in
+    let rest_trees = All-tail IsTree dim dims trees in
+    let some : 0 < n = region_total-some dims rest_trees in
+    let room : length (all_regions dims) ≡ n = length-all_regions dims in
+    let split : code ≡ (code / n) * length (all_regions dims) + code % n = rw room (sym (div-add-mod' code n)) in
+    let below : code % n < length (all_regions dims) = rw room (mod_below code n some) in
+    let found = sym (slice_get-blocks (numbers dim) (all_regions dims) (code / n) (code % n) code split below) ∙ is in
+    go (slice_get (numbers dim) (code / n)) refl (slice_get (all_regions dims) (code % n)) (λ t behind. code_of-region dims (code % n) t rest_trees behind) refl found
+  where
+    go : (x : Option ℕ) → slice_get (numbers dim) (code / region_total dims) ≡ x → (t : Option (List ℕ)) → ((r : List ℕ) → slice_get (all_regions dims) (code % region_total dims) ≡ Some r → code_of dims r ≡ code % region_total dims)
+        → slice_get (all_regions dims) (code % region_total dims) ≡ t
+        → option_and_then (λ x. option_map (λ t. x ∷ t) t) x ≡ Some nodes → code_of (dim ∷ dims) nodes ≡ code
+    go None at t rest behind found = absurd (grind arith)
+    go (Some x) at None rest behind found = absurd (grind arith)
+    go (Some x) at (Some t) rest behind found =
+        let whole : x ∷ t ≡ nodes = grind arith in
+        let tree = All-head IsTree dim dims trees in
+        let numbered : place_of dim x ≡ Some (code / region_total dims) = place_of-at dim (code / region_total dims) x tree at in
+        rw (← whole, numbered, rest t behind) (div-add-mod' code (region_total dims))
+
+-- what is read at a code of a region
+pub region_at-is : (dims : List Dimension) (code : ℕ) (nodes : List ℕ) → slice_get (all_regions dims) code ≡ Some nodes → region_at dims code ≡ nodes
+region_at-is dims code nodes is = get_or_from_slice_get (all_regions dims) code nodes [] is
+
+-- below the number of regions there is one
+pub record IsRegionAt (dims : List Dimension) (code : ℕ) : Type 0 where
+  pub found : slice_get (all_regions dims) code ≡ Some (region_at dims code)
+  pub region : is_region dims (region_at dims code) ≡ true
+  pub coded : code_of dims (region_at dims code) ≡ code
+
+pub region_at-below : (dims : List Dimension) (code : ℕ) → All IsTree dims → code < region_total dims → IsRegionAt dims code
+region_at-below dims code trees below =
+    let found = slice_get-get_or (all_regions dims) code [] (omega (arith, length-all_regions dims)) in
+    let named = uncode-region dims code (slice_get (all_regions dims) code) trees refl in
+    record {
+      found = found;
+      region = rw found at named;
+      coded = code_of-region dims code (region_at dims code) trees found;
+    }
+
+-- The code of the region of such nodes is that of the one region over the cell.
+pub over_cell : (dims : List Dimension) (depths leaves nodes : List ℕ) (cell code : ℕ) → All IsTree dims → slice_get (all_cells dims) cell ≡ Some leaves → slice_get (all_regions dims) code ≡ Some nodes → code < region_total dims
+    → IsLifted dims depths leaves nodes → IsCodeOver dims depths cell code
+over_cell dims depths leaves nodes cell code trees at is_at below lifts =
+    let its = region_at-is dims code nodes is_at in
+    let are = found-passes (are_leaves dims) (all_cells dims) cell leaves (cells-are dims trees) at in
+    let inside : (region : List ℕ) → is_among (cells_of dims region) cell ≡ is_inside dims region leaves =
+    λ region. is_among-inside dims region cell ∙ ap (λ o. option_map_or (is_inside dims region) o false) at in
+    record {
+      in_view = together (grind (arith, nat_tests, below)) (ap (is_in_cuts dims depths) its ∙ lifts.cuts);
+      only = λ other in_view.
+          let parts = both (nat_lt other (region_total dims)) (is_in_cuts dims depths (region_at dims other)) in_view in
+          let there = region_at-below dims other trees (grind (arith, nat_tests, parts.0)) in
+          inside (region_at dims other) ∙ elim (cases_eq other code) [
+            | inl same ↦ ap (λ k. is_inside dims (region_at dims k) leaves) same ∙ ap (λ r. is_inside dims r leaves) its ∙ lifts.inside ∙ sym (eq-eqb other code same)
+            | inr differs ↦
+                by (is_inside dims (region_at dims other) leaves) other refl differs parts.1 there ∙ sym (ne_eqb other code differs)
+          ];
+    }
+  where
+    by : (b : Bool) (other : ℕ) → is_inside dims (region_at dims other) leaves ≡ b → other ≢ code → is_in_cuts dims depths (region_at dims other) ≡ true → IsRegionAt dims other → b ≡ false
+    by false other is differs cuts there = refl
+    by true other is differs cuts there =
+        let are = found-passes (are_leaves dims) (all_cells dims) cell leaves (cells-are dims trees) at in
+        let same : region_at dims other ≡ nodes = one_lifted dims depths leaves (region_at dims other) nodes trees are cuts lifts.cuts is lifts.inside in
+        absurd (differs (sym there.coded ∙ ap (code_of dims) same ∙ code_of-region dims code nodes trees is_at))

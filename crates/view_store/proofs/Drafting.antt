@@ -1,0 +1,192 @@
+-- Drafts of entries: copies of terms, and the shares of rows that are added to them.
+use Rattle.std.proofs.Common.{◌≡◌, ℕ, zero, suc, ◌+◌, ◌-◌, ◌<◌, ◌≤◌, Bool, true, false, List, [], ◌∷◌, ◌++◌, filter, length, get_or, refl, ap, sym, ◌∙◌, inl, inr, arith, ℤ, pos, nat_abs, take, drop, Option, Some, None, is_some, unwrap_or, add-one}
+use Rattle.std.specs.Prelude.{if◌then◌else◌, ◌==◌, ◌&&◌, nat_le}
+use Rattle.std.specs.List.{list_all, sum_by}
+use Rattle.std.proofs.lemmas.Bool.{cases_eq}
+use Rattle.std.proofs.lemmas.Bool.Decides.{nat_tests}
+use Rattle.std.proofs.lemmas.Int.{ints}
+use Rattle.std.proofs.lemmas.List.{take_more, take-append-drop}
+use Rattle.std.proofs.lemmas.List.Elements.{filter-append}
+use Rattle.std.proofs.lemmas.List.Sums.{sum_by-append}
+use Rattle.cube_model.specs.declared.term.Term.{Term}
+use Rattle.cube_model.specs.Answer.{count_of, merge, numerator_of}
+use Rattle.cube_model.specs.Cells.{cells_of, is_among}
+use Rattle.cube_model.specs.Limits.{WIDE}
+use Rattle.cube_model.specs.Tree.{Dimension}
+use Rattle.group_sum.specs.Merge.{FitsMerge}
+use Rattle.group_sum.specs.Terms.{AddsShare, AreTerms, Fits, TermList, are_terms_from}
+use Rattle.group_sum.proofs.Ascending.{first_is}
+use Rattle.group_sum.proofs.MergeLaws.{merge_commutes, merge_nothing}
+use Rattle.staged_map.specs.Staged.{Places, value_at}
+use Rattle.view_store.specs.Changes.{IsWithin}
+use Rattle.view_store.specs.Cuts.{IsCodeOver}
+use Rattle.view_store.specs.Drafts.{AreOver, KeepsToView, draft_at}
+use Rattle.view_store.specs.Views.{held_at, is_in_view, no_terms, region_at}
+use Rattle.view_store.proofs.Merges.{AreRegular}
+use Rattle.view_store.proofs.Shares.{AddsShare-more, AddsShare-none, Fits-part}
+
+-- what is read of items that pass passes, as the default does
+get_or-passes : {X : Type 0} (p : X → Bool) (d : X) (xs : List X) (k : ℕ) → list_all p xs ≡ true → p d ≡ true → p (get_or xs k d) ≡ true
+get_or-passes p d [] k each default = default
+get_or-passes p d (x ∷ xs) zero each default = grind (arith, each)
+get_or-passes p d (x ∷ xs) (suc k) each default = get_or-passes p d xs k (grind (arith, each)) default
+
+-- no numerator of terms passes the limit
+record IsWithinAt (terms : List Term) (d : ℕ) : Type 0 where
+  pub count : count_of terms d ≤ WIDE
+  pub sums : (k : ℕ) → nat_abs (numerator_of terms d (k + 1)) ≤ WIDE
+  pub none : (k : ℕ) → count_of terms d ≡ 0 → numerator_of terms d (k + 1) ≡ pos 0
+
+terms_within-at : (columns least : ℕ) (terms : List Term) (d : ℕ) → are_terms_from columns least terms ≡ true → IsWithinAt terms d
+terms_within-at columns least [] d are = record { count = omega arith; sums = λ k. omega arith; none = λ k zero. refl }
+terms_within-at columns least (term ∷ terms) d are =
+    let first = first_is columns least term terms are in
+    let rest = terms_within-at columns (term.den + 1) terms d first.others in
+    elim (cases_eq term.den d) [
+      | inl same ↦
+          let test : (term.den == d) ≡ true = grind (arith, nat_tests) in
+          let whole : (nat_le 1 term.count && nat_le term.count WIDE && length term.sums + 1 == columns && list_all (λ sum. nat_le (nat_abs sum) WIDE) term.sums) ≡ true = first.whole in
+          record {
+            count = rw test (grind (arith, nat_tests, whole));
+            sums = λ k.
+                let each : list_all (λ sum. nat_le (nat_abs sum) WIDE) term.sums ≡ true = grind (arith, whole) in
+                let here : nat_le (nat_abs (get_or term.sums k (pos 0))) WIDE ≡ true = get_or-passes (λ sum. nat_le (nat_abs sum) WIDE) (pos 0) term.sums k each refl in
+                rw (test, add-one) (grind (arith, nat_tests, here));
+            none = λ k zero. absurd (grind (arith, nat_tests, rw test at zero, whole));
+          }
+      | inr other ↦
+          let test : (term.den == d) ≡ false = grind (arith, nat_tests) in
+          record { count = rw test rest.count; sums = λ k. rw test (rest.sums k); none = λ k zero. rw test (rest.none k (rw test at zero)) }
+    ]
+
+pub terms_within : (list : TermList) → AreTerms list → IsWithin list.columns list.terms
+terms_within list are = record {
+  counts = λ d. (terms_within-at list.columns 1 list.terms d are.terms).count;
+  sums = λ d k lt. (terms_within-at list.columns 1 list.terms d are.terms).sums k;
+}
+
+pub AreRegular-terms : (columns : ℕ) (list : TermList) → AreTerms list → AreRegular columns list.terms
+AreRegular-terms columns list are = record { zeros = λ d k lt zero. (terms_within-at list.columns 1 list.terms d are.terms).none k zero }
+
+-- terms merged with none fit, and are what they were
+pub FitsMerge-none : (list : TermList) → AreTerms list → FitsMerge (no_terms list.columns) list
+FitsMerge-none list are =
+    let within = terms_within list are in
+    record {
+      counts = λ d. omega (arith, within.counts d);
+      sums = λ d k lt. omega (arith, ints, within.sums d k lt);
+    }
+
+pub copied : (list : TermList) → AreTerms list → record { columns = list.columns; terms = merge (list.columns - 1) [] list.terms } ≡ list
+copied list are =
+    let same : merge (list.columns - 1) [] list.terms ≡ list.terms = merge_commutes (list.columns - 1) [] list.terms ∙ merge_nothing list.columns are.some list.terms are.terms in
+    ap (λ terms. record { columns = list.columns; terms = terms }) same
+
+-- the weight of rows inside cells
+abbrev pub weight_of_rows : List ℕ → List (ℕ × ℕ) → ℕ
+weight_of_rows cells rows = sum_by (λ row. row.1) (filter (λ row. is_among cells row.0) rows)
+
+weight-append : (cells : List ℕ) (rows more : List (ℕ × ℕ)) → weight_of_rows cells (rows ++ more) ≡ weight_of_rows cells rows + weight_of_rows cells more
+weight-append cells rows more =
+    ap (sum_by (λ (row : ℕ × ℕ). row.1)) (filter-append (λ (row : ℕ × ℕ). is_among cells row.0) rows more)
+    ∙ sum_by-append (λ (row : ℕ × ℕ). row.1) (filter (λ row. is_among cells row.0) rows) (filter (λ row. is_among cells row.0) more)
+
+weight-one : (cells : List ℕ) (row : ℕ × ℕ) → weight_of_rows cells (row ∷ []) ≡ (if is_among cells row.0 then row.1 else 0)
+weight-one cells row = by (is_among cells row.0)
+  where
+    by : (b : Bool) → sum_by (λ (r : ℕ × ℕ). r.1) (if b then row ∷ [] else []) ≡ (if b then row.1 else 0)
+    by true = omega arith
+    by false = refl
+
+weight-next : (cells : List ℕ) (rows : List (ℕ × ℕ)) (j : ℕ) → j < length rows
+    → weight_of_rows cells (take (j + 1) rows) ≡ weight_of_rows cells (take j rows) + (if is_among cells (get_or rows j (0, 0)).0 then (get_or rows j (0, 0)).1 else 0)
+weight-next cells rows j within =
+    ap (weight_of_rows cells) (take_more rows j (0, 0) within) ∙ weight-append cells (take j rows) (get_or rows j (0, 0) ∷ [])
+    ∙ ap (λ n. weight_of_rows cells (take j rows) + n) (weight-one cells (get_or rows j (0, 0)))
+
+weight-most : (cells : List ℕ) (rows : List (ℕ × ℕ)) (j : ℕ) → weight_of_rows cells (take j rows) ≤ weight_of_rows cells rows
+weight-most cells rows j = omega (arith, ap (weight_of_rows cells) (take-append-drop j rows), weight-append cells (take j rows) (drop j rows))
+
+-- The shares of the first rows of a change were added to the drafts.
+pub record HasRows (dims : List Dimension) (depths : List ℕ) (columns : ℕ) (entries : Places TermList) (den : ℕ) (values : List ℤ) (rows : List (ℕ × ℕ)) (old now : Places TermList) : Type 0 where
+  pub shares : (code : ℕ) → is_in_view dims depths code ≡ true
+      → AddsShare (draft_at columns entries old code) (draft_at columns entries now code) den (weight_of_rows (cells_of dims (region_at dims code)) rows) values
+  pub keys : KeepsToView dims depths old now
+  pub over : AreOver columns now
+
+pub HasRows-none : (dims : List Dimension) (depths : List ℕ) (columns : ℕ) (entries : Places TermList) (den : ℕ) (values : List ℤ) (now : Places TermList) → AreOver columns now → HasRows dims depths columns entries den values [] now now
+HasRows-none dims depths columns entries den values now over = record {
+  shares = λ code in_view. AddsShare-none den values (draft_at columns entries now code);
+  keys = λ code there. grind (arith, there);
+  over = over;
+}
+
+-- what begins a draft and adds a share to it
+pub record Begins (columns : ℕ) (entries : Places TermList) (code : ℕ) (old new : Places TermList) : Type 0 where
+  pub same : (k : ℕ) → draft_at columns entries new k ≡ draft_at columns entries old k
+  pub others : (k : ℕ) → (code == k) ≡ false → value_at new k ≡ value_at old k
+  pub there : is_some (value_at new code) ≡ true
+
+pub record Shares (columns : ℕ) (code den weight : ℕ) (values : List ℤ) (old new : Places TermList) : Type 0 where
+  pub share : AddsShare (held_at columns old code) (held_at columns new code) den weight values
+  pub others : (k : ℕ) → (code == k) ≡ false → value_at new k ≡ value_at old k
+  pub stays : is_some (value_at new code) ≡ true
+  pub over : AreOver columns new
+
+-- where something is held, the draft is that
+pub draft-held : (columns : ℕ) (entries drafts : Places TermList) (code : ℕ) → is_some (value_at drafts code) ≡ true → draft_at columns entries drafts code ≡ held_at columns drafts code
+draft-held columns entries drafts code there = by (value_at drafts code) there
+  where
+    by : (o : Option TermList) → is_some o ≡ true → unwrap_or o (held_at columns entries code) ≡ unwrap_or o (no_terms columns)
+    by None some = absurd (grind (arith, some))
+    by (Some list) some = refl
+
+module _ (dims : List Dimension) (depths : List ℕ) (columns : ℕ) (entries : Places TermList) (den : ℕ) (values : List ℤ) (rows : List (ℕ × ℕ)) (old now mid : Places TermList)
+    (j code : ℕ) (within : j < length rows) (before : HasRows dims depths columns entries den values (take j rows) old now) (over : IsCodeOver dims depths (get_or rows j (0, 0)).0 code) (begins : Begins columns entries code now mid) where
+  -- the share of the next row fits where that of the change does
+  pub row-fits : length values + 1 ≡ columns → IsWithin columns (draft_at columns entries old code).terms
+      → Fits (draft_at columns entries old code).terms den (weight_of_rows (cells_of dims (region_at dims code)) rows) values
+      → Fits (held_at columns mid code).terms den (get_or rows j (0, 0)).1 values
+  row-fits width held fits =
+      let cells = cells_of dims (region_at dims code) in
+      let same : draft_at columns entries now code ≡ held_at columns mid code = sym (begins.same code) ∙ draft-held columns entries mid code begins.there in
+      let inside : is_among cells (get_or rows j (0, 0)).0 ≡ true = over.only code over.in_view ∙ grind (arith, nat_tests) in
+      let next = weight-next cells rows j within in
+      let le : weight_of_rows cells (take j rows) + (get_or rows j (0, 0)).1 ≤ weight_of_rows cells rows = omega (arith, rw inside at next, weight-most cells rows (j + 1)) in
+      rw (← same) (Fits-part columns den values (draft_at columns entries old code) (draft_at columns entries now code) (weight_of_rows cells (take j rows)) (get_or rows j (0, 0)).1 (weight_of_rows cells rows) width le held fits (before.shares code over.in_view))
+
+  -- and once it is added, the shares of one row more are
+  pub HasRows-next : (new : Places TermList) → Shares columns code den (get_or rows j (0, 0)).1 values mid new → HasRows dims depths columns entries den values (take (j + 1) rows) old new
+  HasRows-next new adds = record {
+    shares = λ k in_view.
+        let cells = cells_of dims (region_at dims k) in
+        let among : is_among cells (get_or rows j (0, 0)).0 ≡ (k == code) = over.only k in_view in
+        let next = weight-next cells rows j within in
+        elim (cases_eq k code) [
+          | inl same ↦
+              let test : (k == code) ≡ true = grind (arith, nat_tests) in
+              let inside : is_among cells (get_or rows j (0, 0)).0 ≡ true = among ∙ test in
+              let from : draft_at columns entries now k ≡ held_at columns mid k = sym (begins.same k) ∙ draft-held columns entries mid k (ap (λ c. is_some (value_at mid c)) same ∙ begins.there) in
+              let to : draft_at columns entries new k ≡ held_at columns new k = draft-held columns entries new k (ap (λ c. is_some (value_at new c)) same ∙ adds.stays) in
+              let share : AddsShare (held_at columns mid k) (held_at columns new k) den (get_or rows j (0, 0)).1 values = rw same adds.share in
+              let both = AddsShare-more columns den values (draft_at columns entries old k) (draft_at columns entries now k) (draft_at columns entries new k) (weight_of_rows cells (take j rows)) (get_or rows j (0, 0)).1 (before.shares k in_view) (rw (from, to) share) in
+              let sum : weight_of_rows cells (take j rows) + (get_or rows j (0, 0)).1 ≡ weight_of_rows cells (take (j + 1) rows) = sym (rw inside at next) in
+              rw sum at both
+          | inr other ↦
+              let test : (k == code) ≡ false = grind (arith, nat_tests) in
+              let apart : (code == k) ≡ false = grind (arith, nat_tests) in
+              let outside : is_among cells (get_or rows j (0, 0)).0 ≡ false = among ∙ test in
+              let stays : draft_at columns entries new k ≡ draft_at columns entries now k = ap (λ o. unwrap_or o (held_at columns entries k)) (adds.others k apart ∙ begins.others k apart) in
+              let none : weight_of_rows cells (take (j + 1) rows) ≡ weight_of_rows cells (take j rows) = omega (arith, rw outside at next) in
+              rw (stays, none) (before.shares k in_view)
+        ];
+    keys = λ k there. elim (cases_eq k code) [
+      | inl same ↦
+          let view : is_in_view dims depths k ≡ true = ap (is_in_view dims depths) same ∙ over.in_view in
+          rw view (grind (arith, view))
+      | inr other ↦
+          let apart : (code == k) ≡ false = grind (arith, nat_tests) in
+          before.keys k (sym (ap is_some (adds.others k apart ∙ begins.others k apart)) ∙ there)
+    ];
+    over = adds.over;
+  }

@@ -1,0 +1,13 @@
+-- The views are over the columns.
+use Rattle.std.proofs.Common.{◌≡◌, sym, subst, take}
+use Rattle.std.specs.Prelude.{All}
+use Rattle.view_store.specs.Views.{ViewMap}
+use Rattle.view_store.proofs.AllViews.{views-made}
+use Rattle.view_store.proofs.views.Views.new.Goals as goal
+
+pub invariant_of-result : goal.invariant_of-result
+invariant_of-result c = record {
+  least = c.requires.some;
+  most = c.requires.most;
+  each = subst (All (λ (view : ViewMap). view.columns ≡ c.args.columns)) (sym c.loop-def.invariant) (views-made c.args.columns (take c.loop-def.def-index c.args.defs.now));
+}

@@ -1,0 +1,65 @@
+-- Drafts: terms by region code, made from entries by shares.
+use Rattle.std.specs.Prelude.{◌≡◌, ℕ, ◌+◌, ◌<◌, ◌≤◌, Bool, true, List, IfSome, length, map, filter, nat_abs, not, ◌||◌, ◌==◌, ◌+ℤ◌, is_some, unwrap_or, take, Option, Some, None, if◌then◌else◌}
+use Rattle.cube_model.specs.Allocation.{ExtendedFact}
+use Rattle.cube_model.specs.Answer.{count_at, count_of, numerator_of, sum_at, weight_inside}
+use Rattle.cube_model.specs.Cells.{cells_of}
+use Rattle.cube_model.specs.Limits.{WIDE}
+use Rattle.cube_model.specs.Tree.{Dimension}
+use Rattle.group_sum.specs.Merge.{FitsDifference, HasDifference}
+use Rattle.group_sum.specs.Terms.{Fits, TermList}
+use Rattle.staged_map.specs.Staged.{Entries, Places, value_at}
+use Rattle.view_store.specs.declared.change.ViewChange.{ViewChange}
+use Rattle.view_store.specs.Changes.{IsWithin, fact_of}
+use Rattle.view_store.specs.Views.{IsOver, held_at, is_in_view, region_at}
+
+-- the draft at a code: where there is none yet, it is the entry
+abbrev pub draft_at : ℕ → Places TermList → Places TermList → ℕ → TermList
+draft_at columns entries drafts code = unwrap_or (value_at drafts code) (held_at columns entries code)
+
+-- all are over the columns
+abbrev pub AreOver : ℕ → Places TermList → Type 0
+AreOver columns places = (code : ℕ) → IfSome (value_at places code) (IsOver columns)
+
+-- how much of a fact lies in the region of a code
+abbrev pub weight_at : List Dimension → ExtendedFact → ℕ → ℕ
+weight_at dims fact code = weight_inside (cells_of dims (region_at dims code)) fact.allocation
+
+-- the draft at a code is within the limit, and stays there with the share of a fact
+pub record FitsFact (columns : ℕ) (dims : List Dimension) (fact : ExtendedFact) (code : ℕ) (draft : TermList) : Type 0 where
+  pub held : IsWithin columns draft.terms
+  pub share : Fits draft.terms fact.allocation.den (weight_at dims fact code) fact.values
+
+-- a change puts, or takes away
+abbrev pub is_of_kind : Bool → ViewChange → Bool
+is_of_kind put change = if put then change.put else not change.put
+
+-- the facts of the changes that put, or of those that take away
+abbrev pub facts_of_kind : Bool → List ViewChange → List ExtendedFact
+facts_of_kind put changes = map fact_of (filter (is_of_kind put) changes)
+
+-- with what facts add up to in the region of a code, at every denominator
+pub record HasShares (columns : ℕ) (dims : List Dimension) (facts : List ExtendedFact) (code : ℕ) (old new : TermList) : Type 0 where
+  pub counts : (d : ℕ) → count_of new.terms d ≡ count_of old.terms d + count_at (cells_of dims (region_at dims code)) facts d
+  pub sums : (d k : ℕ) → k + 1 < columns → numerator_of new.terms d (k + 1) ≡ numerator_of old.terms d (k + 1) +ℤ sum_at (cells_of dims (region_at dims code)) facts k d
+
+-- with what any first of the facts add up to, no numerator passes WIDE
+pub record FitsShares (columns : ℕ) (dims : List Dimension) (facts : List ExtendedFact) (code : ℕ) (old : TermList) : Type 0 where
+  pub counts : (n d : ℕ) → count_of old.terms d + count_at (cells_of dims (region_at dims code)) (take n facts) d ≤ WIDE
+  pub sums : (n d k : ℕ) → k + 1 < columns → nat_abs (numerator_of old.terms d (k + 1) +ℤ sum_at (cells_of dims (region_at dims code)) (take n facts) k d) ≤ WIDE
+
+-- only codes of the product of the cuts have got drafts
+abbrev pub KeepsToView : List Dimension → List ℕ → Places TermList → Places TermList → Type 0
+KeepsToView dims depths old new = (code : ℕ) → is_some (value_at new code) ≡ true → (is_some (value_at old code) || is_in_view dims depths code) ≡ true
+
+-- what is held at each code can be taken from the entry there
+abbrev pub CanTake : ℕ → Places TermList → Places TermList → Type 0
+CanTake columns entries taken = (code : ℕ) → IfSome (value_at taken code) (λ part. HasDifference (held_at columns entries code) part × FitsDifference (held_at columns entries code) part)
+
+-- what is staged for a draft: no entry where it has no term
+abbrev pub kept : Option TermList → Option TermList
+kept None = None
+kept (Some list) = if length list.terms == 0 then None else Some list
+
+-- so for each of these codes
+abbrev pub kept_of : Places TermList → List ℕ → Entries TermList
+kept_of drafts codes = map (λ code. (code, kept (value_at drafts code))) codes

@@ -1,0 +1,306 @@
+//! Drafts of entries: terms by region code, to which the shares of facts are added.
+ghost use Rattle.std.specs.Prelude.{[], ◌≡◌, ◌≤◌, ◌+◌, ◌==◌, ℕ, true, false, IfOk, IfSome, OnOk, All, Some, is_some, length, unwrap_or};
+ghost use Rattle.std.specs.Map.{keys_of};
+ghost use Rattle.std.specs.Option.{option_copied};
+ghost use Rattle.cube_model.specs.Limits.{MAX_COLS};
+ghost use Rattle.group_sum.specs.Merge.{FitsDifference, HasDifference, IsDifference};
+ghost use Rattle.group_sum.specs.Terms.{AddsShare, AreTerms, Fits};
+ghost use Rattle.staged_map.specs.Staged.{AreKeys, AreOfDifferentKeys, value_at};
+ghost use Rattle.view_store.specs.Changes.{AreWhole, FitsView, IsChange, IsMadeFor, fact_of, taken};
+ghost use Rattle.view_store.specs.Views.{AreEntries, held_at, is_in_view, IsOver, no_terms};
+ghost use Rattle.view_store.specs.Drafts.{AreOver, CanTake, FitsFact, FitsShares, HasShares, KeepsToView, draft_at, facts_of_kind, kept, kept_of, weight_at};
+
+use crate::ViewChange;
+use crate::cut::cut_code;
+use cube_base::{Cols, Ids, Memory};
+use group_sum::{SubFault, Terms};
+use region_algebra::Space;
+use staged_map::Staged;
+use std::alloc::Global;
+
+/// Equal terms.
+pub fn copy_of(alloc: Global, terms: &Terms) -> Result<Terms, Memory>
+    ensures copy { IfOk result (λ list. list ≡ terms.now) }
+    ensures terms { IfOk result AreTerms }
+{
+    let mut copy = Terms::empty(alloc, terms.columns());
+    copy.add(terms)?;
+    Ok(copy)
+}
+
+/// Equal terms, or none over the columns where there are none.
+fn copy_or_none(alloc: Global, columns: u32, terms: Option<&Terms>) -> Result<Terms, Memory>
+    requires some { 1 ≤ columns }
+    requires most { columns ≤ MAX_COLS + 1 }
+    requires over { IfSome terms (λ list. list.now.columns ≡ columns) }
+    ensures copy { IfOk result (λ list. list ≡ unwrap_or (option_copied terms.entry) (no_terms columns)) }
+    ensures over { IfOk result (IsOver columns) }
+{
+    match terms {
+        Some(terms) => copy_of(alloc, terms),
+        None => Ok(Terms::empty(alloc, columns)),
+    }
+}
+
+/// Gives a code a draft, if it has none: it is the entry there.
+fn begin(
+    alloc: Global,
+    columns: u32,
+    entries: &Staged<Terms>,
+    drafts: &mut Staged<Terms>,
+    code: u64,
+) -> Result<(), Memory>
+    requires some { 1 ≤ columns }
+    requires most { columns ≤ MAX_COLS + 1 }
+    requires entries { AreOver columns entries.now }
+    requires drafts { AreOver columns drafts.old }
+    ensures same { OnOk result ((k : ℕ) → draft_at columns entries.now drafts.new k ≡ draft_at columns entries.now drafts.old k) }
+    ensures others { OnOk result ((k : ℕ) → (code == k) ≡ false → value_at drafts.new k ≡ value_at drafts.old k) }
+    ensures there { OnOk result (is_some (value_at drafts.new code) ≡ true) }
+    ensures over { OnOk result (AreOver columns drafts.new) }
+{
+    if drafts.get(code).is_none() {
+        let copy = copy_or_none(alloc, columns, entries.get(code))?;
+        drafts.reserve(&[code])?;
+        let _ = drafts.set(code, copy);
+    }
+    Ok(())
+}
+
+/// Adds a share to the draft of a code.
+fn add_share(
+    alloc: Global,
+    columns: u32,
+    drafts: &mut Staged<Terms>,
+    code: u64,
+    den: u64,
+    weight: u64,
+    cols: Cols,
+) -> Result<(), Memory>
+    requires some { 1 ≤ columns }
+    requires most { columns ≤ MAX_COLS + 1 }
+    requires den { 1 ≤ den }
+    requires width { length cols + 1 ≡ columns }
+    requires there { is_some (value_at drafts.old code) ≡ true }
+    requires drafts { AreOver columns drafts.old }
+    requires within { Fits (held_at columns drafts.old code).terms den weight cols }
+    ensures share { OnOk result (AddsShare (held_at columns drafts.old code) (held_at columns drafts.new code) den weight cols) }
+    ensures others { OnOk result ((k : ℕ) → (code == k) ≡ false → value_at drafts.new k ≡ value_at drafts.old k) }
+    ensures stays { OnOk result (is_some (value_at drafts.new code) ≡ true) }
+    ensures over { OnOk result (AreOver columns drafts.new) }
+{
+    let mut terms = drafts.set(code, Terms::empty(alloc, columns)).unwrap();
+    terms.add_term(den, weight, cols)?;
+    let _ = drafts.set(code, terms);
+    Ok(())
+}
+
+/// Adds the shares of a change to the drafts of the regions of the product of the cuts.
+fn add_change(
+    alloc: Global,
+    space: &Space,
+    depths: &[u8],
+    columns: u32,
+    entries: &Staged<Terms>,
+    drafts: &mut Staged<Terms>,
+    change: &ViewChange,
+) -> Result<(), Memory>
+    requires some { 1 ≤ columns }
+    requires most { columns ≤ MAX_COLS + 1 }
+    requires depths { length depths.now ≡ length space.now }
+    requires change { IsChange space.now columns change.now }
+    requires entries { AreOver columns entries.now }
+    requires drafts { AreOver columns drafts.old }
+    requires within { (code : ℕ) → is_in_view space.now depths.now code ≡ true → FitsFact columns space.now (fact_of change.now) code (draft_at columns entries.now drafts.old code) }
+    ensures shares { OnOk result ((code : ℕ) → is_in_view space.now depths.now code ≡ true
+        → AddsShare (draft_at columns entries.now drafts.old code) (draft_at columns entries.now drafts.new code) change.now.den (weight_at space.now (fact_of change.now) code) change.now.cols) }
+    ensures keys { OnOk result (KeepsToView space.now depths.now drafts.old drafts.new) }
+    ensures over { OnOk result (AreOver columns drafts.new) }
+{
+    for (cell, weight) in change.rows.as_slice() {
+        let code = cut_code(space, depths, *cell);
+        begin(alloc, columns, entries, drafts, code)?;
+        add_share(
+            alloc,
+            columns,
+            drafts,
+            code,
+            change.den,
+            *weight,
+            change.cols,
+        )?;
+    }
+    Ok(())
+}
+
+/// Adds the shares of the changes that put, or of those that take away, to the drafts of the regions of the product of the
+/// cuts.
+pub fn add_changes(
+    alloc: Global,
+    space: &Space,
+    depths: &[u8],
+    columns: u32,
+    entries: &Staged<Terms>,
+    drafts: &mut Staged<Terms>,
+    changes: &[ViewChange],
+    put: bool,
+) -> Result<(), Memory>
+    requires some { 1 ≤ columns }
+    requires most { columns ≤ MAX_COLS + 1 }
+    requires depths { length depths.now ≡ length space.now }
+    requires changes { All (IsChange space.now columns) changes.now }
+    requires entries { AreOver columns entries.now }
+    requires drafts { AreOver columns drafts.old }
+    requires within { (code : ℕ) → is_in_view space.now depths.now code ≡ true
+        → FitsShares columns space.now (facts_of_kind put changes.now) code (draft_at columns entries.now drafts.old code) }
+    ensures shares { OnOk result ((code : ℕ) → is_in_view space.now depths.now code ≡ true
+        → HasShares columns space.now (facts_of_kind put changes.now) code (draft_at columns entries.now drafts.old code) (draft_at columns entries.now drafts.new code)) }
+    ensures keys { OnOk result (KeepsToView space.now depths.now drafts.old drafts.new) }
+    ensures over { OnOk result (AreOver columns drafts.new) }
+{
+    for change in changes {
+        if change.put == put {
+            add_change(alloc, space, depths, columns, entries, drafts, change)?;
+        }
+    }
+    Ok(())
+}
+
+/// What is left of an entry without what is taken away.
+fn take_away(
+    alloc: Global,
+    columns: u32,
+    entry: Option<&Terms>,
+    part: &Terms,
+) -> Result<Terms, Memory>
+    requires some { 1 ≤ columns }
+    requires most { columns ≤ MAX_COLS + 1 }
+    requires columns { IfSome entry (λ list. list.now.columns ≡ columns) }
+    requires width { part.now.columns ≡ columns }
+    requires there { HasDifference (unwrap_or (option_copied entry) (no_terms columns)) part.now }
+    requires within { FitsDifference (unwrap_or (option_copied entry) (no_terms columns)) part.now }
+    ensures left { IfOk result (IsDifference (unwrap_or (option_copied entry.entry) (no_terms columns)) part.now) }
+    ensures over { IfOk result (IsOver columns) }
+{
+    let none = Terms::empty(alloc, columns);
+    let whole = entry.unwrap_or(&none);
+    match whole.sub(part) {
+        Ok(left) => Ok(left),
+        Err(SubFault::Memory) => Err(Memory),
+        Err(SubFault::Less { .. }) => unreachable!(),
+    }
+}
+
+/// What is left of the entries of these codes without what is taken away from them.
+pub fn take_all_away(
+    alloc: Global,
+    columns: u32,
+    entries: &Staged<Terms>,
+    taken: &Staged<Terms>,
+) -> Result<Staged<Terms>, Memory>
+    requires some { 1 ≤ columns }
+    requires most { columns ≤ MAX_COLS + 1 }
+    requires entries { AreOver columns entries.now }
+    requires taken { AreOver columns taken.now }
+    requires there { CanTake columns entries.now taken.now }
+    ensures codes { IfOk result (λ left. (code : ℕ) → is_some (value_at left code) ≡ is_some (value_at taken.now code)) }
+    ensures left { IfOk result (λ left. (code : ℕ) → IfSome (value_at taken.now code) (λ part. IsDifference (held_at columns entries.now code) part (held_at columns left code))) }
+    ensures over { IfOk result (AreOver columns) }
+{
+    let codes = taken.keys()?;
+    let mut left = Staged::new(alloc);
+    left.reserve(codes.as_slice())?;
+    for code in codes.as_slice() {
+        let rest = take_away(
+            alloc,
+            columns,
+            entries.get(*code),
+            taken.get(*code).unwrap(),
+        )?;
+        let _ = left.set(*code, rest);
+    }
+    Ok(left)
+}
+
+/// What is staged for a draft: no entry where it has no term.
+fn entry_of(terms: Terms) -> Option<Terms>
+    ensures { result ≡ kept (Some terms) }
+{
+    if terms.len() == 0 { None } else { Some(terms) }
+}
+
+/// What is staged for the drafts of these codes.
+pub fn entries_of(
+    alloc: Global,
+    mut drafts: Staged<Terms>,
+    codes: &[u64],
+) -> Result<Vec<(u64, Option<Terms>)>, Memory>
+    requires { AreKeys drafts codes.now }
+    ensures { IfOk result (λ entries. entries.items ≡ kept_of drafts codes.now) }
+{
+    let mut entries = Vec::with_capacity(alloc, codes.len())?;
+    for code in codes {
+        let terms = drafts.remove(*code).unwrap();
+        entries.push((*code, entry_of(terms)))?;
+    }
+    Ok(entries)
+}
+
+/// The shares that changes take away, by region code.
+fn taken_away(
+    alloc: Global,
+    space: &Space,
+    depths: &[u8],
+    columns: u32,
+    changes: &[ViewChange],
+) -> Result<Staged<Terms>, Memory>
+    requires some { 1 ≤ columns }
+    requires most { columns ≤ MAX_COLS + 1 }
+    requires depths { length depths.now ≡ length space.now }
+    requires changes { All (IsChange space.now columns) changes.now }
+    requires within { (code : ℕ) → is_in_view space.now depths.now code ≡ true → FitsShares columns space.now (taken changes.now) code (no_terms columns) }
+    ensures shares { IfOk result (λ parts. (code : ℕ) → is_in_view space.now depths.now code ≡ true → HasShares columns space.now (taken changes.now) code (no_terms columns) (held_at columns parts code)) }
+    ensures keys { IfOk result (KeepsToView space.now depths.now []) }
+    ensures over { IfOk result (AreOver columns) }
+{
+    let none = Staged::new(alloc);
+    let mut parts = Staged::new(alloc);
+    add_changes(
+        alloc, space, depths, columns, &none, &mut parts, changes, false,
+    )?;
+    Ok(parts)
+}
+
+/// The entries that changes make of those of a view, each once, with their codes, ascending.
+pub fn make_entries(
+    alloc: Global,
+    space: &Space,
+    depths: &[u8],
+    columns: u32,
+    entries: &Staged<Terms>,
+    changes: &[ViewChange],
+) -> Result<(Ids, Vec<(u64, Option<Terms>)>), Memory>
+    requires depths { length depths.now ≡ length space.now }
+    requires entries { AreEntries columns entries.now }
+    requires changes { FitsView space.now changes.now (record { columns = columns; depths = depths.now; entries = entries.now }) }
+    ensures made { IfOk result (λ made. IsMadeFor space.now changes.now (record { columns = columns; depths = depths.now; entries = entries.now }) made.1.items) }
+    ensures codes { IfOk result (λ made. keys_of made.1.items ≡ made.0) }
+    ensures distinct { IfOk result (λ made. AreOfDifferentKeys made.1.items) }
+    ensures whole { IfOk result (λ made. AreWhole columns made.1.items) }
+{
+    let taken = taken_away(alloc, space, depths, columns, changes)?;
+    let mut drafts = take_all_away(alloc, columns, entries, &taken)?;
+    add_changes(
+        alloc,
+        space,
+        depths,
+        columns,
+        entries,
+        &mut drafts,
+        changes,
+        true,
+    )?;
+    let codes = drafts.keys()?;
+    let made = entries_of(alloc, drafts, codes.as_slice())?;
+    Ok((codes, made))
+}

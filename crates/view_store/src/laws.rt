@@ -1,0 +1,35 @@
+//! Laws of views, and examples that are computed from the definitions. The functions do nothing: each law is the contract.
+ghost use Rattle.std.specs.Prelude.{◌≡◌, ℕ, List, [], ◌∷◌, false, filter, pos, true};
+ghost use Rattle.std.specs.List.{range_with_len};
+ghost use Rattle.cube_model.specs.Allocation.{ExtendedFact};
+ghost use Rattle.cube_model.specs.Tree.{Dimension};
+ghost use Rattle.group_sum.specs.Examples.{one_sum};
+ghost use Rattle.region_algebra.specs.Examples.{small_space};
+ghost use Rattle.region_algebra.specs.declared.view_def.ViewDef.{ViewDef};
+ghost use Rattle.view_store.specs.declared.change.ViewChange.{ViewChange};
+ghost use Rattle.view_store.specs.Changes.{IsAfter, given, taken};
+ghost use Rattle.view_store.specs.Examples.{entry, small_view};
+ghost use Rattle.view_store.specs.Facts.{FollowBy, IsViewOfFacts};
+ghost use Rattle.view_store.specs.Rolling.{rolled_up, serves};
+ghost use Rattle.view_store.specs.Views.{ViewMap, is_in_view, listed, view_of};
+
+/// A view without entries is that of no facts. Where the entries of a view are the answers of facts, they are those of the
+/// facts after once changes are installed, if these take away and put what the facts after have less and more.
+pub fn views_follow_their_facts()
+    ensures none { (dims : List Dimension) (columns : ℕ) (def : ViewDef) → IsViewOfFacts dims [] (view_of columns def) }
+    ensures kept { (dims : List Dimension) (changes : List ViewChange) (old new : ViewMap) (before after : List ExtendedFact)
+        → IsAfter dims changes old new → IsViewOfFacts dims before old → FollowBy before (taken changes) (given changes) after → IsViewOfFacts dims after new }
+{}
+
+/// The regions of products of cuts, and a view, that were worked out by hand: a leaf that lies less deep than a cut is in it, a
+/// region is served where its nodes lie no deeper than the cuts, and entries under a region are merged.
+pub fn worked_views()
+    ensures leaves { filter (is_in_view small_space (2 ∷ 1 ∷ [])) (range_with_len 0 21) ≡ 7 ∷ 8 ∷ 10 ∷ 11 ∷ 16 ∷ 17 ∷ 19 ∷ 20 ∷ [] }
+    ensures inner { filter (is_in_view small_space (1 ∷ 0 ∷ [])) (range_with_len 0 21) ≡ 3 ∷ 12 ∷ 18 ∷ [] }
+    ensures served { serves small_space (1 ∷ 0 ∷ []) (0 ∷ 0 ∷ []) ≡ true }
+    ensures too_deep { serves small_space (1 ∷ 0 ∷ []) (1 ∷ 1 ∷ []) ≡ false }
+    ensures listed { listed small_space small_view ≡ ((1 ∷ 0 ∷ []), entry 1 2 (pos 400)) ∷ ((6 ∷ 0 ∷ []), entry 3 1 (pos 200)) ∷ [] }
+    ensures whole { rolled_up small_space small_view (0 ∷ 0 ∷ []) ≡ one_sum 1 2 (pos 400) ∷ one_sum 3 1 (pos 200) ∷ [] }
+    ensures part { rolled_up small_space small_view (1 ∷ 0 ∷ []) ≡ one_sum 1 2 (pos 400) ∷ [] }
+    ensures nothing { rolled_up small_space small_view (4 ∷ 0 ∷ []) ≡ [] }
+{}

@@ -1,0 +1,15 @@
+//! Views: for the regions of a product of cuts, what the facts in each add up to, kept in step with changes of facts.
+#![tactic(auto)]
+
+mod change;
+mod cut;
+mod drafts;
+mod laws;
+mod view;
+mod views;
+
+pub use change::{ViewChange, ViewStage};
+pub use laws::{views_follow_their_facts, worked_views};
+pub use region_algebra::{Depths, ViewDef, ViewDefs};
+pub use view::ViewList;
+pub use views::Views;
