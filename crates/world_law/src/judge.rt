@@ -48,7 +48,7 @@ fn is_wide(placed: &[Placed]) -> bool
     requires { All (λ p. (1 ≤ p.den) × (p.den < DEN_LIMIT)) placed.now }
     ensures { result ≡ nat_lt MAX_MASS (product (dens placed.now)) }
 {
-    let mut product = 1;
+    let mut product = 1_u128;
     for item in placed {
         product *= u128::from(item.den);
         if product > u128::from(MAX_MASS) {

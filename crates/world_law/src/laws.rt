@@ -8,7 +8,7 @@ ghost use Rattle.cube_model.specs.Cells.{cells_of};
 ghost use Rattle.cube_model.specs.Tree.{Dimension, IsTree};
 ghost use Rattle.region_algebra.specs.Space.{IsRegion, product};
 ghost use Rattle.world_law.specs.Additive.{AddUpOverChildren};
-ghost use Rattle.world_law.specs.Examples.{four_spread, spread_fact};
+ghost use Rattle.world_law.specs.Examples.{four_spread, spread_fact, two_over_three, world_of_two};
 ghost use Rattle.world_law.specs.Law.{IsLawful, IsShared, cleared, expected};
 ghost use Rattle.world_law.specs.Limits.{MAX_WORLDS};
 ghost use Rattle.world_law.specs.Placed.{dens, facts_of, placed_of, product_above, row_counts};
@@ -77,4 +77,25 @@ pub fn worked_worlds()
     ensures many { product_above MAX_WORLDS 1 (replicate 17 2) ≡ Some 131072 }
     ensures first { product_above MAX_WORLDS 1 (300 ∷ 300 ∷ 2 ∷ []) ≡ Some 90000 }
     ensures two_spread { map (λ world. world.weight) (worlds (spread_fact 1 100 3 ((0, 2) ∷ (4, 1) ∷ []) ∷ spread_fact 2 300 5 ((0, 1) ∷ (4, 4) ∷ []) ∷ [])) ≡ 2 ∷ 8 ∷ 1 ∷ 4 ∷ [] }
+{}
+
+/// The nine worlds of two facts over three cells each, listed by hand: 100 stands in cell 12, 13 or 16 with weight 1, 2 or 3,
+/// and 300 in the same cells with weight 2, 1 or 1. A region has cells 12 and 16 alone, where the first has weight 4 of 6 and
+/// the second 3 of 4. So over all worlds, each taken as often as it weighs, 24 together, its count comes to 34 and its sum to
+/// 7000, and the answer there stands for the same totals.
+pub fn worked_worlds_of_three_cells()
+    ensures listed { worlds two_over_three
+        ≡ world_of_two 2 12 12 ∷ world_of_two 1 12 13 ∷ world_of_two 1 12 16
+        ∷ world_of_two 4 13 12 ∷ world_of_two 2 13 13 ∷ world_of_two 2 13 16
+        ∷ world_of_two 6 16 12 ∷ world_of_two 3 16 13 ∷ world_of_two 3 16 16 ∷ [] }
+    ensures mass { mass two_over_three ≡ 24 }
+    ensures cells { cells_of two_dims (5 ∷ 2 ∷ []) ≡ 12 ∷ 16 ∷ [] }
+    ensures counts { map (sum_in (12 ∷ 16 ∷ []) 0) (worlds two_over_three)
+        ≡ pos 2 ∷ pos 1 ∷ pos 2 ∷ pos 1 ∷ pos 0 ∷ pos 1 ∷ pos 2 ∷ pos 1 ∷ pos 2 ∷ [] }
+    ensures sums { map (sum_in (12 ∷ 16 ∷ []) 1) (worlds two_over_three)
+        ≡ pos 400 ∷ pos 100 ∷ pos 400 ∷ pos 300 ∷ pos 0 ∷ pos 300 ∷ pos 400 ∷ pos 100 ∷ pos 400 ∷ [] }
+    ensures total_count { total two_dims (5 ∷ 2 ∷ []) 0 two_over_three ≡ pos 34 }
+    ensures total_sum { total two_dims (5 ∷ 2 ∷ []) 1 two_over_three ≡ pos 7000 }
+    ensures cleared_count { cleared 24 0 (answer 1 two_dims two_over_three (5 ∷ 2 ∷ [])) ≡ pos 34 }
+    ensures cleared_sum { cleared 24 1 (answer 1 two_dims two_over_three (5 ∷ 2 ∷ [])) ≡ pos 7000 }
 {}
