@@ -38,6 +38,7 @@ pub record IsEnded (text : List ℕ) (draft : Draft) (names : List (List ℕ)) (
   pub numbered : list_all is_numbered (ended next.nodes) ≡ true
   pub policy : next.policy ≡ draft.policy
   pub measures : next.measures ≡ draft.measures
+  pub views : next.views ≡ draft.views
   pub names_are : next.names ≡ draft.names ++ names
   pub dims_are : dims_of next ≡ dims_of draft ++ dims
   pub last : next.last ≡ last_dims draft.last dims
@@ -90,6 +91,7 @@ read_dims text draft [] [] lines rest behind is parts same follows numbered are 
   numbered = numbered;
   policy = refl;
   measures = refl;
+  views = refl;
   names_are = sym (append-nil draft.names);
   dims_are = sym (append-nil (dims_of draft));
   last = refl;
@@ -104,9 +106,9 @@ read_dims text draft (name ∷ names) (dim ∷ dims) lines rest behind is parts 
     let cuts : rest ≡ line_text (codes "dimension") (name ∷ []) ++ (nodes_text ++ more) =
     parts ∙ append_assoc (line_text (codes "dimension") (name ∷ []) ++ nodes_text) (dims_text draft.version names dims) behind ∙ append_assoc (line_text (codes "dimension") (name ∷ [])) nodes_text more in
     let head = IsRead-next text draft lines rest (nodes_text ++ more) (codes "dimension") (name ∷ []) DimensionWord is cuts (next-dimension draft name follows right numbered (omega arith)) in
-    let open_draft : Draft = record { last = Some DimensionWord; version = draft.version; policy = draft.policy; measures = draft.measures; names = draft.names ++ name ∷ []; dims = dims_of draft; nodes = [] } in
+    let open_draft : Draft = record { last = Some DimensionWord; version = draft.version; policy = draft.policy; measures = draft.measures; names = draft.names ++ name ∷ []; dims = dims_of draft; nodes = []; views = draft.views } in
     let nodes = read_nodes text open_draft DimensionWord [] dim (lines + 1) (nodes_text ++ more) more head refl refl (AreNodesNext-tree draft.version dim tree (All-head (IsWritable draft.version) dim dims writable)) in
-    let closed : Draft = record { last = Some Node; version = draft.version; policy = draft.policy; measures = draft.measures; names = draft.names ++ name ∷ []; dims = dims_of draft; nodes = dim } in
+    let closed : Draft = record { last = Some Node; version = draft.version; policy = draft.policy; measures = draft.measures; names = draft.names ++ name ∷ []; dims = dims_of draft; nodes = dim; views = draft.views } in
     let read : IsRead text closed (lines + 1 + length dim) more = rw (last-tree dim tree) at nodes in
     let joined : (draft.names ++ name ∷ []) ++ names ≡ draft.names ++ name ∷ names = append_assoc draft.names (name ∷ []) names in
     let rest_read = read_dims text closed names dims (lines + 1 + length dim) more behind read refl (omega arith) refl (ended-numbered dim tree) (subst AreNames (sym joined) are) (omega (arith, length-append draft.names (name ∷ []))) (All-tail IsTree dim dims trees) (All-tail (IsWritable draft.version) dim dims writable) in
@@ -118,6 +120,7 @@ read_dims text draft (name ∷ names) (dim ∷ dims) lines rest behind is parts 
       numbered = rest_read.numbered;
       policy = rest_read.policy;
       measures = rest_read.measures;
+      views = rest_read.views;
       names_are = rest_read.names_are ∙ joined;
       dims_are = rest_read.dims_are ∙ ap (λ l. l ++ dims) whole ∙ append_assoc (dims_of draft) (dim ∷ []) dims;
       last = rest_read.last;

@@ -1,8 +1,8 @@
 -- Accepted lines keep what is known of a draft.
-use Rattle.std.proofs.Common.{◌≡◌, ◌≢◌, ℕ, ◌<◌, ◌≤◌, Bool, true, false, List, [], ◌∷◌, ◌++◌, length, map, refl, arith, sym, ◌∙◌, Option, Some, None, length-append, length-drop}
-use Rattle.std.specs.Prelude.{◌&&◌, if◌then◌else◌, is_none, nat_le, unwrap_or}
+use Rattle.std.proofs.Common.{◌≡◌, ◌≢◌, ℕ, ◌+◌, ◌<◌, ◌≤◌, Bool, true, false, List, [], ◌∷◌, ◌++◌, length, map, refl, arith, sym, ◌∙◌, Option, Some, None, length-append, length-drop, subst}
+use Rattle.std.specs.Prelude.{is_none, not, unwrap_or}
+use Rattle.std.specs.List.{list_all}
 use Rattle.std.specs.Option.{option_map_or}
-use Rattle.std.specs.Str.Parse.{digits_value}
 use Rattle.std.proofs.lemmas.Bool.{or_parts}
 use Rattle.std.proofs.lemmas.Bool.Decides.{nat_tests}
 use Rattle.std.proofs.lemmas.List.Elements.{All-push}
@@ -11,23 +11,25 @@ use Rattle.cube_base.specs.declared.code.Code.{Code}
 use Rattle.cube_base.specs.declared.code.Code.TheVariants as code
 use Rattle.cube_model.specs.Accepted.{first_that_holds}
 use Rattle.cube_model.specs.Limits.{MAX_DEPTH, MAX_DIMS}
+use Rattle.cube_model.specs.Tree.{is_numbered}
 use Rattle.text_lines.specs.LineText.{field_at}
-use Rattle.text_lines.specs.Text.{is_number, number_in}
 use Rattle.fact_records.specs.declared.shape.Measure.{Measure}
 use Rattle.fact_records.specs.declared.shape.Kind.TheVariants as kind
 use Rattle.schema_text.specs.declared.word.SchemaWord.{SchemaWord}
-use Rattle.schema_text.specs.declared.word.SchemaWord.TheVariants.{Cube, Policy, Number, Parts, Dimension as DimensionWord, Node, End}
-use Rattle.schema_text.specs.Draft.{HasNodes, IsDraft, IsNextMeasure, IsNextNode, open_count}
-use Rattle.schema_text.specs.Schema.{IsKind, MAX_SCALE, MIN_SCALE}
-use Rattle.schema_text.specs.SchemaText.{Draft, depth_of, has_many_cells, has_many_regions, has_no_room, has_wrong_count, has_wrong_depth, has_wrong_name, has_wrong_names, has_wrong_number, has_wrong_policy, is_wrong_depth, is_wrong_name, lacks_measure, may_follow, measure_behind, node_of_fields, number_of, outcomes_of, parts_kind, scale_of, with_word, word_fault}
-use Rattle.schema_text.proofs.Drafts.{AreNames-push, before-Cube, before-Dimension, before-Node, before-Number, before-Policy, is_name-right, Parts-like-Number}
+use Rattle.schema_text.specs.declared.word.SchemaWord.TheVariants.{Cube, Policy, Number, Parts, Dimension as DimensionWord, Node, View, End}
+use Rattle.schema_text.specs.Draft.{HasNodes, HasViews, IsDraft, IsNextMeasure, IsNextNode, open_count}
+use Rattle.schema_text.specs.Schema.{AreViews, IsKind, MAX_SCALE, MAX_VIEWS, MIN_SCALE}
+use Rattle.schema_text.specs.SchemaText.{Draft, depth_fields, depth_of, ended, has_many_cells, has_many_regions, has_no_room, has_wrong_count, has_wrong_depth, has_wrong_depths, has_wrong_name, has_wrong_names, has_wrong_number, has_wrong_policy, is_wrong_depth, is_wrong_name, lacks_measure, may_follow, measure_behind, node_of_fields, number_of, outcomes_of, parts_kind, scale_of, view_of_fields, with_word, word_fault}
+use Rattle.schema_text.proofs.Drafts.{AreNames-push, before-Cube, before-Dimension, before-End, before-Node, before-Number, before-Policy, is_name-right, no_views, Parts-like-Number, View-like-End}
 use Rattle.schema_text.proofs.MeasuresMore.{AreMeasures-push}
 use Rattle.schema_text.proofs.NodesMore.{AreNodes-none, AreNodes-push}
 use Rattle.schema_text.proofs.Outcomes.{IsDistribution-names}
+use Rattle.schema_text.proofs.NumbersRead.{number_in-range}
+use Rattle.schema_text.proofs.ViewsMore.{AreViews-none, AreViews-push, depths-shallow, length-depths}
 
 -- what an accepted line is not
 record IsAccepted (draft : Draft) (fields : List (List ℕ)) (word : SchemaWord) : Type 0 where
-  pub count : has_wrong_count draft.version fields word ≡ false
+  pub count : has_wrong_count draft.version (length draft.names) fields word ≡ false
   pub name : has_wrong_name draft fields word ≡ false
   pub number : has_wrong_number draft fields word ≡ false
   pub depth : has_wrong_depth draft fields word ≡ false
@@ -47,25 +49,14 @@ none-holds false false false false false false rest none = (refl, refl, refl, re
 IsAccepted-from : (draft : Draft) (fields : List (List ℕ)) (word : SchemaWord) → word_fault draft fields word ≡ None → IsAccepted draft fields word
 IsAccepted-from draft fields word accepted =
     let none =
-    none-holds (has_wrong_count draft.version fields word) (has_wrong_name draft fields word) (has_wrong_policy draft fields word) (has_wrong_number draft fields word) (has_wrong_depth draft fields word) (has_no_room draft fields word)
+    none-holds (has_wrong_count draft.version (length draft.names) fields word) (has_wrong_name draft fields word) (has_wrong_policy draft fields word) (has_wrong_number draft fields word) (has_wrong_depth draft fields word) (has_no_room draft fields word)
     ((lacks_measure draft fields word, code.Policy) ∷ (has_many_cells draft fields word, code.Cells) ∷ (has_many_regions draft fields word, code.Nodes) ∷ []) accepted in
     record { count = none.0; name = none.1; number = none.2; depth = none.3; room = none.4 }
 
--- where there is a number, it is in its range
-in_range : (number low high : Bool) (least most value : ℕ) → nat_le least value ≡ low → nat_le value most ≡ high → is_none (if number && low && high then Some value else None) ≡ false
-    → (least ≤ unwrap_or (if number && low && high then Some value else None) 0) × (unwrap_or (if number && low && high then Some value else None) 0 ≤ most)
-in_range true true true least most value low high e = (grind (arith, nat_tests), grind (arith, nat_tests))
-in_range true true false least most value low high e = cc
-in_range true false high least most value low_is high_is e = cc
-in_range false low high least most value low_is high_is e = cc
-
-number_in-range : (least most : ℕ) (bytes : List ℕ) → is_none (number_in least most bytes) ≡ false → (least ≤ unwrap_or (number_in least most bytes) 0) × (unwrap_or (number_in least most bytes) 0 ≤ most)
-number_in-range least most bytes some = in_range (is_number bytes) (nat_le least (digits_value 10 bytes)) (nat_le (digits_value 10 bytes) most) least most (digits_value 10 bytes) refl refl some
-
 -- a measure more
-IsDraft-measure : (draft : Draft) (word : SchemaWord) (next : Measure) → IsDraft draft → may_follow draft.last Number ≡ true → (open_count (Some word) ≡ 0) → (draft.nodes ≡ [] → HasNodes (Some word) draft.nodes) → IsNextMeasure draft.measures next
+IsDraft-measure : (draft : Draft) (word : SchemaWord) (next : Measure) → IsDraft draft → may_follow draft.last Number ≡ true → (open_count (Some word) ≡ 0) → (draft.nodes ≡ [] → HasNodes (Some word) draft.nodes) → (draft.views ≡ [] → HasViews (Some word) draft.dims draft.views) → IsNextMeasure draft.measures next
     → IsDraft (record draft { last = Some word; measures = draft.measures ++ next ∷ [] })
-IsDraft-measure draft word next is follows closed none may =
+IsDraft-measure draft word next is follows closed none unseen may =
     let before = before-Number draft.last draft.nodes follows is.some in
     record {
       measures = AreMeasures-push draft.measures next is.measures may;
@@ -76,6 +67,8 @@ IsDraft-measure draft word next is follows closed none may =
       named = omega (arith, before.0, closed, is.named);
       some = none before.1;
       nodes = is.nodes;
+      viewed = unseen (no_views draft.last Number draft.dims draft.views follows refl is.viewed);
+      views = is.views;
     }
 
 IsNextMeasure-number : (draft : Draft) (fields : List (List ℕ)) → IsAccepted draft fields Number → IsNextMeasure draft.measures (measure_behind draft.measures (field_at fields 1) kind.Number)
@@ -100,21 +93,52 @@ IsNextNode-line draft fields is =
     fits None some e = cc
     fits (Some depth) some e = e
 
+-- a view more
+AreViews-line : (draft : Draft) (fields : List (List ℕ)) → IsAccepted draft fields View → AreViews (length draft.names) draft.views → AreViews (length draft.names) (draft.views ++ view_of_fields fields ∷ [])
+AreViews-line draft fields line are =
+    let right = or_parts (has_wrong_depths (depth_fields fields)) (not (list_all is_numbered (ended draft.nodes))) line.number in
+    let room : length draft.views < MAX_VIEWS = grind (arith, nat_tests, line.room) in
+    let count : length fields ≡ length draft.names + 2 = grind (arith, nat_tests, line.count) in
+    AreViews-push (length draft.names) draft.views (view_of_fields fields) are line.name room (length-depths fields (length draft.names) count) (depths-shallow (depth_fields fields) right.0)
+
 -- an accepted line keeps what is known
 pub IsDraft-word : (draft : Draft) (fields : List (List ℕ)) (word : SchemaWord) → IsDraft draft → may_follow draft.last word ≡ true → word ≢ End → word_fault draft fields word ≡ None → IsDraft (with_word draft fields word)
 IsDraft-word draft fields Cube is follows goes_on accepted =
     let before = before-Cube draft.last draft.nodes follows is.some in
-    record { measures = is.measures; kinds = is.kinds; measure_names = is.measure_names; names = is.names; few = is.few; named = omega (arith, before.0, is.named); some = before.1; nodes = is.nodes }
+    record {
+      measures = is.measures;
+      kinds = is.kinds;
+      measure_names = is.measure_names;
+      names = is.names;
+      few = is.few;
+      named = omega (arith, before.0, is.named);
+      some = before.1;
+      nodes = is.nodes;
+      viewed = no_views draft.last Cube draft.dims draft.views follows refl is.viewed;
+      views = is.views;
+    }
 IsDraft-word draft fields Policy is follows goes_on accepted =
     let before = before-Policy draft.last draft.nodes follows is.some in
-    record { measures = is.measures; kinds = is.kinds; measure_names = is.measure_names; names = is.names; few = is.few; named = omega (arith, before.0, is.named); some = before.1; nodes = is.nodes }
+    record {
+      measures = is.measures;
+      kinds = is.kinds;
+      measure_names = is.measure_names;
+      names = is.names;
+      few = is.few;
+      named = omega (arith, before.0, is.named);
+      some = before.1;
+      nodes = is.nodes;
+      viewed = no_views draft.last Policy draft.dims draft.views follows refl is.viewed;
+      views = is.views;
+    }
 IsDraft-word draft fields Number is follows goes_on accepted =
-    IsDraft-measure draft Number _ is follows refl (λ none. none) (IsNextMeasure-number draft fields (IsAccepted-from draft fields Number accepted))
+    IsDraft-measure draft Number _ is follows refl (λ none. none) (λ none. none) (IsNextMeasure-number draft fields (IsAccepted-from draft fields Number accepted))
 IsDraft-word draft fields Parts is follows goes_on accepted =
-    IsDraft-measure draft Parts _ is (sym (Parts-like-Number draft.last) ∙ follows) refl (λ none. none) (IsNextMeasure-parts draft fields (IsAccepted-from draft fields Parts accepted))
+    IsDraft-measure draft Parts _ is (sym (Parts-like-Number draft.last) ∙ follows) refl (λ none. none) (λ none. none) (IsNextMeasure-parts draft fields (IsAccepted-from draft fields Parts accepted))
 IsDraft-word draft fields DimensionWord is follows goes_on accepted =
     let line = IsAccepted-from draft fields DimensionWord accepted in
     let room : length draft.names < MAX_DIMS = grind (arith, nat_tests, line.room) in
+    let none = no_views draft.last DimensionWord draft.dims draft.views follows refl is.viewed in
     record {
       measures = is.measures;
       kinds = is.kinds;
@@ -124,6 +148,8 @@ IsDraft-word draft fields DimensionWord is follows goes_on accepted =
       named = simp length-append (omega (arith, before-Dimension draft.last draft.nodes follows is.some, is.named));
       some = refl;
       nodes = AreNodes-none;
+      viewed = none;
+      views = subst (AreViews (length (draft.names ++ field_at fields 1 ∷ []))) (sym none) (AreViews-none (length (draft.names ++ field_at fields 1 ∷ [])));
     }
 IsDraft-word draft fields Node is follows goes_on accepted = record {
   measures = is.measures;
@@ -134,5 +160,22 @@ IsDraft-word draft fields Node is follows goes_on accepted = record {
   named = omega (arith, before-Node draft.last follows, is.named);
   some = simp length-append (omega arith);
   nodes = AreNodes-push draft.nodes (node_of_fields draft.version draft.nodes fields) is.nodes (IsNextNode-line draft fields (IsAccepted-from draft fields Node accepted));
+  viewed = no_views draft.last Node draft.dims draft.views follows refl is.viewed;
+  views = is.views;
 }
+IsDraft-word draft fields View is follows goes_on accepted =
+    let line = IsAccepted-from draft fields View accepted in
+    let before = before-End draft.last draft.nodes draft.dims draft.views (sym (View-like-End draft.last) ∙ follows) is.some is.viewed in
+    record {
+      measures = is.measures;
+      kinds = is.kinds;
+      measure_names = is.measure_names;
+      names = is.names;
+      few = is.few;
+      named = simp length-append (omega (arith, before.0, is.named));
+      some = refl;
+      nodes = AreNodes-none;
+      viewed = simp length-append (omega (arith, before.1));
+      views = AreViews-line draft fields line is.views;
+    }
 IsDraft-word draft fields End is follows goes_on accepted = absurd (goes_on refl)

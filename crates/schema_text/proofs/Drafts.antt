@@ -9,10 +9,11 @@ use Rattle.std.proofs.lemmas.List.Quantifiers.{all_pairs_push}
 use Rattle.std.proofs.lemmas.Slice.Eq.{bytes_eq-Decides}
 use Rattle.cube_base.specs.Name.{is_name}
 use Rattle.cube_model.specs.Tree.{Dimension, Entry}
+use Rattle.region_algebra.specs.declared.view_def.ViewDef.{ViewDef}
 use Rattle.schema_text.specs.declared.word.SchemaWord.{SchemaWord}
-use Rattle.schema_text.specs.declared.word.SchemaWord.TheVariants.{Cube, Policy, Number, Parts, Dimension as DimensionWord, Node, End}
+use Rattle.schema_text.specs.declared.word.SchemaWord.TheVariants.{Cube, Policy, Number, Parts, Dimension as DimensionWord, Node, View, End}
 use Rattle.schema_text.specs.Schema.{AreNames}
-use Rattle.schema_text.specs.Draft.{HasNodes, open_count}
+use Rattle.schema_text.specs.Draft.{HasNodes, HasViews, open_count}
 use Rattle.schema_text.specs.SchemaText.{ended, is_among_names, is_wrong_depth, is_wrong_name, may_follow}
 
 -- what a name that is not wrong is
@@ -51,6 +52,7 @@ before-Cube (Some Number) nodes e has = cc
 before-Cube (Some Parts) nodes e has = cc
 before-Cube (Some DimensionWord) nodes e has = cc
 before-Cube (Some Node) nodes e has = cc
+before-Cube (Some View) nodes e has = cc
 before-Cube (Some End) nodes e has = cc
 
 pub before-Policy : (last : Option SchemaWord) (nodes : Dimension) → may_follow last Policy ≡ true → HasNodes last nodes → (open_count last ≡ 0) × (nodes ≡ [])
@@ -61,6 +63,7 @@ before-Policy (Some Number) nodes e has = cc
 before-Policy (Some Parts) nodes e has = cc
 before-Policy (Some DimensionWord) nodes e has = cc
 before-Policy (Some Node) nodes e has = cc
+before-Policy (Some View) nodes e has = cc
 before-Policy (Some End) nodes e has = cc
 
 pub before-Number : (last : Option SchemaWord) (nodes : Dimension) → may_follow last Number ≡ true → HasNodes last nodes → (open_count last ≡ 0) × (nodes ≡ [])
@@ -71,6 +74,7 @@ before-Number (Some Number) nodes e has = (refl, has)
 before-Number (Some Parts) nodes e has = (refl, has)
 before-Number (Some DimensionWord) nodes e has = cc
 before-Number (Some Node) nodes e has = cc
+before-Number (Some View) nodes e has = cc
 before-Number (Some End) nodes e has = cc
 
 -- both words of measures follow the same words
@@ -82,6 +86,7 @@ Parts-like-Number (Some Number) = refl
 Parts-like-Number (Some Parts) = refl
 Parts-like-Number (Some DimensionWord) = refl
 Parts-like-Number (Some Node) = refl
+Parts-like-Number (Some View) = refl
 Parts-like-Number (Some End) = refl
 
 length-ended : (nodes : Dimension) → 1 ≤ length nodes → length (ended nodes) ≡ 1
@@ -96,6 +101,7 @@ before-Dimension (Some Number) nodes e has = ap (λ l. length (ended l)) has
 before-Dimension (Some Parts) nodes e has = ap (λ l. length (ended l)) has
 before-Dimension (Some DimensionWord) nodes e has = cc
 before-Dimension (Some Node) nodes e has = length-ended nodes has
+before-Dimension (Some View) nodes e has = cc
 before-Dimension (Some End) nodes e has = cc
 
 pub before-Node : (last : Option SchemaWord) → may_follow last Node ≡ true → open_count last ≡ 1
@@ -106,18 +112,49 @@ before-Node (Some Number) e = cc
 before-Node (Some Parts) e = cc
 before-Node (Some DimensionWord) e = refl
 before-Node (Some Node) e = refl
+before-Node (Some View) e = cc
 before-Node (Some End) e = cc
 
--- the nodes of the last dimension are there before `end`
-pub before-End : (last : Option SchemaWord) (nodes : Dimension) → may_follow last End ≡ true → HasNodes last nodes → 1 ≤ length nodes
-before-End None nodes e has = cc
-before-End (Some Cube) nodes e has = cc
-before-End (Some Policy) nodes e has = cc
-before-End (Some Number) nodes e has = cc
-before-End (Some Parts) nodes e has = cc
-before-End (Some DimensionWord) nodes e has = cc
-before-End (Some Node) nodes e has = has
-before-End (Some End) nodes e has = cc
+-- a view and `end` follow the same words
+pub View-like-End : (last : Option SchemaWord) → may_follow last View ≡ may_follow last End
+View-like-End None = refl
+View-like-End (Some Cube) = refl
+View-like-End (Some Policy) = refl
+View-like-End (Some Number) = refl
+View-like-End (Some Parts) = refl
+View-like-End (Some DimensionWord) = refl
+View-like-End (Some Node) = refl
+View-like-End (Some View) = refl
+View-like-End (Some End) = refl
+
+-- the last dimension ends before them, if it has not, and one is there
+pub before-End : (last : Option SchemaWord) (nodes : Dimension) (dims : List Dimension) (views : List ViewDef) → may_follow last End ≡ true → HasNodes last nodes → HasViews last dims views
+    → (length (ended nodes) ≡ open_count last) × (1 ≤ length dims + length (ended nodes))
+before-End None nodes dims views e has viewed = cc
+before-End (Some Cube) nodes dims views e has viewed = cc
+before-End (Some Policy) nodes dims views e has viewed = cc
+before-End (Some Number) nodes dims views e has viewed = cc
+before-End (Some Parts) nodes dims views e has viewed = cc
+before-End (Some DimensionWord) nodes dims views e has viewed = cc
+before-End (Some Node) nodes dims views e has viewed =
+    let one = length-ended nodes has in
+    (one, omega (arith, one))
+before-End (Some View) nodes dims views e has viewed =
+    let none : length (ended nodes) ≡ 0 = ap (λ l. length (ended l)) has in
+    (none, omega (arith, viewed))
+before-End (Some End) nodes dims views e has viewed = cc
+
+-- no view stands before a word that may not follow one
+pub no_views : (last : Option SchemaWord) (word : SchemaWord) (dims : List Dimension) (views : List ViewDef) → may_follow last word ≡ true → may_follow (Some View) word ≡ false → HasViews last dims views → views ≡ []
+no_views None word dims views e other has = has
+no_views (Some Cube) word dims views e other has = has
+no_views (Some Policy) word dims views e other has = has
+no_views (Some Number) word dims views e other has = has
+no_views (Some Parts) word dims views e other has = has
+no_views (Some DimensionWord) word dims views e other has = has
+no_views (Some Node) word dims views e other has = has
+no_views (Some View) word dims views e other has = cc
+no_views (Some End) word dims views e other has = has
 
 -- the depth of a node behind the last
 abbrev pub wrong_after : Option Entry → ℕ → Bool

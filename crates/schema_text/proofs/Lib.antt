@@ -9,9 +9,12 @@ pub mod MeasuresMore
 pub mod Names
 pub mod NodesAgain
 pub mod NodesMore
+pub mod NumbersRead
 pub mod Outcomes
 pub mod Policies
 pub mod Reading
 pub mod ReadsAgain
+pub mod ViewsAgain
+pub mod ViewsMore
 pub mod Writing
 pub mod WrittenLines

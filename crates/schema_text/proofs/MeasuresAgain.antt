@@ -22,7 +22,7 @@ use Rattle.fact_records.specs.declared.shape.Measure.{Measure}
 use Rattle.fact_records.specs.Shape.{AreInOrder, width_of, width_of_all}
 use Rattle.schema_text.specs.declared.policy.NamedPolicy.{NamedPolicy}
 use Rattle.schema_text.specs.declared.word.SchemaWord.{SchemaWord}
-use Rattle.schema_text.specs.declared.word.SchemaWord.TheVariants.{Cube, Policy, Number, Parts, Dimension as DimensionWord, Node, End}
+use Rattle.schema_text.specs.declared.word.SchemaWord.TheVariants.{Cube, Policy, Number, Parts, Dimension as DimensionWord, Node, View, End}
 use Rattle.schema_text.specs.declared.word.Version.{Version}
 use Rattle.schema_text.specs.Schema.{AreNames, IsDistribution, IsKind, MAX_SCALE, MIN_SCALE}
 use Rattle.schema_text.specs.SchemaText.{Draft, has_wrong_names, is_wrong_name, kind_line, may_follow, measure_behind, measure_line}
@@ -70,7 +70,7 @@ measure_behind-same before m first = ap (λ (c : ℕ). record { name = m.name; k
 
 -- a draft with measures and no dimension
 abbrev pub measured : Version → NamedPolicy → SchemaWord → List Measure → Draft
-measured version policy last measures = record { last = Some last; version = version; policy = policy; measures = measures; names = []; dims = []; nodes = [] }
+measured version policy last measures = record { last = Some last; version = version; policy = policy; measures = measures; names = []; dims = []; nodes = []; views = [] }
 
 next-number : (version : Version) (policy : NamedPolicy) (last : SchemaWord) (before : List Measure) (name : List ℕ) → may_follow (Some last) Number ≡ true → is_wrong_name name (names_of before) ≡ false
     → width_of_all before + 1 ≤ MAX_COLS → IsNext (measured version policy last before) (codes "number") (name ∷ []) Number
@@ -98,6 +98,7 @@ Parts-follows Number follows = refl
 Parts-follows Parts follows = refl
 Parts-follows DimensionWord follows = cc
 Parts-follows Node follows = cc
+Parts-follows View follows = cc
 Parts-follows End follows = cc
 
 next-parts : (version : Version) (policy : NamedPolicy) (last : SchemaWord) (before : List Measure) (name : List ℕ) (scale : ℕ) (outcomes : List (List ℕ)) → may_follow (Some last) Number ≡ true → is_wrong_name name (names_of before) ≡ false

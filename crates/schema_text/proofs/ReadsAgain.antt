@@ -11,6 +11,7 @@ use Rattle.text_lines.specs.Text.{line_text}
 use Rattle.cube_model.specs.Tree.{Dimension, is_numbered}
 use Rattle.text_lines.proofs.Ascii.{ascii_is_utf8}
 use Rattle.cube_model.specs.Limits.{MAX_DIMS, SPACE_LIMIT}
+use Rattle.region_algebra.specs.declared.view_def.ViewDef.{ViewDef}
 use Rattle.region_algebra.specs.Fault.{space_fault}
 use Rattle.region_algebra.specs.Space.{cell_total, region_total}
 use Rattle.region_algebra.specs.declared.space.SpaceFault.TheVariants.{Dims, Cells, Nodes}
@@ -26,10 +27,10 @@ use Rattle.schema_text.specs.declared.policy.NamedPolicy.TheVariants as named_po
 use Rattle.schema_text.specs.declared.word.Version.{Version}
 use Rattle.schema_text.specs.declared.word.Version.TheVariants.{One, Two}
 use Rattle.schema_text.specs.declared.word.SchemaWord.{SchemaWord}
-use Rattle.schema_text.specs.declared.word.SchemaWord.TheVariants.{Cube, Policy, Dimension as DimensionWord, Node, End}
+use Rattle.schema_text.specs.declared.word.SchemaWord.TheVariants.{Cube, Policy, Dimension as DimensionWord, Node, View, End}
 use Rattle.schema_text.specs.Draft.{end_fault}
-use Rattle.schema_text.specs.Schema.{IsSchema, SchemaValue, weight_of}
-use Rattle.schema_text.specs.SchemaText.{Draft, are_places_from, blank_draft, dims_of, dims_text, ended, fields_fault, may_follow, measure_line, measure_name, policy_among, policy_fields, policy_line, schema_of, schema_of_draft, schema_text, version_named, version_of, version_text, with_word}
+use Rattle.schema_text.specs.Schema.{AreViews, IsSchema, SchemaValue, weight_of}
+use Rattle.schema_text.specs.SchemaText.{Draft, are_places_from, blank_draft, dims_of, dims_text, ended, fields_fault, may_follow, measure_line, measure_name, policy_among, policy_fields, policy_line, schema_of, schema_of_draft, schema_text, version_named, version_of, version_text, view_line, with_word}
 use Rattle.text_lines.proofs.Cuts.{after_line-cut, lines_of-cut}
 use Rattle.schema_text.proofs.Reading.{IsCut, IsRead, IsRead-none, schema_of-accepted, schema_of-end}
 use Rattle.schema_text.proofs.WrittenLines.{IsField, IsField-name, IsNext, IsPlain, IsPlain-fields, IsRead-next}
@@ -37,6 +38,7 @@ use Rattle.schema_text.proofs.MeasuresAgain.{AreNames-measures, last_measure, me
 use Rattle.schema_text.proofs.NodesAgain.{IsWritable}
 use Rattle.schema_text.proofs.Policies.{IsWeighable-measure, number_measure-found}
 use Rattle.schema_text.proofs.DimsAgain.{last_dims, last_dims-some, read_dims}
+use Rattle.schema_text.proofs.ViewsAgain.{read_views}
 
 is_field : (bytes : List ℕ) → list_all is_name_byte bytes ≡ true → list_all (λ b. nat_lt b 128) bytes ≡ true → length bytes ≤ 128 → IsField bytes
 is_field bytes bytes_are ascii short = record { bytes_are = bytes_are; utf8 = ascii_is_utf8 bytes ascii; short = short }
@@ -76,7 +78,7 @@ HasName measures (policy_word.Weight i) = is_name (measure_name measures i) ≡ 
 
 -- a draft behind the line of the version
 abbrev pub versioned : Version → Draft
-versioned version = record { last = Some Cube; version = version; policy = named_policy.Uniform; measures = []; names = []; dims = []; nodes = [] }
+versioned version = record { last = Some Cube; version = version; policy = named_policy.Uniform; measures = []; names = []; dims = []; nodes = []; views = [] }
 
 policy_plain : (fields : List (List ℕ)) → All IsField fields → length fields ≤ 9 → IsPlain (codes "policy") fields
 policy_plain fields are few = IsPlain-fields (codes "policy") fields (is_field (codes "policy") refl refl (lit≤ tt)) are few
@@ -145,9 +147,8 @@ may_follow-dims (m ∷ measures) = behind m.kind measures
     behind (kind.Parts scale outcomes) [] = refl
     behind of_kind (m ∷ measures) = behind m.kind measures
 
-end_accepted : (draft : Draft) → draft.last ≡ Some Node → list_all is_numbered (ended draft.nodes) ≡ true → is_none (policy_among draft.measures draft.policy) ≡ false → space_fault (dims_of draft) ≡ None → end_fault draft ≡ None
-end_accepted draft last numbered placed accepted =
-    let follows : may_follow draft.last End ≡ true = ap (λ l. may_follow l End) last in
+end_accepted : (draft : Draft) → may_follow draft.last End ≡ true → list_all is_numbered (ended draft.nodes) ≡ true → is_none (policy_among draft.measures draft.policy) ≡ false → space_fault (dims_of draft) ≡ None → end_fault draft ≡ None
+end_accepted draft follows numbered placed accepted =
     rw (follows, numbered, placed) (totals (eqb (length (dims_of draft)) 0 || ltb MAX_DIMS (length (dims_of draft))) (nat_le SPACE_LIMIT (cell_total (dims_of draft))) (nat_le SPACE_LIMIT (region_total (dims_of draft))) (length (dims_of draft)) accepted)
   where
     totals : (wrong cells regions : Bool) (n : ℕ) → (if wrong then Some (Dims n) else (if cells then Some Cells else (if regions then Some Nodes else None))) ≡ None
@@ -181,21 +182,22 @@ read_end text draft lines rest behind is parts accepted =
 
 -- The text of a schema, with anything behind it, is read as that schema and takes its length.
 
-five : (a b c d e f : List ℕ) → ((((a ++ b) ++ c) ++ d) ++ e) ++ f ≡ a ++ (b ++ (c ++ (d ++ (e ++ f))))
-five a b c d e f = simp append_assoc
+six : (a b c d e f g : List ℕ) → (((((a ++ b) ++ c) ++ d) ++ e) ++ f) ++ g ≡ a ++ (b ++ (c ++ (d ++ (e ++ (f ++ g)))))
+six a b c d e f g = simp append_assoc
 
 text_parts : (s : SchemaValue) (behind : List ℕ) → schema_text s ++ behind ≡ line_text (codes "cube") (version_text (version_of s.dims) ∷ []) ++ (policy_line s.measures s.policy
-    ++ (flat_map measure_line s.measures ++ (dims_text (version_of s.dims) s.names s.dims ++ (line_text (codes "end") [] ++ behind))))
+    ++ (flat_map measure_line s.measures ++ (dims_text (version_of s.dims) s.names s.dims ++ (flat_map view_line s.views ++ (line_text (codes "end") [] ++ behind)))))
 unfolding schema_text
 text_parts s behind =
-    five (line_text (codes "cube") (version_text (version_of s.dims) ∷ [])) (policy_line s.measures s.policy) (flat_map measure_line s.measures) (dims_text (version_of s.dims) s.names s.dims) (line_text (codes "end") []) behind
+    six (line_text (codes "cube") (version_text (version_of s.dims) ∷ [])) (policy_line s.measures s.policy) (flat_map measure_line s.measures) (dims_text (version_of s.dims) s.names s.dims) (flat_map view_line s.views) (line_text (codes "end") []) behind
 
-schema-same : (s : SchemaValue) (draft : Draft) → policy_among draft.measures draft.policy ≡ Some s.policy → draft.measures ≡ s.measures → draft.names ≡ s.names → dims_of draft ≡ s.dims → schema_of_draft draft ≡ s
-schema-same s draft policy measures names dims =
-    ap (λ (p : Option PolicyWord). record { policy = unwrap_or p policy_word.Uniform; measures = draft.measures; names = draft.names; dims = dims_of draft }) policy
-    ∙ ap (λ (m : List Measure). record { policy = s.policy; measures = m; names = draft.names; dims = dims_of draft }) measures
-    ∙ ap (λ (n : List (List ℕ)). record { policy = s.policy; measures = s.measures; names = n; dims = dims_of draft }) names
-    ∙ ap (λ (d : List Dimension). record { policy = s.policy; measures = s.measures; names = s.names; dims = d }) dims
+schema-same : (s : SchemaValue) (draft : Draft) → policy_among draft.measures draft.policy ≡ Some s.policy → draft.measures ≡ s.measures → draft.names ≡ s.names → dims_of draft ≡ s.dims → draft.views ≡ s.views → schema_of_draft draft ≡ s
+schema-same s draft policy measures names dims views =
+    ap (λ (p : Option PolicyWord). record { policy = unwrap_or p policy_word.Uniform; measures = draft.measures; names = draft.names; dims = dims_of draft; views = draft.views }) policy
+    ∙ ap (λ (m : List Measure). record { policy = s.policy; measures = m; names = draft.names; dims = dims_of draft; views = draft.views }) measures
+    ∙ ap (λ (n : List (List ℕ)). record { policy = s.policy; measures = s.measures; names = n; dims = dims_of draft; views = draft.views }) names
+    ∙ ap (λ (d : List Dimension). record { policy = s.policy; measures = s.measures; names = s.names; dims = d; views = draft.views }) dims
+    ∙ ap (λ (v : List ViewDef). record { policy = s.policy; measures = s.measures; names = s.names; dims = s.dims; views = v }) views
 
 -- each dimension may be written in the version of the text
 AreWritable : (dims : List Dimension) → All (IsWritable (version_of dims)) dims
@@ -220,7 +222,8 @@ reads_again s is behind =
     let text = schema_text s ++ behind in
     let version = version_of s.dims in
     let policy = by_name s.measures s.policy in
-    let dims_behind = line_text (codes "end") [] ++ behind in
+    let views_behind = line_text (codes "end") [] ++ behind in
+    let dims_behind = flat_map view_line s.views ++ views_behind in
     let measures_behind = dims_text version s.names s.dims ++ dims_behind in
     let dims = some_dims s.dims is.space in
     let head = read_head text version s.measures s.policy (flat_map measure_line s.measures ++ measures_behind) (HasName-measures s.measures s.policy is.shape.weight is.measure_names) (text_parts s behind) in
@@ -229,12 +232,17 @@ reads_again s is behind =
     let draft = measured version policy (last_measure Policy s.measures) s.measures in
     let ended_at = read_dims text draft s.names s.dims (2 + length s.measures) measures_behind dims_behind measures refl is.named (may_follow-dims s.measures) refl is.dim_names (omega (arith, is.named, dims.1)) is.trees (AreWritable s.dims) in
     let found = policy-found s.measures s.policy is.shape.weight is.shape.measures.distinct in
-    let placed : policy_among ended_at.next.measures ended_at.next.policy ≡ Some s.policy = rw (ended_at.measures, ended_at.policy) found in
-    let some : is_none (policy_among ended_at.next.measures ended_at.next.policy) ≡ false = ap is_none placed in
-    let same = schema-same s ended_at.next placed ended_at.measures ended_at.names_are ended_at.dims_are in
     let last = ended_at.last ∙ node_last (Some (last_measure Policy s.measures)) s.dims dims.0 in
-    let accepted = end_accepted ended_at.next last ended_at.numbered some (ap space_fault ended_at.dims_are ∙ is.space) in
+    let count : length ended_at.next.names ≡ length s.dims = ap length ended_at.names_are ∙ is.named in
+    let views : AreViews (length ended_at.next.names) (ended_at.next.views ++ s.views) = rw (count, ended_at.views) is.views in
+    let viewed = read_views text ended_at.next s.views ended_at.lines dims_behind views_behind ended_at.read refl (ap (λ l. may_follow l View) last) ended_at.numbered (omega (arith, count, dims.1)) views in
+    let measures_are = viewed.measures ∙ ended_at.measures in
+    let dims_are = viewed.dims_are ∙ ended_at.dims_are in
+    let placed : policy_among viewed.next.measures viewed.next.policy ≡ Some s.policy = rw (measures_are, viewed.policy, ended_at.policy) found in
+    let some : is_none (policy_among viewed.next.measures viewed.next.policy) ≡ false = ap is_none placed in
+    let same = schema-same s viewed.next placed measures_are (viewed.names_are ∙ ended_at.names_are) dims_are (viewed.views_are ∙ ap (λ l. l ++ s.views) ended_at.views) in
+    let accepted = end_accepted viewed.next viewed.follows viewed.numbered some (ap space_fault dims_are ∙ is.space) in
     let size : length text - length behind ≡ length (schema_text s) = omega (arith, length-append (schema_text s) behind) in
-    read_end text ended_at.next ended_at.lines dims_behind behind ended_at.read refl accepted
+    read_end text viewed.next viewed.lines views_behind behind viewed.read refl accepted
     ∙ ap (λ (v : SchemaValue). Ok (record { schema = v; size = length text - length behind })) same
     ∙ ap (λ (n : ℕ). Ok (record { schema = s; size = n })) size

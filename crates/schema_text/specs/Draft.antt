@@ -12,13 +12,14 @@ use Rattle.text_lines.specs.LineText.{field_at, is_clean, is_long, without_cr}
 use Rattle.text_lines.specs.Text.{fields_of}
 use Rattle.fact_records.specs.declared.shape.Measure.{Measure}
 use Rattle.fact_records.specs.Shape.{AreMeasures, width_of, width_of_all}
+use Rattle.region_algebra.specs.declared.view_def.ViewDef.{ViewDef}
 use Rattle.region_algebra.specs.Space.{cell_total, region_total}
 use Rattle.schema_text.specs.declared.word.SchemaWord.{SchemaWord}
-use Rattle.schema_text.specs.declared.word.SchemaWord.TheVariants.{Dimension as DimensionWord, Node, End}
+use Rattle.schema_text.specs.declared.word.SchemaWord.TheVariants.{Dimension as DimensionWord, Node, View, End}
 use Rattle.schema_text.specs.declared.word.Version.{Version}
 use Rattle.schema_text.specs.declared.word.Version.TheVariants.{One, Two}
-use Rattle.schema_text.specs.Schema.{AreNames, IsKind}
-use Rattle.schema_text.specs.SchemaText.{BadLine, Draft, ReadSchema, are_places_from, depth_of, dims_of, ended, has_wrong_names, is_weight_word, is_wrong_depth, is_wrong_name, may_follow, number_of, outcomes_of, policy_among, policy_named, scale_of, schema_of_draft, version_named, word_named}
+use Rattle.schema_text.specs.Schema.{AreNames, AreViews, IsKind, MAX_VIEWS}
+use Rattle.schema_text.specs.SchemaText.{BadLine, Draft, ReadSchema, are_places_from, depth_fields, depth_of, dims_of, ended, has_wrong_depths, has_wrong_names, is_weight_word, is_wrong_depth, is_wrong_name, may_follow, number_of, outcomes_of, policy_among, policy_named, scale_of, schema_of_draft, version_named, word_named}
 
 -- The nodes so far of a dimension.
 
@@ -98,6 +99,22 @@ dimension_fault names nodes fields =
     ∷ (not (list_all is_numbered (ended nodes)), code.Number)
     ∷ (nat_le MAX_DIMS (length names), code.Limit) ∷ [])
 
+-- why the name and the depths of a view of these fields are refused behind the views, and why a view is where the nodes end
+abbrev pub view_fields_fault : List ViewDef → List (List ℕ) → Option Code
+view_fields_fault views fields =
+    first_that_holds ((is_wrong_name (field_at fields 1) (map (λ v. v.name) views), code.Name) ∷ (has_wrong_depths (depth_fields fields), code.Number) ∷ [])
+
+abbrev pub view_fault : List ViewDef → Dimension → List (List ℕ) → Option Code
+view_fault views nodes fields =
+    first_that_holds
+    ((is_wrong_name (field_at fields 1) (map (λ v. v.name) views), code.Name)
+    ∷ (has_wrong_depths (depth_fields fields) || not (list_all is_numbered (ended nodes)), code.Number)
+    ∷ (nat_le MAX_VIEWS (length views), code.Limit) ∷ [])
+
+-- why a view more than these is refused
+abbrev pub room_fault : List ViewDef → Option Code
+room_fault views = first_that_holds ((nat_le MAX_VIEWS (length views), code.Limit) ∷ [])
+
 -- why the numbers of the dimension that ends here are refused
 abbrev pub ended_fault : Dimension → Option Code
 ended_fault nodes = if list_all is_numbered (ended nodes) then None else Some code.Number
@@ -126,6 +143,11 @@ abbrev pub HasNodes : Option SchemaWord → Dimension → Type 0
 HasNodes (Some Node) nodes = 1 ≤ length nodes
 HasNodes word nodes = nodes ≡ []
 
+-- behind the line of a view there are dimensions, and there alone views
+abbrev pub HasViews : Option SchemaWord → List Dimension → List ViewDef → Type 0
+HasViews (Some View) dims views = 1 ≤ length dims
+HasViews word dims views = views ≡ []
+
 -- a measure that may come next behind these
 pub record IsNextMeasure (before : List Measure) (measure : Measure) : Type 0 where
   pub name : is_wrong_name measure.name (map (λ m. m.name) before) ≡ false
@@ -144,6 +166,8 @@ pub record IsDraft (draft : Draft) : Type 0 where
   pub named : length draft.names ≡ length draft.dims + open_count draft.last
   pub some : HasNodes draft.last draft.nodes
   pub nodes : AreNodes draft.nodes
+  pub viewed : HasViews draft.last draft.dims draft.views
+  pub views : AreViews (length draft.names) draft.views
 
 -- why the line `end` is refused before the dimensions are looked at together, and why these are
 abbrev pub front_fault : Draft → Option Code

@@ -5,6 +5,7 @@ use Rattle.cube_model.specs.Tree.{Dimension}
 use Rattle.fact_records.specs.declared.shape.Kind.TheVariants as kind
 use Rattle.fact_records.specs.declared.shape.Measure.{Measure}
 use Rattle.text_lines.specs.Text.{line_text}
+use Rattle.region_algebra.specs.declared.view_def.ViewDef.{ViewDef}
 use Rattle.schema_text.specs.declared.word.PolicyWord.{PolicyWord}
 use Rattle.schema_text.specs.Schema.{SchemaValue}
 use Rattle.schema_text.specs.SchemaText.{schema_of}
@@ -50,6 +51,9 @@ node depth name = codes "node" ∷ depth ∷ name ∷ []
 abbrev pub numbered_node : List ℕ → List ℕ → List ℕ → Line
 numbered_node depth name number = codes "node" ∷ depth ∷ name ∷ number ∷ []
 
+abbrev pub view : List ℕ → Line → Line
+view name depths = codes "view" ∷ name ∷ depths
+
 abbrev pub end : Line
 end = codes "end" ∷ []
 
@@ -60,6 +64,10 @@ small = dimension ∷ node (codes "0") (codes "a") ∷ end ∷ []
 -- measures behind a policy, with a small dimension
 abbrev pub measured : Line → List Line → List Line
 measured of_policy measures = version (codes "1") ∷ of_policy ∷ measures ++ small
+
+-- views of one node, in version 1
+abbrev pub viewed : List Line → List Line
+viewed views = version (codes "1") ∷ policy (codes "count") ∷ dimension ∷ node (codes "0") (codes "a") ∷ views ++ end ∷ []
 
 -- nodes of version 2 in one dimension
 abbrev pub with_nodes : List Line → List Line
@@ -72,9 +80,13 @@ one_node = record { depth = 0; name = codes "a"; number = 0 } ∷ []
 abbrev pub three_nodes : Dimension
 three_nodes = record { depth = 0; name = codes "a"; number = 0 } ∷ record { depth = 1; name = codes "b"; number = 2 } ∷ record { depth = 1; name = codes "c"; number = 1 } ∷ []
 
+-- a view of one dimension
+abbrev pub view_at : List ℕ → ℕ → ViewDef
+view_at name depth = record { name = name; depths = depth ∷ [] }
+
 -- a schema of one dimension
 abbrev pub of_dimension : PolicyWord → List Measure → Dimension → SchemaValue
-of_dimension of_policy measures dim = record { policy = of_policy; measures = measures; names = codes "D" ∷ []; dims = dim ∷ [] }
+of_dimension of_policy measures dim = record { policy = of_policy; measures = measures; names = codes "D" ∷ []; dims = dim ∷ []; views = [] }
 
 abbrev pub number_measure : List ℕ → ℕ → Measure
 number_measure name column = record { name = name; kind = kind.Number; first_col = column }

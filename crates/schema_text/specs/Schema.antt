@@ -1,23 +1,27 @@
 -- What a schema is.
-use Rattle.std.specs.Prelude.{◌≡◌, ◌≢◌, ℕ, ◌≤◌, List, length, All, AllPairs, Option, None, Some, true, ⊤}
+use Rattle.std.specs.Prelude.{◌≡◌, ◌≢◌, ℕ, ◌≤◌, List, length, map, position, All, AllPairs, Option, None, Some, true, ⊤}
+use Rattle.std.specs.Str.{bytes_eq}
 use Rattle.cube_base.specs.Name.{is_name}
 use Rattle.cube_model.specs.declared.statistic.CellStat.{CellStat}
 use Rattle.cube_model.specs.Allocation.{Policy, weigh_count, weigh_evenly, weigh_sum}
+use Rattle.cube_model.specs.Limits.{MAX_DEPTH}
 use Rattle.cube_model.specs.Tree.{Dimension, IsTree}
 use Rattle.fact_records.specs.declared.shape.Kind.{Kind}
 use Rattle.fact_records.specs.declared.shape.Kind.TheVariants.{Number, Parts}
 use Rattle.fact_records.specs.declared.shape.Measure.{Measure}
 use Rattle.fact_records.specs.Shape.{IsShape, ShapeValue, policy_over}
+use Rattle.region_algebra.specs.declared.view_def.ViewDef.{ViewDef}
 use Rattle.region_algebra.specs.Fault.{space_fault}
 use Rattle.schema_text.specs.declared.word.PolicyWord.{PolicyWord}
 use Rattle.schema_text.specs.declared.word.PolicyWord.TheVariants.{Uniform, Count, Weight}
 
--- a policy, measures, and named dimensions
+-- a policy, measures, named dimensions, and views of them
 pub record SchemaValue : Type 0 where
   pub policy : PolicyWord
   pub measures : List Measure
   pub names : List (List ℕ)
   pub dims : List Dimension
+  pub views : List ViewDef
 
 -- the place of the measure by whose sum cells weigh, if they do
 abbrev pub weight_of : PolicyWord → Option ℕ
@@ -68,7 +72,22 @@ abbrev pub IsKind : Kind → Type 0
 IsKind Number = ⊤
 IsKind (Parts scale outcomes) = IsDistribution scale outcomes
 
--- The measures have names and are of a kind that a schema may give, the names of the dimensions are distinct names, and the dimensions are a space.
+-- the most views
+abbrev pub MAX_VIEWS : ℕ
+MAX_VIEWS = 4
+
+-- views of so many dimensions: distinct names, and in each view a depth for each dimension
+pub record AreViews (count : ℕ) (views : List ViewDef) : Type 0 where
+  pub few : length views ≤ MAX_VIEWS
+  pub names : AreNames (map (λ v. v.name) views)
+  pub depths : All (λ v. length v.depths ≡ count) views
+  pub shallow : All (λ v. All (λ depth. depth ≤ MAX_DEPTH) v.depths) views
+
+-- the place of the view of a name
+abbrev pub view_named : List ViewDef → List ℕ → Option ℕ
+view_named views name = position (λ v. bytes_eq v.name name) views
+
+-- The measures have names and are of a kind that a schema may give, the names of the dimensions are distinct names, the dimensions are a space, and the views are views of it.
 pub record IsSchema (schema : SchemaValue) : Type 0 where
   pub shape : IsShape (shape_of schema)
   pub kinds : All (λ m. IsKind m.kind) schema.measures
@@ -77,6 +96,7 @@ pub record IsSchema (schema : SchemaValue) : Type 0 where
   pub named : length schema.names ≡ length schema.dims
   pub trees : All IsTree schema.dims
   pub space : space_fault schema.dims ≡ None
+  pub views : AreViews (length schema.dims) schema.views
 
 -- the schema over other dimensions
 abbrev pub over_dims : SchemaValue → List Dimension → SchemaValue

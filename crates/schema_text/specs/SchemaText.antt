@@ -17,16 +17,17 @@ use Rattle.fact_records.specs.declared.shape.Kind.TheVariants as kind
 use Rattle.fact_records.specs.declared.shape.Measure.{Measure}
 use Rattle.fact_records.specs.Fields.{is_number_measure}
 use Rattle.fact_records.specs.Shape.{width_of_all}
+use Rattle.region_algebra.specs.declared.view_def.ViewDef.{ViewDef}
 use Rattle.region_algebra.specs.Space.{cell_total, region_total}
 use Rattle.schema_text.specs.declared.word.SchemaWord.{SchemaWord}
-use Rattle.schema_text.specs.declared.word.SchemaWord.TheVariants.{Cube, Policy, Number, Parts, Dimension as DimensionWord, Node, End}
+use Rattle.schema_text.specs.declared.word.SchemaWord.TheVariants.{Cube, Policy, Number, Parts, Dimension as DimensionWord, Node, View, End}
 use Rattle.schema_text.specs.declared.policy.NamedPolicy.{NamedPolicy}
 use Rattle.schema_text.specs.declared.policy.NamedPolicy.TheVariants.{Uniform, Count, Weight}
 use Rattle.schema_text.specs.declared.word.PolicyWord.{PolicyWord}
 use Rattle.schema_text.specs.declared.word.PolicyWord.TheVariants as policy_word
 use Rattle.schema_text.specs.declared.word.Version.{Version}
 use Rattle.schema_text.specs.declared.word.Version.TheVariants.{One, Two}
-use Rattle.schema_text.specs.Schema.{MAX_SCALE, MIN_SCALE, SchemaValue}
+use Rattle.schema_text.specs.Schema.{MAX_SCALE, MAX_VIEWS, MIN_SCALE, SchemaValue}
 
 -- the greatest number of a node
 abbrev pub MAX_NUMBER : ℕ
@@ -41,7 +42,8 @@ word_named bytes =
     else (if bytes_eq bytes (codes "parts") then Some Parts
     else (if bytes_eq bytes (codes "dimension") then Some DimensionWord
     else (if bytes_eq bytes (codes "node") then Some Node
-    else (if bytes_eq bytes (codes "end") then Some End else None))))))
+    else (if bytes_eq bytes (codes "view") then Some View
+    else (if bytes_eq bytes (codes "end") then Some End else None)))))))
 
 -- the version that bytes name
 abbrev pub version_named : List ℕ → Option Version
@@ -84,11 +86,19 @@ may_follow (Some Parts) DimensionWord = true
 may_follow (Some DimensionWord) Node = true
 may_follow (Some Node) Node = true
 may_follow (Some Node) DimensionWord = true
+may_follow (Some Node) View = true
 may_follow (Some Node) End = true
+may_follow (Some View) View = true
+may_follow (Some View) End = true
 may_follow before word = false
 
--- A schema while its lines are read: the word of the last line, what the lines said, the dimensions that are ended, and
--- the nodes so far of the dimension that was named last.
+-- a word is that of a node's line
+abbrev pub is_node_word : Option SchemaWord → Bool
+is_node_word (Some Node) = true
+is_node_word word = false
+
+-- A schema while its lines are read: the word of the last line, what the lines said, the dimensions that are ended, the
+-- nodes so far of the dimension that was named last, and the views.
 pub record Draft : Type 0 where
   pub last : Option SchemaWord
   pub version : Version
@@ -97,10 +107,11 @@ pub record Draft : Type 0 where
   pub names : List (List ℕ)
   pub dims : List Dimension
   pub nodes : Dimension
+  pub views : List ViewDef
 
 -- before the first line
 abbrev pub blank_draft : Draft
-blank_draft = record { last = None; version = One; policy = Uniform; measures = []; names = []; dims = []; nodes = [] }
+blank_draft = record { last = None; version = One; policy = Uniform; measures = []; names = []; dims = []; nodes = []; views = [] }
 
 -- the dimension of these nodes, where there are any
 abbrev pub ended : Dimension → List Dimension
@@ -153,6 +164,21 @@ abbrev pub number_of : Version → Dimension → List (List ℕ) → Option ℕ
 number_of One nodes fields = Some (length nodes)
 number_of Two nodes fields = option_and_then (free_number nodes) (number_in 0 MAX_NUMBER (field_at fields 3))
 
+-- a depth that a field spells, and the fields of a view's depths
+abbrev pub depth_in : List ℕ → Option ℕ
+depth_in field = number_in 0 MAX_DEPTH field
+
+abbrev pub depth_fields : List (List ℕ) → List (List ℕ)
+depth_fields fields = drop 2 fields
+
+-- one of these fields spells no depth
+abbrev pub has_wrong_depths : List (List ℕ) → Bool
+has_wrong_depths fields = list_any (λ field. is_none (depth_in field)) fields
+
+-- the depths that they spell
+abbrev pub depths_in : List (List ℕ) → List ℕ
+depths_in fields = map (λ field. unwrap_or (depth_in field) 0) fields
+
 -- how many fields the line of a policy of this word has, and that of a node
 abbrev pub policy_field_count : List ℕ → ℕ
 policy_field_count word = if is_weight_word word then 3 else 2
@@ -163,15 +189,16 @@ node_field_count Two = 4
 
 -- Conditions on a line of a word.
 
--- the number of fields may not be this one
-abbrev pub has_wrong_count : Version → List (List ℕ) → SchemaWord → Bool
-has_wrong_count version fields Cube = not (length fields == 2)
-has_wrong_count version fields Policy = not (length fields == policy_field_count (field_at fields 1))
-has_wrong_count version fields Number = not (length fields == 2)
-has_wrong_count version fields Parts = nat_lt (length fields) 5 || nat_lt 10 (length fields)
-has_wrong_count version fields DimensionWord = not (length fields == 2)
-has_wrong_count version fields Node = not (length fields == node_field_count version)
-has_wrong_count version fields End = not (length fields == 1)
+-- the number of fields may not be this one, where so many dimensions are named
+abbrev pub has_wrong_count : Version → ℕ → List (List ℕ) → SchemaWord → Bool
+has_wrong_count version dims fields Cube = not (length fields == 2)
+has_wrong_count version dims fields Policy = not (length fields == policy_field_count (field_at fields 1))
+has_wrong_count version dims fields Number = not (length fields == 2)
+has_wrong_count version dims fields Parts = nat_lt (length fields) 5 || nat_lt 10 (length fields)
+has_wrong_count version dims fields DimensionWord = not (length fields == 2)
+has_wrong_count version dims fields Node = not (length fields == node_field_count version)
+has_wrong_count version dims fields View = not (length fields == dims + 2)
+has_wrong_count version dims fields End = not (length fields == 1)
 
 abbrev pub has_wrong_name : Draft → List (List ℕ) → SchemaWord → Bool
 has_wrong_name draft fields Policy = is_weight_word (field_at fields 1) && not (is_name (field_at fields 2))
@@ -179,6 +206,7 @@ has_wrong_name draft fields Number = is_wrong_name (field_at fields 1) (map (λ 
 has_wrong_name draft fields Parts = is_wrong_name (field_at fields 1) (map (λ m. m.name) draft.measures) || has_wrong_names [] (outcomes_of fields)
 has_wrong_name draft fields DimensionWord = is_wrong_name (field_at fields 1) draft.names
 has_wrong_name draft fields Node = is_wrong_name (field_at fields 2) (map (λ n. n.name) draft.nodes)
+has_wrong_name draft fields View = is_wrong_name (field_at fields 1) (map (λ v. v.name) draft.views)
 has_wrong_name draft fields word = false
 
 abbrev pub has_wrong_policy : Draft → List (List ℕ) → SchemaWord → Bool
@@ -191,6 +219,7 @@ has_wrong_number draft fields Cube = is_none (version_named (field_at fields 1))
 has_wrong_number draft fields Parts = is_none (scale_of fields)
 has_wrong_number draft fields Node = is_none (depth_of fields) || is_none (number_of draft.version draft.nodes fields)
 has_wrong_number draft fields DimensionWord = not (list_all is_numbered (ended draft.nodes))
+has_wrong_number draft fields View = has_wrong_depths (depth_fields fields) || not (list_all is_numbered (ended draft.nodes))
 has_wrong_number draft fields End = not (list_all is_numbered (ended draft.nodes))
 has_wrong_number draft fields word = false
 
@@ -198,12 +227,13 @@ abbrev pub has_wrong_depth : Draft → List (List ℕ) → SchemaWord → Bool
 has_wrong_depth draft fields Node = option_map_or (is_wrong_depth draft.nodes) (depth_of fields) false
 has_wrong_depth draft fields word = false
 
--- the line would pass a limit: a column beyond seven beside the count, a seventh dimension, or a node too many
+-- the line would pass a limit: a column beyond seven beside the count, a seventh dimension, a node too many, or a fifth view
 abbrev pub has_no_room : Draft → List (List ℕ) → SchemaWord → Bool
 has_no_room draft fields Number = nat_lt MAX_COLS (width_of_all draft.measures + 1)
 has_no_room draft fields Parts = nat_lt MAX_COLS (width_of_all draft.measures + length (outcomes_of fields))
 has_no_room draft fields DimensionWord = nat_le MAX_DIMS (length draft.names)
 has_no_room draft fields Node = nat_le MAX_NODES (length draft.nodes)
+has_no_room draft fields View = nat_le MAX_VIEWS (length draft.views)
 has_no_room draft fields word = false
 
 -- at the end no number measure has the name that the policy gives
@@ -222,7 +252,7 @@ has_many_regions draft fields word = false
 -- the conditions that refuse a line of a word that may stand here, in their order
 abbrev pub word_conditions : Draft → List (List ℕ) → SchemaWord → List (Bool × Code)
 word_conditions draft fields word =
-    (has_wrong_count draft.version fields word, code.Fields)
+    (has_wrong_count draft.version (length draft.names) fields word, code.Fields)
     ∷ (has_wrong_name draft fields word, code.Name)
     ∷ (has_wrong_policy draft fields word, code.Policy)
     ∷ (has_wrong_number draft fields word, code.Number)
@@ -260,6 +290,10 @@ parts_kind fields = kind.Parts (unwrap_or (scale_of fields) 0) (outcomes_of fiel
 abbrev pub node_of_fields : Version → Dimension → List (List ℕ) → Entry
 node_of_fields version nodes fields = record { depth = unwrap_or (depth_of fields) 0; name = field_at fields 2; number = unwrap_or (number_of version nodes fields) 0 }
 
+-- the view of a line
+abbrev pub view_of_fields : List (List ℕ) → ViewDef
+view_of_fields fields = record { name = field_at fields 1; depths = depths_in (depth_fields fields) }
+
 -- what an accepted line of a word adds
 abbrev pub with_word : Draft → List (List ℕ) → SchemaWord → Draft
 with_word draft fields Cube = record draft { last = Some Cube; version = unwrap_or (version_named (field_at fields 1)) One }
@@ -268,6 +302,7 @@ with_word draft fields Number = record draft { last = Some Number; measures = dr
 with_word draft fields Parts = record draft { last = Some Parts; measures = draft.measures ++ measure_behind draft.measures (field_at fields 1) (parts_kind fields) ∷ [] }
 with_word draft fields DimensionWord = record draft { last = Some DimensionWord; names = draft.names ++ field_at fields 1 ∷ []; dims = dims_of draft; nodes = [] }
 with_word draft fields Node = record draft { last = Some Node; nodes = draft.nodes ++ node_of_fields draft.version draft.nodes fields ∷ [] }
+with_word draft fields View = record draft { last = Some View; dims = dims_of draft; nodes = []; views = draft.views ++ view_of_fields fields ∷ [] }
 with_word draft fields End = record draft { last = Some End }
 
 -- what an accepted line adds
@@ -276,7 +311,7 @@ with_line draft line = let fields = fields_of (without_cr line) in option_map_or
 
 -- the schema of a draft whose last line was accepted
 abbrev pub schema_of_draft : Draft → SchemaValue
-schema_of_draft draft = record { policy = unwrap_or (policy_among draft.measures draft.policy) policy_word.Uniform; measures = draft.measures; names = draft.names; dims = dims_of draft }
+schema_of_draft draft = record { policy = unwrap_or (policy_among draft.measures draft.policy) policy_word.Uniform; measures = draft.measures; names = draft.names; dims = dims_of draft; views = draft.views }
 
 -- the line that ends a schema
 abbrev pub is_end : List ℕ → Bool
@@ -347,7 +382,7 @@ abbrev pub number_fields : Version → ℕ → List (List ℕ)
 number_fields One number = []
 number_fields Two number = decimal number ∷ []
 
--- the lines of a policy, of a measure, of a node, and of dimensions with their nodes
+-- the lines of a policy, of a measure, of a node, of dimensions with their nodes, and of a view
 abbrev pub policy_line : List Measure → PolicyWord → List ℕ
 policy_line measures policy = line_text (codes "policy") (policy_fields measures policy)
 
@@ -361,6 +396,9 @@ abbrev pub dims_text : Version → List (List ℕ) → List Dimension → List �
 dims_text version (name ∷ names) (dim ∷ dims) = line_text (codes "dimension") (name ∷ []) ++ flat_map (node_line version) dim ++ dims_text version names dims
 dims_text version names dims = []
 
+abbrev pub view_line : ViewDef → List ℕ
+view_line view = line_text (codes "view") (view.name ∷ map decimal view.depths)
+
 -- the one text of a schema that is written: no skipped line, LF alone, in the order of the schema
 unfoldable pub schema_text : SchemaValue → List ℕ
 schema_text schema =
@@ -368,4 +406,5 @@ schema_text schema =
     ++ policy_line schema.measures schema.policy
     ++ flat_map measure_line schema.measures
     ++ dims_text (version_of schema.dims) schema.names schema.dims
+    ++ flat_map view_line schema.views
     ++ line_text (codes "end") []

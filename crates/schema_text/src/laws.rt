@@ -4,7 +4,7 @@ ghost use Rattle.std.specs.Prelude.{◌≡◌, ◌∷◌, ◌++◌, ◌<◌, [],
 ghost use Rattle.cube_base.specs.declared.code.Code.TheVariants as code;
 ghost use Rattle.text_lines.specs.LineText.{LINE_FRONT};
 ghost use Rattle.schema_text.specs.declared.word.PolicyWord.TheVariants as policy_word;
-ghost use Rattle.schema_text.specs.Examples.{IsRefused, Says, dimension, measured, node, number, number_measure, numbered_node, of_dimension, one_node, parts, parts_measure, policy, three_nodes, version, weight, with_nodes};
+ghost use Rattle.schema_text.specs.Examples.{IsRefused, Says, dimension, measured, node, number, number_measure, numbered_node, of_dimension, one_node, parts, parts_measure, policy, three_nodes, version, view, view_at, viewed, weight, with_nodes};
 ghost use Rattle.schema_text.specs.Schema.{IsSchema, SchemaValue};
 ghost use Rattle.schema_text.specs.SchemaText.{Draft, read_from, schema_of, schema_text};
 
@@ -54,4 +54,23 @@ pub fn worked_numbers()
     ensures name_first { IsRefused (with_nodes (numbered_node (codes "0") (codes "a") (codes "0") ∷ numbered_node (codes "1") (codes "a") (codes "0") ∷ [])) 5 code.Name }
     ensures number_of_the_root { IsRefused (with_nodes (numbered_node (codes "0") (codes "a") (codes "1") ∷ numbered_node (codes "1") (codes "b") (codes "0") ∷ [])) 6 code.Number }
     ensures number_not_below { IsRefused (with_nodes (numbered_node (codes "0") (codes "a") (codes "0") ∷ numbered_node (codes "1") (codes "b") (codes "2") ∷ [])) 6 code.Number }
+{}
+
+/// Views.
+pub fn worked_views()
+    ensures read { Says (viewed (view (codes "v") (codes "0" ∷ []) ∷ view (codes "w") (codes "8" ∷ []) ∷ []))
+        (record (of_dimension policy_word.Count [] one_node) { views = view_at (codes "v") 0 ∷ view_at (codes "w") 8 ∷ [] }) }
+    ensures no_depth { IsRefused (viewed (view (codes "v") [] ∷ [])) 5 code.Fields }
+    ensures a_depth_more { IsRefused (viewed (view (codes "v") (codes "0" ∷ codes "0" ∷ []) ∷ [])) 5 code.Fields }
+    ensures empty_name { IsRefused (viewed (view [] (codes "9" ∷ []) ∷ [])) 5 code.Name }
+    ensures name_twice { IsRefused (viewed (view (codes "v") (codes "0" ∷ []) ∷ view (codes "v") (codes "9" ∷ []) ∷ [])) 6 code.Name }
+    ensures depth_above { IsRefused (viewed (view (codes "v") (codes "9" ∷ []) ∷ [])) 5 code.Number }
+    ensures depth_misspelled { IsRefused (viewed (view (codes "v") (codes "00" ∷ []) ∷ [])) 5 code.Number }
+    ensures fifth_view { IsRefused (viewed (view (codes "v") (codes "0" ∷ []) ∷ view (codes "w") (codes "0" ∷ []) ∷ view (codes "x") (codes "0" ∷ []) ∷ view (codes "y") (codes "0" ∷ []) ∷ view (codes "z") (codes "0" ∷ []) ∷ [])) 9 code.Limit }
+    ensures number_before_limit { IsRefused (viewed (view (codes "v") (codes "0" ∷ []) ∷ view (codes "w") (codes "0" ∷ []) ∷ view (codes "x") (codes "0" ∷ []) ∷ view (codes "y") (codes "0" ∷ []) ∷ view (codes "z") (codes "9" ∷ []) ∷ [])) 9 code.Number }
+    ensures before_a_node { IsRefused (version (codes "1") ∷ policy (codes "count") ∷ view (codes "v") [] ∷ []) 3 code.Order }
+    ensures node_behind { IsRefused (viewed (view (codes "v") (codes "0" ∷ []) ∷ node (codes "1") (codes "b") ∷ [])) 6 code.Order }
+    ensures dimension_behind { IsRefused (viewed (view (codes "v") (codes "0" ∷ []) ∷ dimension ∷ [])) 6 code.Order }
+    ensures number_of_the_root { IsRefused (with_nodes (numbered_node (codes "0") (codes "a") (codes "1") ∷ view (codes "v") (codes "0" ∷ []) ∷ [])) 5 code.Number }
+    ensures name_before_numbers { IsRefused (with_nodes (numbered_node (codes "0") (codes "a") (codes "1") ∷ view [] (codes "0" ∷ []) ∷ [])) 5 code.Name }
 {}

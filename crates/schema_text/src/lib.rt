@@ -10,12 +10,13 @@ mod policy;
 mod read;
 mod reader;
 mod schema;
+mod views;
 mod word;
 mod write;
 
 pub use laws::{
     long_line_means_its_front, what_is_written_is_read, worked_distributions, worked_numbers,
-    worked_weights,
+    worked_views, worked_weights,
 };
 pub use read::read_schema;
 pub use schema::{Schema, SchemaFault};

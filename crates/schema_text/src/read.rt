@@ -16,15 +16,17 @@ use text_lines::{first_line_of, is_skipped};
 /// `cube|1` or `cube|2`, the version; `policy|uniform`, `policy|count` or `policy|weight|NAME`; for each measure
 /// `number|NAME`, or `parts|NAME|SCALE` with a field more for the name of each outcome; then for each dimension
 /// `dimension|NAME` and, for each node in preorder, `node|DEPTH|NAME` in version 1 or `node|DEPTH|NAME|NUMBER` in version 2;
-/// and `end`. A final CR of a line is dropped. Lines that are then empty or begin with `#` are passed over, whatever their
-/// length and bytes. `end` needs no LF behind it.
+/// then for each view `view|NAME` with a field more for the depth of each dimension; and `end`. A final CR of a line is
+/// dropped. Lines that are then empty or begin with `#` are passed over, whatever their length and bytes. `end` needs no LF
+/// behind it.
 ///
 /// The measures have at most 7 columns: one of numbers has one, one of distributions 2 to 7, one for each outcome. There
 /// are 1 to 6 dimensions, and in each 1 to 65,536 nodes. The first node of a dimension has depth 0; each other has a depth
 /// from 1 to 8, at most one more than the node before it. The number of a node is its place in version 1. In version 2 the
 /// numbers of a dimension are distinct, below the count of its nodes, and that of a node is above its parent's. A name has
 /// 1 to 128 bytes, is UTF-8 and has no byte below 32 and no 127. No two measures have one name, no two dimensions, no two
-/// nodes of a dimension, and no two outcomes of a measure. The name behind `weight` is that of a measure of numbers.
+/// nodes of a dimension, no two outcomes of a measure, and no two views. There are at most 4 views, and a depth of one is
+/// from 0 to 8, whatever those of the nodes. The name behind `weight` is that of a measure of numbers.
 ///
 /// # Errors
 ///
@@ -36,10 +38,11 @@ use text_lines::{first_line_of, is_skipped};
 /// - `Name`: a name is none, or is taken.
 /// - `Policy`: the policy is not known; or, at `end`, no measure of numbers has the name that the policy gives.
 /// - `Number`: the version is not `1` or `2`, the scale no number from 1 to 1,000,000, the depth none from 0 to 8, or the
-///   number of a node none from 0 to 65,535 or that of an earlier node of the dimension; or, at `dimension` and `end`, the
-///   numbers of the dimension before it are not as they must be.
+///   number of a node none from 0 to 65,535 or that of an earlier node of the dimension; or, at `dimension`, `view` and
+///   `end`, the numbers of the dimension before it are not as they must be.
 /// - `Depth`: the depth does not fit the node before.
-/// - `Limit`: it is a measure of which a column is the eighth, the seventh dimension, or the 65,537th node of the dimension.
+/// - `Limit`: it is a measure of which a column is the eighth, the seventh dimension, the 65,537th node of the dimension,
+///   or the fifth view.
 /// - `Cells`: at `end`, the product of the dimensions' leaf counts is 2^62 or more.
 /// - `Nodes`: at `end`, the product of their node counts is 2^62 or more.
 /// - `Cut`: the text ends before `end`; the line is the one behind its last.

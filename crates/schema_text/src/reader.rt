@@ -6,11 +6,11 @@ ghost use Rattle.text_lines.specs.Text.{fields_of};
 ghost use Rattle.text_lines.specs.LineText.{field_at};
 ghost use Rattle.fact_records.specs.Shape.{AreMeasures, IsWeighable, width_of_all};
 ghost use Rattle.schema_text.specs.declared.word.SchemaWord.TheVariants as schema_word;
-ghost use Rattle.schema_text.specs.Draft.{dimension_fault, front_fault, end_fault, size_fault, word_in};
+ghost use Rattle.schema_text.specs.Draft.{dimension_fault, front_fault, end_fault, size_fault, view_fault, word_in};
 ghost use Rattle.schema_text.specs.Fault.{IsCause};
 ghost use Rattle.schema_text.specs.Kept.{IsKept, IsReader, draft_of};
-ghost use Rattle.schema_text.specs.Schema.{AreNames, IsKind, weight_of};
-ghost use Rattle.schema_text.specs.SchemaText.{blank_draft, dims_of, ended, has_wrong_count, is_end, line_fault, may_follow, policy_among, schema_of_draft, with_line, with_word, word_fault};
+ghost use Rattle.schema_text.specs.Schema.{AreNames, AreViews, IsKind, weight_of};
+ghost use Rattle.schema_text.specs.SchemaText.{blank_draft, dims_of, ended, has_wrong_count, is_end, line_fault, may_follow, policy_among, schema_of_draft, view_of_fields, with_line, with_word, word_fault};
 
 use crate::fault::LineFault;
 use crate::measures::{take_number, take_parts};
@@ -18,12 +18,13 @@ use crate::name::{is_wrong_name, name_of};
 use crate::open_dim::OpenDim;
 use crate::policy::{NamedPolicy, policy_among, take_policy, weigh_by};
 use crate::schema::Schema;
+use crate::views::{push_view, read_view};
 use crate::word::{PolicyWord, SchemaWord, has_wrong_count, may_follow, word_named};
 use cube_base::{Code, Name, Names};
 use cube_model::MAX_DIMS;
 use dim_tree::Dim;
 use fact_records::{Measure, Shape};
-use region_algebra::{Space, SpaceFault};
+use region_algebra::{Space, SpaceFault, ViewDef, ViewDefs};
 use std::alloc::Global;
 use std::mem;
 use text_lines::{field_at, is_clean, is_long, without_cr};
@@ -43,6 +44,7 @@ pub struct Reader {
     pub dims: Vec<Dim>,
     /// The dimension that was named last, and the version.
     pub named_last: OpenDim,
+    pub views: Vec<ViewDef>,
 }
 
 impl Reader {
@@ -59,6 +61,7 @@ impl Reader {
             names: Vec::new(alloc),
             dims: Vec::new(alloc),
             named_last: OpenDim::new(alloc),
+            views: Vec::new(alloc),
         }
     }
 
@@ -87,7 +90,7 @@ impl Reader {
         ensures accepted { OnOk result (word_fault (draft_of self.old) (fields_of line.now) word ≡ None) }
         ensures refused { IfErr result (IsCause (word_fault (draft_of self.old) (fields_of line.now) word)) }
     {
-        if has_wrong_count(self.named_last.version, line, word) {
+        if has_wrong_count(self.named_last.version, self.names.len(), line, word) {
             return Err(LineFault::Refused(Code::Fields));
         }
         self.take_fields(alloc, line, word)?;
@@ -99,7 +102,7 @@ impl Reader {
     fn take_fields(&mut self, alloc: Global, line: &[u8], word: SchemaWord) -> Result<(), LineFault>
         requires reader { IsReader self.old }
         requires follows { may_follow self.old.last word ≡ true }
-        requires count { has_wrong_count self.old.named_last.version (fields_of line.now) word ≡ false }
+        requires count { has_wrong_count self.old.named_last.version (length self.old.names.items) (fields_of line.now) word ≡ false }
         requires goes_on { word ≢ schema_word.End }
         ensures made { OnOk result (record (draft_of self.new) { last = Some word } ≡ with_word (draft_of self.old) (fields_of line.now) word) }
         ensures width { OnOk result (self.new.columns ≡ width_of_all self.new.measures.items) }
@@ -114,6 +117,7 @@ impl Reader {
             SchemaWord::Parts => take_parts(alloc, &mut self.measures, &mut self.columns, line),
             SchemaWord::Dimension => self.take_dimension(alloc, line),
             SchemaWord::Node => self.named_last.take_node(alloc, line),
+            SchemaWord::View => self.take_view(alloc, line),
             SchemaWord::End => unreachable!(),
         }
     }
@@ -126,7 +130,7 @@ impl Reader {
         ensures nodes { OnOk result (self.new.named_last.nodes.items ≡ []) }
         ensures version { self.new.named_last.version ≡ self.old.named_last.version }
         ensures kept { OnOk result (IsKept self.new.named_last) }
-        ensures others { (self.new.policy ≡ self.old.policy) × (self.new.measures ≡ self.old.measures) × (self.new.columns ≡ self.old.columns) }
+        ensures others { (self.new.policy ≡ self.old.policy) × (self.new.measures ≡ self.old.measures) × (self.new.columns ≡ self.old.columns) × (self.new.views ≡ self.old.views) }
         ensures accepted { OnOk result (dimension_fault self.old.names.items self.old.named_last.nodes.items (fields_of line.now) ≡ None) }
         ensures refused { IfErr result (IsCause (dimension_fault self.old.names.items self.old.named_last.nodes.items (fields_of line.now))) }
     {
@@ -140,6 +144,24 @@ impl Reader {
         }
         self.names.push(name_of(alloc, name)?)?;
         Ok(())
+    }
+
+    /// Takes a view, before which the last dimension ends, if it has not.
+    fn take_view(&mut self, alloc: Global, line: &[u8]) -> Result<(), LineFault>
+        requires reader { IsReader self.old }
+        requires count { 2 ≤ length (fields_of line.now) }
+        ensures views { OnOk result (self.new.views.items ≡ self.old.views.items ++ view_of_fields (fields_of line.now) ∷ []) }
+        ensures dims { OnOk result (self.new.dims.items ≡ self.old.dims.items ++ ended self.old.named_last.nodes.items) }
+        ensures nodes { OnOk result (self.new.named_last.nodes.items ≡ []) }
+        ensures version { self.new.named_last.version ≡ self.old.named_last.version }
+        ensures kept { OnOk result (IsKept self.new.named_last) }
+        ensures others { (self.new.policy ≡ self.old.policy) × (self.new.measures ≡ self.old.measures) × (self.new.columns ≡ self.old.columns) × (self.new.names ≡ self.old.names) }
+        ensures accepted { OnOk result (view_fault self.old.views.items self.old.named_last.nodes.items (fields_of line.now) ≡ None) }
+        ensures refused { IfErr result (IsCause (view_fault self.old.views.items self.old.named_last.nodes.items (fields_of line.now))) }
+    {
+        let view = read_view(alloc, &self.views, line)?;
+        self.named_last.end_into(alloc, &mut self.dims)?;
+        push_view(&mut self.views, view)
     }
 
     /// The schema, where the line `end` comes next, or the first of the conditions that refuse it.
@@ -161,7 +183,7 @@ impl Reader {
         ensures weighable { IfOk result (λ policy. IsWeighable self.old.measures.items (weight_of policy)) }
         ensures dims { OnOk result (self.new.dims.items ≡ dims_of (draft_of self.old)) }
         ensures named { OnOk result (length self.old.names.items ≡ length self.new.dims.items) }
-        ensures others { (self.new.names ≡ self.old.names) × (self.new.measures ≡ self.old.measures) }
+        ensures others { (self.new.names ≡ self.old.names) × (self.new.measures ≡ self.old.measures) × (self.new.views ≡ self.old.views) }
         ensures accepted { OnOk result (front_fault (draft_of self.old) ≡ None) }
         ensures refused { IfErr result (IsCause (front_fault (draft_of self.old))) }
     {
@@ -180,7 +202,7 @@ impl Reader {
         requires some { 1 ≤ length self.old.dims.items }
         requires few { length self.old.dims.items ≤ MAX_DIMS }
         ensures made { IfOk result (λ space. space ≡ self.old.dims.items) }
-        ensures others { (self.new.names ≡ self.old.names) × (self.new.measures ≡ self.old.measures) }
+        ensures others { (self.new.names ≡ self.old.names) × (self.new.measures ≡ self.old.measures) × (self.new.views ≡ self.old.views) }
         ensures accepted { OnOk result (size_fault self.old.dims.items ≡ None) }
         ensures refused { IfErr result (IsCause (size_fault self.old.dims.items)) }
     {
@@ -192,7 +214,7 @@ impl Reader {
         }
     }
 
-    /// Takes the measures and the names away, as a schema with a policy and a space.
+    /// Takes the measures, the names and the views away, as a schema with a policy and a space.
     fn take_schema(&mut self, alloc: Global, policy: PolicyWord, space: Space) -> Schema
         requires measures { AreMeasures self.old.measures.items }
         requires kinds { All (λ m. IsKind m.kind) self.old.measures.items }
@@ -200,12 +222,20 @@ impl Reader {
         requires weighable { IsWeighable self.old.measures.items (weight_of policy) }
         requires names { AreNames self.old.names.items }
         requires named { length self.old.names.items ≡ length space }
-        ensures { result ≡ record { policy = policy; measures = self.old.measures.items; names = self.old.names.items; dims = space } }
+        requires views { AreViews (length self.old.names.items) self.old.views.items }
+        ensures { result ≡ record { policy = policy; measures = self.old.measures.items; names = self.old.names.items; dims = space; views = self.old.views.items } }
     {
         let measures = mem::replace(&mut self.measures, Vec::new(alloc));
         let names = mem::replace(&mut self.names, Vec::new(alloc));
+        let views = mem::replace(&mut self.views, Vec::new(alloc));
         let shape = weigh_by(Shape::new(measures), policy);
-        Schema::new(space, shape, policy, Names::from(names))
+        Schema::new(
+            space,
+            shape,
+            policy,
+            Names::from(names),
+            ViewDefs::from(views),
+        )
     }
 }
 

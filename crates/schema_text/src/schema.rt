@@ -1,12 +1,13 @@
-//! A schema: the policy, the measures and the named dimensions of a cube.
-ghost use Rattle.std.specs.Prelude.{◌≡◌, All, length, true};
+//! A schema: the policy, the measures, the named dimensions and the views of a cube.
+ghost use Rattle.std.specs.Prelude.{◌≡◌, ◌<◌, All, IfSome, length, true};
 ghost use Rattle.cube_base.specs.Name.{is_name};
-ghost use Rattle.schema_text.specs.Schema.{AreNames, IsKind, IsSchema, shape_of, weight_of};
+ghost use Rattle.schema_text.specs.Schema.{AreNames, AreViews, IsKind, IsSchema, shape_of, view_named, weight_of};
 
+use crate::views::place_of;
 use crate::word::PolicyWord;
 use cube_base::{Code, Memory, Name, Names};
 use fact_records::Shape;
-use region_algebra::Space;
+use region_algebra::{Space, ViewDef, ViewDefs};
 use std::marker::Model;
 
 /// Why a text is refused as a schema.
@@ -31,9 +32,10 @@ impl From<Memory> for SchemaFault {
 }
 
 /// A schema: the policy, the measures, and the dimensions with their names. It has 1 to 6 dimensions, which have distinct
-/// names and are a space, and 0 to 7 measures, each of numbers or of distributions over 2 to 7 outcomes of distinct names.
-/// Contracts see the policy, the list of the measures, the list of the dimensions' names and the list of the dimensions,
-/// each in the order of the text.
+/// names and are a space, 0 to 7 measures, each of numbers or of distributions over 2 to 7 outcomes of distinct names, and 0
+/// to 4 views of distinct names, each with a depth from 0 to 8 for each dimension. Contracts see the policy, the list of the
+/// measures, the list of the dimensions' names, the list of the dimensions and the list of the views, each in the order of
+/// the text.
 #[derive(Drop)]
 pub struct Schema {
     space: Space,
@@ -41,6 +43,7 @@ pub struct Schema {
     shape: Shape,
     policy: PolicyWord,
     dim_names: Names,
+    views: ViewDefs,
 }
 
 impl Model for Schema {
@@ -49,20 +52,27 @@ impl Model for Schema {
 
     ghost Value = { SchemaValue };
 
-    ghost view = { λ s. record { policy = s.policy; measures = s.shape.measures; names = s.dim_names; dims = s.space } };
+    ghost view = { λ s. record { policy = s.policy; measures = s.shape.measures; names = s.dim_names; dims = s.space; views = s.views } };
 
-    ghost invariant = { λ s. IsSchema (record { policy = s.policy; measures = s.shape.measures; names = s.dim_names; dims = s.space }) × (s.shape.weight ≡ weight_of s.policy) };
+    ghost invariant = { λ s. IsSchema (record { policy = s.policy; measures = s.shape.measures; names = s.dim_names; dims = s.space; views = s.views }) × (s.shape.weight ≡ weight_of s.policy) };
 }
 
 impl Schema {
     /// The schema of these parts.
-    pub(crate) fn new(space: Space, shape: Shape, policy: PolicyWord, dim_names: Names) -> Self
+    pub(crate) fn new(
+        space: Space,
+        shape: Shape,
+        policy: PolicyWord,
+        dim_names: Names,
+        views: ViewDefs,
+    ) -> Self
         requires weight { shape.weight ≡ weight_of policy }
         requires kinds { All (λ m. IsKind m.kind) shape.measures }
         requires measure_names { All (λ m. is_name m.name ≡ true) shape.measures }
         requires dim_names { AreNames dim_names }
         requires named { length dim_names ≡ length space }
-        ensures { result ≡ record { policy = policy; measures = shape.measures; names = dim_names; dims = space } }
+        requires views { AreViews (length dim_names) views }
+        ensures { result ≡ record { policy = policy; measures = shape.measures; names = dim_names; dims = space; views = views } }
     {
         // What is known of every space and of every shape.
         let _ = space.dims();
@@ -72,6 +82,7 @@ impl Schema {
             shape,
             policy,
             dim_names,
+            views,
         }
     }
 
@@ -105,5 +116,22 @@ impl Schema {
         ensures schema { IsSchema self.now }
     {
         self.dim_names.as_slice()
+    }
+
+    /// The views.
+    pub fn views(&self) -> &[ViewDef]
+        ensures views { result.now ≡ self.now.views }
+        ensures schema { IsSchema self.now }
+    {
+        self.views.as_slice()
+    }
+
+    /// The place of the view of a name: None exactly where no view has it. It takes no memory.
+    pub fn view_named(&self, name: &str) -> Option<u32>
+        ensures named { result ≡ view_named self.now.views name.now }
+        ensures within { IfSome result (λ view. view < length self.now.views) }
+    {
+        let place = place_of(self.views(), name.as_bytes())?;
+        Some(place as u32)
     }
 }

@@ -1,8 +1,9 @@
 //! The words that a schema is made of.
-ghost use Rattle.std.specs.Prelude.{◌≡◌};
+ghost use Rattle.std.specs.Prelude.{◌≡◌, ◌≤◌};
+ghost use Rattle.cube_model.specs.Limits.{MAX_DIMS};
 ghost use Rattle.text_lines.specs.Text.{fields_of};
 ghost use Rattle.schema_text.specs.declared.word.SchemaWord.TheVariants as schema_word;
-ghost use Rattle.schema_text.specs.SchemaText.{has_wrong_count, is_end, is_weight_word, may_follow, node_field_count, policy_field_count, version_named, version_text, word_named};
+ghost use Rattle.schema_text.specs.SchemaText.{has_wrong_count, is_end, is_node_word, is_weight_word, may_follow, node_field_count, policy_field_count, version_named, version_text, word_named};
 
 use text_lines::{field_at, field_count, is_text, without_cr};
 
@@ -21,6 +22,8 @@ pub enum SchemaWord {
     Dimension,
     /// A node of the dimension that was named last.
     Node,
+    /// A view.
+    View,
     /// The last line.
     End,
 }
@@ -61,6 +64,8 @@ pub fn word_named(bytes: &[u8]) -> Option<SchemaWord>
         Some(SchemaWord::Dimension)
     } else if is_text(bytes, "node") {
         Some(SchemaWord::Node)
+    } else if is_text(bytes, "view") {
+        Some(SchemaWord::View)
     } else if is_text(bytes, "end") {
         Some(SchemaWord::End)
     } else {
@@ -115,7 +120,7 @@ pub fn may_follow(before: Option<SchemaWord>, word: SchemaWord) -> bool
         SchemaWord::Number | SchemaWord::Parts => is_before_measures(before),
         SchemaWord::Dimension => is_before_measures(before) || is_node(before),
         SchemaWord::Node => is_node(before) || matches!(before, Some(SchemaWord::Dimension)),
-        SchemaWord::End => is_node(before),
+        SchemaWord::View | SchemaWord::End => is_before_end(before),
     }
 }
 
@@ -131,14 +136,22 @@ fn is_before_measures(before: Option<SchemaWord>) -> bool
 
 /// Whether a line is that of a node.
 fn is_node(before: Option<SchemaWord>) -> bool
-    ensures { result ≡ may_follow before schema_word.End }
+    ensures { result ≡ is_node_word before }
 {
     matches!(before, Some(SchemaWord::Node))
 }
 
-/// Whether a line of a word has too few or too many fields in a version.
-pub fn has_wrong_count(version: Version, line: &[u8], word: SchemaWord) -> bool
-    ensures { result ≡ has_wrong_count version (fields_of line.now) word }
+/// Whether a line is that of a node or of a view.
+fn is_before_end(before: Option<SchemaWord>) -> bool
+    ensures { result ≡ may_follow before schema_word.End }
+{
+    matches!(before, Some(SchemaWord::Node | SchemaWord::View))
+}
+
+/// Whether a line of a word has too few or too many fields in a version, where so many dimensions are named.
+pub fn has_wrong_count(version: Version, dims: usize, line: &[u8], word: SchemaWord) -> bool
+    requires { dims ≤ MAX_DIMS }
+    ensures { result ≡ has_wrong_count version dims (fields_of line.now) word }
 {
     let count = field_count(line);
     match word {
@@ -146,6 +159,7 @@ pub fn has_wrong_count(version: Version, line: &[u8], word: SchemaWord) -> bool
         SchemaWord::Policy => count != policy_field_count(field_at(line, 1)),
         SchemaWord::Parts => count < 5 || count > 10,
         SchemaWord::Node => count != node_field_count(version),
+        SchemaWord::View => count != dims + 2,
         SchemaWord::End => count != 1,
     }
 }

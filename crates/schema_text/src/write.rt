@@ -6,7 +6,7 @@ ghost use Rattle.std.specs.Option.{option_map};
 ghost use Rattle.cube_model.specs.Tree.{IsTree, entry_of};
 ghost use Rattle.text_lines.specs.Text.{line_text};
 ghost use Rattle.schema_text.specs.Schema.{IsSchema};
-ghost use Rattle.schema_text.specs.SchemaText.{are_places_from, dims_text, measure_line, node_line, number_fields, policy_fields, policy_line, schema_of, schema_text, version_of};
+ghost use Rattle.schema_text.specs.SchemaText.{are_places_from, dims_text, measure_line, node_line, number_fields, policy_fields, policy_line, schema_of, schema_text, version_of, view_line};
 
 use crate::schema::Schema;
 use crate::word::{PolicyWord, Version, version_text};
@@ -14,7 +14,7 @@ use cube_base::{Bytes, Memory, Name, Names};
 use dim_tree::Dim;
 use fact_records::{Kind, Measure, Shape};
 use itoa::Buffer;
-use region_algebra::Space;
+use region_algebra::{Space, ViewDef};
 use std::alloc::Global;
 
 /// The one text of a schema that is written: its lines with LF alone, none of which is passed over. With anything behind
@@ -64,6 +64,7 @@ fn append_schema(out: &mut Vec<u8>, s: &Schema) -> Result<(), Memory>
     append_policy(out, s)?;
     append_measures(out, s.shape())?;
     append_dims(out, version, s.space(), s.dim_names())?;
+    append_views(out, s.views())?;
     append_bytes(out, b"end\n")
 }
 
@@ -165,6 +166,35 @@ fn append_number_of(out: &mut Vec<u8>, version: Version, node: u32) -> Result<()
         Version::One => Ok(()),
         Version::Two => append_number(out, node),
     }
+}
+
+/// Appends the lines of the views.
+fn append_views(out: &mut Vec<u8>, views: &[ViewDef]) -> Result<(), Memory>
+    ensures { OnOk result (out.new.items ≡ out.old.items ++ flat_map view_line views.now) }
+{
+    for view in views {
+        append_view(out, view)?;
+    }
+    Ok(())
+}
+
+/// Appends the line of a view.
+fn append_view(out: &mut Vec<u8>, view: &ViewDef) -> Result<(), Memory>
+    ensures { OnOk result (out.new.items ≡ out.old.items ++ view_line view.now) }
+{
+    append_start(out, "view", view.name.text().as_bytes())?;
+    append_depths(out, view.depths.as_slice())?;
+    append_bytes(out, b"\n")
+}
+
+/// Appends a field for each depth.
+fn append_depths(out: &mut Vec<u8>, depths: &[u8]) -> Result<(), Memory>
+    ensures { OnOk result (out.new.items ≡ out.old.items ++ flat_map (λ field. 9 ∷ field) (map decimal depths.now)) }
+{
+    for depth in depths {
+        append_number(out, u32::from(*depth))?;
+    }
+    Ok(())
 }
 
 /// Appends a line of a word and a field.
