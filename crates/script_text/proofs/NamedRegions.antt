@@ -8,7 +8,6 @@ use Rattle.std.proofs.lemmas.Bool.Decides.{nat_tests}
 use Rattle.std.proofs.lemmas.List.Elements.{All-head, All-tail}
 use Rattle.cube_base.specs.declared.code.Code.{Code}
 use Rattle.cube_base.specs.declared.code.Code.TheVariants as code
-use Rattle.cube_model.specs.declared.edit.Edit.{Edit}
 use Rattle.cube_model.specs.declared.edit.Edit.TheVariants as edit
 use Rattle.cube_model.specs.declared.edit.Fact.{Fact}
 use Rattle.cube_model.specs.Tree.{Dimension, Entry, IsTree, node_named, numbers}
@@ -32,8 +31,8 @@ use Rattle.script_text.specs.declared.word.MeasureWord.TheVariants.{Sum, Avg, Po
 use Rattle.script_text.specs.declared.word.RegionWord.{RegionWord}
 use Rattle.script_text.specs.declared.word.RegionWord.TheVariants.{Count, Terms, Worlds}
 use Rattle.script_text.specs.declared.word.ScriptWord.{ScriptWord}
-use Rattle.script_text.specs.declared.word.ScriptWord.TheVariants.{OfFact, OfId, OfRegion, OfMeasure}
-use Rattle.script_text.specs.ScriptLine.{command_line, field_count_of, line_given, line_of}
+use Rattle.script_text.specs.declared.word.ScriptWord.TheVariants.{OfFact, OfId, OfRegion, OfMeasure, OfView}
+use Rattle.script_text.specs.ScriptLine.{command_line, field_count_of, line_given, line_of, view_given}
 use Rattle.script_text.specs.ScriptWord.{kind_of, line_of_fact, line_of_id, line_of_measure, line_of_region, word_spelled}
 
 -- a node that is found among some has a number below each bound of theirs
@@ -102,6 +101,7 @@ OnFact P (line.Avg measure region) = ⊤
 OnFact P (line.Pool measure region) = ⊤
 OnFact P (line.Terms region) = ⊤
 OnFact P (line.Rows id) = ⊤
+OnFact P (line.View view) = ⊤
 OnFact P (line.Worlds region) = ⊤
 
 module _ (schema : SchemaValue) (trees : All IsTree schema.dims) where
@@ -152,11 +152,18 @@ module _ (schema : SchemaValue) (trees : All IsTree schema.dims) where
       let same : line.Pool measure region ≡ said = cc in
       subst Lies same tt
 
+  of_view : (view : Result ℕ Code) (said : Line) → result_then (λ view. Ok (line.View view)) view ≡ Ok said → Lies said
+  of_view (Err why) said e = cc
+  of_view (Ok view) said e =
+      let same : line.View view ≡ said = cc in
+      subst Lies same tt
+
   line_given-lies : (word : ScriptWord) (fields : List (List ℕ)) (said : Line) → line_given schema word fields ≡ Ok said → Lies said
   line_given-lies (OfFact word) fields said e = of_fact word (fact_given schema.dims (shape_of schema) fields) said (λ fact is. fact_given-region schema.dims (shape_of schema) fields fact trees is) e
   line_given-lies (OfId word) fields said e = of_id word (id_given fields) said e
   line_given-lies (OfRegion word) fields said e = of_region word (region_given schema.dims fields) said e
   line_given-lies (OfMeasure word) fields said e = of_measure word (region_given schema.dims (drop 1 fields)) (measure_given (shape_of schema) (kind_of word) (field_at fields 0)) said e
+  line_given-lies OfView fields said e = of_view (view_given schema (field_at fields 0)) said e
 
   command_line-lies : (fields : List (List ℕ)) (word : Option ScriptWord) (said : Line) → command_line schema fields word ≡ Ok said → Lies said
   command_line-lies fields None said e = cc

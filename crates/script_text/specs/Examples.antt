@@ -3,14 +3,19 @@ use Rattle.std.specs.Prelude.{ℕ, List, [], ◌∷◌, ◌++◌, codes}
 use Rattle.std.specs.List.{flat_map}
 use Rattle.fact_records.specs.Examples.{one_number, parts_and_number, second_weighs}
 use Rattle.fact_records.specs.Shape.{ShapeValue}
+use Rattle.region_algebra.specs.declared.view_def.ViewDef.{ViewDef}
 use Rattle.region_algebra.specs.Examples.{small_space}
 use Rattle.schema_text.specs.declared.word.PolicyWord.{PolicyWord}
 use Rattle.schema_text.specs.declared.word.PolicyWord.TheVariants.{Count, Weight}
 use Rattle.schema_text.specs.Schema.{SchemaValue}
 
--- measures over the small space
+-- two views
+abbrev two_views : List ViewDef
+two_views = record { name = codes "v"; depths = 1 ∷ 1 ∷ [] } ∷ record { name = codes "w"; depths = 0 ∷ 2 ∷ [] } ∷ []
+
+-- measures over the small space, with these views
 abbrev over_small_space : PolicyWord → ShapeValue → SchemaValue
-over_small_space policy shape = record { policy = policy; measures = shape.measures; names = codes "f" ∷ codes "p" ∷ []; dims = small_space }
+over_small_space policy shape = record { policy = policy; measures = shape.measures; names = codes "f" ∷ codes "p" ∷ []; dims = small_space; views = two_views }
 
 -- a number; a distribution before a number; two numbers, where cells weigh by the sum of the second
 abbrev pub counted : SchemaValue

@@ -1,5 +1,5 @@
 -- What an accepted line of a script names is there.
-use Rattle.std.specs.Prelude.{◌≡◌, ℕ, List, Err, ⊤}
+use Rattle.std.specs.Prelude.{◌≡◌, ℕ, ◌<◌, List, length, Err, ⊤}
 use Rattle.cube_model.specs.Facts.{IsId}
 use Rattle.region_algebra.specs.Space.{IsRegion}
 use Rattle.fact_records.specs.declared.measure_reader.MeasureKind.{MeasureKind}
@@ -28,6 +28,7 @@ IsLineOf schema (line.Avg measure region) = IsMeasureOver schema kind.Number mea
 IsLineOf schema (line.Pool measure region) = IsMeasureOver schema kind.Parts measure region
 IsLineOf schema (line.Terms region) = IsRegion schema.dims region
 IsLineOf schema (line.Rows id) = IsId id
+IsLineOf schema (line.View view) = view < length schema.views
 IsLineOf schema (line.Worlds region) = IsRegion schema.dims region
 
 -- where a line is refused, this is its code; want of memory says nothing of it

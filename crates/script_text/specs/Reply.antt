@@ -1,5 +1,5 @@
 -- The text of a reply over the dimensions whose cells it names.
-use Rattle.std.specs.Prelude.{ℕ, List, [], ◌∷◌, ◌++◌, length, map, codes, slice_get, ⊤, ℤ}
+use Rattle.std.specs.Prelude.{ℕ, List, [], ◌∷◌, ◌++◌, All, length, map, codes, slice_get, ⊤, ℤ}
 use Rattle.std.specs.Option.{option_map_or}
 use Rattle.std.specs.List.{flat_map}
 use Rattle.std.specs.Fmt.{decimal, signed_decimal}
@@ -7,9 +7,11 @@ use Rattle.cube_base.specs.Code.{word_of}
 use Rattle.cube_model.specs.declared.term.Term.{Term}
 use Rattle.cube_model.specs.Cells.{AreRows, all_cells}
 use Rattle.text_lines.specs.Text.{line_text}
+use Rattle.group_sum.specs.Terms.{TermList}
+use Rattle.region_algebra.specs.Space.{IsRegion}
 use Rattle.cube_model.specs.Tree.{Dimension, entry_of}
 use Rattle.script_text.specs.declared.reply.Reply.{Reply}
-use Rattle.script_text.specs.declared.reply.Reply.TheVariants.{Ok, Error, Count, Sum, Avg, Pool, Terms, Rows, Worlds}
+use Rattle.script_text.specs.declared.reply.Reply.TheVariants.{Ok, Error, Count, Sum, Avg, Pool, Terms, Rows, View, Worlds}
 use Rattle.script_text.specs.Decimals.{pool_fields, quotient_fields, value_fields}
 
 -- the denominator of a term and all its numerators, that of the count first
@@ -37,6 +39,14 @@ row_fields dims row = option_map_or (names_of dims) (slice_get (all_cells dims) 
 abbrev pub rows_fields : List Dimension → ℕ → List (ℕ × ℕ) → List (List ℕ)
 rows_fields dims den rows = decimal den ∷ decimal (length rows) ∷ flat_map (row_fields dims) rows
 
+-- the names of the nodes of an entry of a view, then its terms
+abbrev pub entry_fields : List Dimension → List ℕ × TermList → List (List ℕ)
+entry_fields dims entry = names_of dims entry.0 ++ terms_fields entry.1.terms
+
+-- the number of the entries, and the entries
+abbrev pub view_fields : List Dimension → List (List ℕ × TermList) → List (List ℕ)
+view_fields dims entries = decimal (length entries) ∷ flat_map (entry_fields dims) entries
+
 -- the number of the worlds, their mass, and the total of each column
 abbrev pub worlds_fields : ℕ → ℕ → List ℤ → List (List ℕ)
 worlds_fields worlds mass totals = decimal worlds ∷ decimal mass ∷ map signed_decimal totals
@@ -51,6 +61,7 @@ word_of_reply (Avg _) = codes "avg"
 word_of_reply (Pool _) = codes "pool"
 word_of_reply (Terms _) = codes "terms"
 word_of_reply (Rows _ _) = codes "rows"
+word_of_reply (View _) = codes "view"
 word_of_reply (Worlds _ _ _) = codes "worlds"
 
 -- its further fields
@@ -63,12 +74,13 @@ fields_of_reply dims (Avg quotient) = quotient_fields quotient
 fields_of_reply dims (Pool quotients) = pool_fields quotients
 fields_of_reply dims (Terms list) = terms_fields list.terms
 fields_of_reply dims (Rows den rows) = rows_fields dims den rows
+fields_of_reply dims (View entries) = view_fields dims entries
 fields_of_reply dims (Worlds worlds mass totals) = worlds_fields worlds mass totals
 
 abbrev pub reply_text : List Dimension → Reply → List ℕ
 reply_text dims reply = line_text (word_of_reply reply) (fields_of_reply dims reply)
 
--- the cells that a reply names are there
+-- the cells and the regions that a reply names are there
 abbrev pub NamesCells : List Dimension → Reply → Type 0
 NamesCells dims (Ok _) = ⊤
 NamesCells dims (Error _) = ⊤
@@ -78,4 +90,5 @@ NamesCells dims (Avg _) = ⊤
 NamesCells dims (Pool _) = ⊤
 NamesCells dims (Terms _) = ⊤
 NamesCells dims (Rows _ rows) = AreRows dims rows
+NamesCells dims (View entries) = All (λ entry. IsRegion dims entry.0) entries
 NamesCells dims (Worlds _ _ _) = ⊤

@@ -1,26 +1,28 @@
 -- What a line of a script says over a schema, and why it may be refused.
 use Rattle.std.specs.Prelude.{ℕ, ◌+◌, List, length, drop, ◌==◌, if◌then◌else◌, Option, Some, None, Result, Ok, Err}
+use Rattle.std.specs.Option.{option_map_or}
 use Rattle.cube_base.specs.declared.code.Code.{Code}
 use Rattle.cube_base.specs.declared.code.Code.TheVariants as code
 use Rattle.text_lines.specs.Text.{fields_of}
 use Rattle.text_lines.specs.LineText.{without_cr, is_skipped, is_long, is_clean, field_at}
 use Rattle.fact_records.specs.Fields.{fact_given, id_given, region_given, result_then}
 use Rattle.fact_records.specs.MeasureFields.{measure_given}
-use Rattle.schema_text.specs.Schema.{SchemaValue, shape_of}
+use Rattle.schema_text.specs.Schema.{SchemaValue, shape_of, view_named}
 use Rattle.script_text.specs.declared.word.MeasureWord.{MeasureWord}
 use Rattle.script_text.specs.declared.word.ScriptWord.{ScriptWord}
-use Rattle.script_text.specs.declared.word.ScriptWord.TheVariants.{OfFact, OfId, OfRegion, OfMeasure}
+use Rattle.script_text.specs.declared.word.ScriptWord.TheVariants.{OfFact, OfId, OfRegion, OfMeasure, OfView}
 use Rattle.script_text.specs.declared.line.Line.{Line}
 use Rattle.script_text.specs.declared.line.Line.TheVariants as line
 use Rattle.script_text.specs.ScriptWord.{kind_of, line_of_fact, line_of_id, line_of_measure, line_of_region, word_spelled}
 
--- the number of fields of a line: the word, an id or a measure where the line has one, a node of each dimension and a field of
+-- the number of fields of a line: the word, an id, a measure or a view where the line has one, a node of each dimension and a field of
 -- each measure where it has these
 abbrev pub field_count_of : SchemaValue → ScriptWord → ℕ
 field_count_of schema (OfFact _) = 2 + length schema.dims + length schema.measures
 field_count_of schema (OfId _) = 2
 field_count_of schema (OfRegion _) = 1 + length schema.dims
 field_count_of schema (OfMeasure _) = 2 + length schema.dims
+field_count_of schema OfView = 2
 
 -- the nodes are judged before the measure, whose name stands before theirs
 abbrev pub measure_line_given : SchemaValue → MeasureWord → List (List ℕ) → Result Line Code
@@ -28,12 +30,17 @@ measure_line_given schema word fields =
     result_then (λ region. result_then (λ measure. Ok (line_of_measure word measure region)) (measure_given (shape_of schema) (kind_of word) (field_at fields 0)))
     (region_given schema.dims (drop 1 fields))
 
+-- the view that a name says
+abbrev pub view_given : SchemaValue → List ℕ → Result ℕ Code
+view_given schema name = option_map_or (λ view. Ok view) (view_named schema.views name) (Err code.Name)
+
 -- what the fields behind a word say
 abbrev pub line_given : SchemaValue → ScriptWord → List (List ℕ) → Result Line Code
 line_given schema (OfFact word) fields = result_then (λ fact. Ok (line_of_fact word fact)) (fact_given schema.dims (shape_of schema) fields)
 line_given schema (OfId word) fields = result_then (λ id. Ok (line_of_id word id)) (id_given fields)
 line_given schema (OfRegion word) fields = result_then (λ region. Ok (line_of_region word region)) (region_given schema.dims fields)
 line_given schema (OfMeasure word) fields = measure_line_given schema word fields
+line_given schema OfView fields = result_then (λ view. Ok (line.View view)) (view_given schema (field_at fields 0))
 
 -- and what all fields of a line of a word say: first their number is judged
 abbrev pub command_line : SchemaValue → List (List ℕ) → Option ScriptWord → Result Line Code

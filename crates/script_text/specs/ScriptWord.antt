@@ -8,7 +8,7 @@ use Rattle.fact_records.specs.declared.measure_reader.MeasureKind.TheVariants as
 use Rattle.script_text.specs.declared.line.Line.{Line}
 use Rattle.script_text.specs.declared.line.Line.TheVariants as line
 use Rattle.script_text.specs.declared.word.ScriptWord.{ScriptWord}
-use Rattle.script_text.specs.declared.word.ScriptWord.TheVariants.{OfFact, OfId, OfRegion, OfMeasure}
+use Rattle.script_text.specs.declared.word.ScriptWord.TheVariants.{OfFact, OfId, OfRegion, OfMeasure, OfView}
 use Rattle.script_text.specs.declared.word.FactWord.{FactWord}
 use Rattle.script_text.specs.declared.word.FactWord.TheVariants.{Insert, Change}
 use Rattle.script_text.specs.declared.word.IdWord.{IdWord}
@@ -30,6 +30,7 @@ SPELLINGS =
     ∷ (codes "pool", OfMeasure Pool)
     ∷ (codes "terms", OfRegion Terms)
     ∷ (codes "rows", OfId Rows)
+    ∷ (codes "view", OfView)
     ∷ (codes "worlds", OfRegion Worlds)
     ∷ []
 

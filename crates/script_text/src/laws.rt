@@ -10,7 +10,7 @@ ghost use Rattle.exact_fraction.specs.declared.quotients.Quotient.TheVariants.{I
 ghost use Rattle.script_text.specs.declared.line.Line.TheVariants as line;
 ghost use Rattle.script_text.specs.Decimals.{pool_fields, quotient_fields, units_in, units_text, value_fields};
 ghost use Rattle.script_text.specs.Examples.{counted, graded, line_with, weighed};
-ghost use Rattle.script_text.specs.Reply.{rows_fields, terms_fields, worlds_fields};
+ghost use Rattle.script_text.specs.Reply.{rows_fields, terms_fields, view_fields, worlds_fields};
 ghost use Rattle.script_text.specs.ScriptLine.{line_of};
 
 /// A line of more than 4,097 bytes says what its first 4,097 bytes say.
@@ -37,6 +37,7 @@ pub fn worked_lines()
     ensures sum { line_of graded (line_with (codes "sum") (codes "n" ∷ codes "b" ∷ codes "a" ∷ [])) ≡ Ok (line.Sum 1 (1 ∷ 0 ∷ [])) }
     ensures average { line_of graded (line_with (codes "avg") (codes "n" ∷ codes "c" ∷ codes "b" ∷ [])) ≡ Ok (line.Avg 1 (2 ∷ 1 ∷ [])) }
     ensures pool { line_of graded (line_with (codes "pool") (codes "p" ∷ codes "a" ∷ codes "b" ∷ [])) ≡ Ok (line.Pool 0 (0 ∷ 1 ∷ [])) }
+    ensures view { map (line_of counted) (line_with (codes "view") (codes "v" ∷ []) ∷ line_with (codes "view") (codes "w" ∷ []) ∷ []) ≡ Ok (line.View 0) ∷ Ok (line.View 1) ∷ [] }
     ensures nothing { map (line_of counted) ([] ∷ (13 ∷ []) ∷ codes "#x" ∷ (35 ∷ replicate 5000 255) ∷ []) ≡ replicate 4 (Ok line.Nothing) }
     ensures negative { line_of weighed (line_with (codes "insert") (codes "4" ∷ codes "b" ∷ codes "b" ∷ codes "-5" ∷ codes "5" ∷ []))
         ≡ Ok (line.Edit (edit.Put (record { id = 4; region = 1 ∷ 1 ∷ []; cols = negsuc 4 ∷ pos 5 ∷ [] }))) }
@@ -65,6 +66,8 @@ pub fn worked_refusals()
     ensures value { map (line_of graded) (line_with (codes "insert") (codes "1" ∷ codes "b" ∷ codes "b" ∷ codes "80:21" ∷ codes "+5" ∷ []) ∷ line_with (codes "change") (codes "1" ∷ codes "b" ∷ codes "b" ∷ codes "80:20" ∷ codes "05" ∷ []) ∷ []) ≡ replicate 2 (Err code.Value) }
     ensures parts { map (line_of graded) (line_with (codes "insert") (codes "1" ∷ codes "b" ∷ codes "b" ∷ codes "80:21" ∷ codes "5" ∷ []) ∷ line_with (codes "change") (codes "1" ∷ codes "b" ∷ codes "b" ∷ codes "100" ∷ codes "5" ∷ []) ∷ []) ≡ replicate 2 (Err code.Parts) }
     ensures negative { line_of weighed (line_with (codes "insert") (codes "4" ∷ codes "b" ∷ codes "b" ∷ codes "5" ∷ codes "-5" ∷ [])) ≡ Err code.Value }
+    ensures view_name { map (line_of counted) (line_with (codes "view") (codes "none" ∷ []) ∷ line_with (codes "view") ([] ∷ []) ∷ []) ≡ replicate 2 (Err code.Name) }
+    ensures one_view { map (line_of counted) (codes "view" ∷ line_with (codes "view") (codes "v" ∷ codes "v" ∷ []) ∷ []) ≡ replicate 2 (Err code.Fields) }
 {}
 
 /// The fields of replies: terms, numbers, quotients, rows and worlds.
@@ -83,6 +86,8 @@ pub fn worked_replies()
     ensures undefined { quotient_fields Undefined ≡ [] }
     ensures pool { pool_fields (Is (Some (pos 700000000)) (Some (pos 700000000)) (Some (pos 7, 10)) ∷ Is (Some (pos 300000000)) (Some (pos 300000000)) (Some (pos 3, 10)) ∷ [])
         ≡ codes "0.700000000" ∷ codes "0.700000000" ∷ codes "7/10" ∷ codes "0.300000000" ∷ codes "0.300000000" ∷ codes "3/10" ∷ [] }
+    ensures no_entries { view_fields small_space [] ≡ codes "0" ∷ [] }
+    ensures view { view_fields small_space ((2 ∷ 0 ∷ [], record { columns = 2; terms = record { den = 1; count = 2; sums = pos 400 ∷ [] } ∷ [] }) ∷ []) ≡ codes "1" ∷ codes "c" ∷ codes "a" ∷ codes "1" ∷ codes "1" ∷ codes "2" ∷ codes "400" ∷ [] }
     ensures worlds { worlds_fields 2 3 (pos 8 ∷ negsuc 2399 ∷ []) ≡ codes "2" ∷ codes "3" ∷ codes "8" ∷ codes "-2400" ∷ [] }
     ensures rows { rows_fields small_space 3 ((0, 2) ∷ (2, 1) ∷ []) ≡ codes "3" ∷ codes "2" ∷ codes "c" ∷ codes "b" ∷ codes "2" ∷ codes "d" ∷ codes "b" ∷ codes "1" ∷ [] }
 {}

@@ -9,6 +9,7 @@ mod reply_fields;
 mod reply_numbers;
 mod reply_rows;
 mod reply_terms;
+mod reply_view;
 mod reply_worlds;
 mod word;
 

@@ -21,6 +21,8 @@ pub enum Line {
     Terms(Region),
     /// `rows|ID`: how a fact is spread.
     Rows(u64),
+    /// `view|NAME`: the view at this place, entry by entry.
+    View(u32),
     /// `worlds|NODE..`: what all possible worlds of the facts come to in a region.
     Worlds(Region),
 }

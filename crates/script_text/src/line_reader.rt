@@ -1,9 +1,9 @@
 //! Reading a line of a script.
-ghost use Rattle.std.specs.Prelude.{◌≡◌, ◌≢◌, ◌+◌, length, IfErr, IfOk};
+ghost use Rattle.std.specs.Prelude.{◌≡◌, ◌≢◌, ◌+◌, ◌<◌, length, IfErr, IfOk};
 ghost use Rattle.text_lines.specs.LineText.{field_at};
 ghost use Rattle.text_lines.specs.Text.{fields_of};
 ghost use Rattle.script_text.specs.LineOf.{IsFaultOf, IsLineOf};
-ghost use Rattle.script_text.specs.ScriptLine.{command_line, field_count_of, line_given, line_of, measure_line_given};
+ghost use Rattle.script_text.specs.ScriptLine.{command_line, field_count_of, line_given, line_of, measure_line_given, view_given};
 ghost use Rattle.script_text.specs.ScriptWord.{word_spelled};
 
 use crate::line::{Line, LineFault};
@@ -20,7 +20,7 @@ use text_lines::{FieldWalk, Fields, clean_text, field_count, is_long, is_skipped
 /// is wrong; `Id`, the id is not a number from 1 to 2^63 - 1; `Node`, a field is not the name of a node of its dimension;
 /// `Measure`, a field is not the name of a measure, or of one that the word does not take: `sum` and `avg` take a measure
 /// of numbers, `pool` one of distributions; `Value`, the field of a number measure gives no value; `Parts`, that of a
-/// parts measure. The lines that there are take no memory.
+/// parts measure; `Name`, no view has the name. The lines that there are take no memory.
 pub fn read_line(_alloc: Global, schema: &Schema, line: &[u8]) -> Result<Line, LineFault>
     ensures line { IfOk result (λ read. line_of schema.now line.now ≡ Ok read) }
     ensures refused { IfErr result (IsFaultOf schema.now line.now) }
@@ -73,7 +73,7 @@ fn count_of(schema: &Schema, word: ScriptWord) -> usize
     let values = schema.shape().len() as usize;
     match word {
         ScriptWord::OfFact(_) => 2 + nodes + values,
-        ScriptWord::OfId(_) => 2,
+        ScriptWord::OfId(_) | ScriptWord::OfView => 2,
         ScriptWord::OfRegion(_) => 1 + nodes,
         ScriptWord::OfMeasure(_) => 2 + nodes,
     }
@@ -91,6 +91,7 @@ fn read_fields(schema: &Schema, word: ScriptWord, fields: &mut FieldWalk<'_>) ->
         ScriptWord::OfId(word) => Ok(word.line(read_id(fields)?)),
         ScriptWord::OfRegion(word) => Ok(word.line(read_region(space, fields)?)),
         ScriptWord::OfMeasure(word) => read_of_measure(schema, word, fields),
+        ScriptWord::OfView => Ok(Line::View(read_view(schema, fields.next_field())?)),
     }
 }
 
@@ -108,4 +109,15 @@ fn read_of_measure(
     let region = read_region(schema.space(), fields)?;
     let measure = read_measure(schema.shape(), word.kind(), name)?;
     Ok(word.line(measure, region))
+}
+
+/// The view that a name says.
+fn read_view(schema: &Schema, name: &str) -> Result<u32, Code>
+    ensures view { result ≡ view_given schema.now name.now }
+    ensures within { IfOk result (λ view. view < length schema.now.views) }
+{
+    match schema.view_named(name) {
+        Some(view) => Ok(view),
+        None => Err(Code::Name),
+    }
 }

@@ -7,14 +7,19 @@ use crate::reply_fields::{append_field, append_number};
 use crate::reply_numbers::{append_quotient, append_quotients, append_value};
 use crate::reply_rows::append_rows;
 use crate::reply_terms::append_terms;
+use crate::reply_view::append_view;
 use crate::reply_worlds::append_worlds;
-use cube_base::{Bytes, Code, Memory, Nums, Pairs};
+use cube_base::{Bytes, Code, Memory, Nums, Pairs, PlainList};
+use cube_model::Region;
 use exact_fraction::{Quotient, Value};
 use group_sum::Terms;
 use linear_pool::Pooled;
 use region_algebra::Space;
 use schema_text::Schema;
 use std::alloc::Global;
+
+/// Regions, each with what the facts in it add up to.
+pub type ViewList = PlainList<(Region, Terms)>;
 
 /// The answer to a line.
 #[derive(Debug, Drop)]
@@ -38,6 +43,8 @@ pub enum Reply {
         den: u64,
         rows: Pairs,
     },
+    /// A view: regions, each with what the facts in it add up to.
+    View(ViewList),
     /// What all possible worlds of the facts come to in a region: their number, the sum of their weights, and the total of
     /// each column, the count first.
     Worlds {
@@ -51,7 +58,8 @@ pub enum Reply {
 /// refreshed facts, `error` the word of the code, `count` and `sum` the bounds and the fraction of a number, `avg` those of
 /// a quotient, `pool` those of each outcome, `terms` the number of terms and then, for each, its denominator and its
 /// numerators, the count first, `rows` the denominator, the number of rows and then, for each, the names of the
-/// cell's leaves, one of each dimension, and the weight, and `worlds` their number, their mass and the total of each column,
+/// cell's leaves, one of each dimension, and the weight, `view` the number of entries and then, for each, the names of the
+/// region's nodes and the fields of `terms`, and `worlds` their number, their mass and the total of each column,
 /// the count first.
 ///
 /// A bound has nine digits behind the point, and is `-` where there is none; read back, it is the bound itself
@@ -105,6 +113,7 @@ fn word_of(reply: &Reply) -> &'static str
         Reply::Pool(_) => "pool",
         Reply::Terms(_) => "terms",
         Reply::Rows { .. } => "rows",
+        Reply::View(_) => "view",
         Reply::Worlds { .. } => "worlds",
     }
 }
@@ -123,6 +132,7 @@ fn append_fields(text: &mut Vec<u8>, space: &Space, reply: &Reply) -> Result<(),
         Reply::Pool(pooled) => append_quotients(text, pooled.as_slice()),
         Reply::Terms(terms) => append_terms(text, terms),
         Reply::Rows { den, rows } => append_rows(text, space, *den, rows.as_slice()),
+        Reply::View(entries) => append_view(text, space, entries.as_slice()),
         Reply::Worlds {
             worlds,
             mass,

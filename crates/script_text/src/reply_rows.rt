@@ -40,7 +40,7 @@ fn append_row(text: &mut Vec<u8>, space: &Space, row: (u64, u64)) -> Result<(), 
 }
 
 /// Appends the names of a region's nodes.
-fn append_names(text: &mut Vec<u8>, space: &Space, region: Region) -> Result<(), Memory>
+pub fn append_names(text: &mut Vec<u8>, space: &Space, region: Region) -> Result<(), Memory>
     requires { IsRegion space.now region }
     ensures ok { OnOk result (text.new.items ≡ text.old.items ++ fields_text (names_of space.now region)) }
     ensures err { OnErr result (Keeps text.old.items text.new.items) }

@@ -18,6 +18,8 @@ pub enum ScriptWord {
     OfRegion(RegionWord),
     /// The name of a measure and a node of each dimension.
     OfMeasure(MeasureWord),
+    /// The name of a view; its word is `view`.
+    OfView,
 }
 
 /// A word before a fact.
@@ -72,6 +74,8 @@ pub fn word_spelled(field: &str) -> Option<ScriptWord>
         Some(ScriptWord::OfRegion(RegionWord::Terms))
     } else if field == "rows" {
         Some(ScriptWord::OfId(IdWord::Rows))
+    } else if field == "view" {
+        Some(ScriptWord::OfView)
     } else if field == "worlds" {
         Some(ScriptWord::OfRegion(RegionWord::Worlds))
     } else {

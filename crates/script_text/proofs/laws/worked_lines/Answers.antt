@@ -20,4 +20,5 @@ returns c = record {
   sum = refl;
   average = refl;
   pool = refl;
+  view = refl;
 }

@@ -21,4 +21,6 @@ returns c = record {
   node_first = refl;
   measure = refl;
   fields_first = refl;
+  view_name = refl;
+  one_view = refl;
 }

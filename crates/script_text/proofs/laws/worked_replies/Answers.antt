@@ -23,4 +23,6 @@ returns c = record {
   no_bounds = refl;
   undefined = refl;
   pool = refl;
+  no_entries = refl;
+  view = refl;
 }
