@@ -11,4 +11,5 @@ pub mod Refreshing
 pub mod Rows
 pub mod SmallValues
 pub mod Spreading
+pub mod Viewing
 pub mod Walking

@@ -4,4 +4,5 @@ pub mod Examples
 pub mod Expected
 pub mod Refreshed
 pub mod Spreads
+pub mod View
 pub mod WorldSums

@@ -1,5 +1,5 @@
 //! The cube.
-ghost use Rattle.std.specs.Prelude.{◌≡◌, ◌+◌, ◌≤◌, [], None, true, All, IfErr, IfOk, IfSome, OnErr, OnOk};
+ghost use Rattle.std.specs.Prelude.{◌≡◌, ◌+◌, ◌<◌, ◌≤◌, [], None, true, All, length, IfErr, IfOk, IfSome, OnErr, OnOk};
 ghost use Rattle.std.specs.Option.{option_copied};
 ghost use Rattle.std.specs.Result.{result_err};
 ghost use Rattle.alloc_rows.specs.Alloc.{IsAllocation};
@@ -13,11 +13,12 @@ ghost use Rattle.fact_records.specs.Outcomes.{AllAddUp};
 ghost use Rattle.fact_records.specs.Shape.{width_of_all};
 ghost use Rattle.fact_records.specs.Valid.{IsEditOver};
 ghost use Rattle.region_algebra.specs.Space.{IsRegion};
-ghost use Rattle.schema_text.specs.Schema.{shape_of};
+ghost use Rattle.schema_text.specs.Schema.{shape_of, view_named};
 ghost use Rattle.world_law.specs.Additive.{AddUpOverChildren};
 ghost use Rattle.world_law.specs.Placed.{fault_of};
 ghost use Rattle.cube_core.specs.Cube.{AreFactsOf, IsBounded, IsFaultOf, answer_in, edited, judge_in, refreshed_in, rows_in, withdrawn};
 ghost use Rattle.cube_core.specs.Expected.{AreExpected};
+ghost use Rattle.cube_core.specs.View.{view_in};
 ghost use Rattle.cube_core.specs.WorldSums.{IsWorldFault, placed_in, world_sum_in};
 
 use crate::EditFault;
@@ -25,10 +26,11 @@ use crate::edits::after;
 use crate::place::{PlacedList, place};
 use crate::refreshed::refreshed;
 use crate::spreads::spread_all;
+use crate::views::{ViewList, append_entries};
 use alloc_rows::{Alloc, inside};
 use cell_weight::WeightPolicy;
 use cube_base::{Code, Ids, Memory};
-use cube_model::Region;
+use cube_model::{MAX_DIMS, Region};
 use fact_records::{Edit, FactList, judge_fact};
 use group_sum::Terms;
 use schema_text::Schema;
@@ -170,6 +172,28 @@ impl<P: WeightPolicy + Drop> Cube<P> {
             terms.add_term(den, weight, fact.cols)?;
         }
         Ok(terms)
+    }
+
+    /// The place of the view of a name: None exactly where no view has it. It takes no memory.
+    pub fn view(&self, name: &str) -> Option<u32>
+        ensures named { result ≡ view_named self.now.schema.views name.now }
+        ensures within { IfSome result (λ view. view < length self.now.schema.views) }
+    {
+        self.schema.view_named(name)
+    }
+
+    /// The view at a place, of which there must be one: each region of the product of its cuts in which the facts have terms,
+    /// with these, the first dimension slowest and the nodes of each dimension in their order. It asks for the answer at each
+    /// region of the product. The one error is want of memory.
+    pub fn view_list(&self, view: u32) -> Result<ViewList, Memory>
+        requires { view < length self.now.schema.views }
+        ensures entries { IfOk result (λ entries. entries ≡ view_in P.weigh self.now view) }
+        ensures regions { IfOk result (All (λ entry. IsRegion self.now.schema.dims entry.0)) }
+    {
+        let depths = &self.schema().views()[view as usize].depths;
+        let mut entries = Vec::new(self.alloc);
+        append_entries(self, depths.as_slice(), [0; MAX_DIMS], 0, &mut entries)?;
+        Ok(ViewList::from(entries))
     }
 
     /// The facts with their allocations, in order of their ids, as worlds are made of them: the ids are left out. The one

@@ -54,6 +54,17 @@ loop-fact-preserved g c =
       valid = All-rest (IsValid (shape_of schema) schema.dims) c.in-Some.fact.now c.next.new.self c.loop-fact.fact-iterator cut c.loop-fact.invariant.valid;
     }
 
+pub loop-fact-preserved-else-rows-le-MAX_ROWS : goal.loop-fact-preserved-else-rows-le-MAX_ROWS
+loop-fact-preserved-else-rows-le-MAX_ROWS g c =
+    let schema = c.args.schema.now in
+    let cut = c.in-Some.ensures.steps in
+    let before = Spreading-left cut c.loop-fact.invariant.spreading in
+    let is = allocated _ schema c.args.facts.now.facts c.in-Some.fact.now _ _ c.space-space.ensures.dims c.requires.counted c.in_ok-allocation.ensures.of_facts in
+    record {
+      spreading = Spreading-past _ _ _ c.in-Some.fact.now c.next.new.self _ _ before _ is _ (ap (λ l. c.loop-fact.rows + length l) c.rows.ensures.rows) c.if-rows-le-MAX_ROWS.false;
+      valid = All-rest (IsValid (shape_of schema) schema.dims) c.in-Some.fact.now c.next.new.self c.loop-fact.fact-iterator cut c.loop-fact.invariant.valid;
+    }
+
 pub returns-clause-allocations : goal.returns-clause-allocations
 returns-clause-allocations g c = Spreading-all _ _ _ _ _ (Spreading-left c.in-None.ensures.steps.0 c.loop-fact.invariant.spreading)
 
