@@ -1,9 +1,9 @@
 -- The dimensions of an accepted schema are trees.
-use Rattle.std.proofs.Common.{◌≡◌, ◌≢◌, ℕ, ◌+◌, ◌-◌, ◌≤◌, Bool, true, false, List, [], ◌∷◌, ◌++◌, length, map, refl, sym, ap, ◌∙◌, subst, arith, Option, Some, None, Result, Ok, Err}
-use Rattle.std.specs.Prelude.{All, ◌&&◌, ◌||◌, if◌then◌else◌, is_none, not}
+use Rattle.std.proofs.Common.{◌≡◌, ◌≢◌, ℕ, ◌+◌, ◌-◌, Bool, true, false, List, [], ◌∷◌, length, map, refl, sym, ap, ◌∙◌, subst, arith, Option, Some, None, Result, Ok, Err}
+use Rattle.std.specs.Prelude.{All, if◌then◌else◌, is_none, not}
 use Rattle.std.specs.List.{list_all}
 use Rattle.std.specs.Option.{option_map_or, option_or}
-use Rattle.std.proofs.lemmas.Bool.{not-false}
+use Rattle.std.proofs.lemmas.Bool.{not-false, or_parts}
 use Rattle.std.proofs.lemmas.List.Elements.{All-append, All-cons, All-nil}
 use Rattle.std.proofs.lemmas.List.Folds.{list_all-append}
 use Rattle.cube_base.specs.Name.{is_name}
@@ -14,18 +14,19 @@ use Rattle.cube_model.specs.Tree.{Dimension, Entry, IsTree, is_numbered, node_li
 use Rattle.dim_tree.proofs.Climbing.{both, together}
 use Rattle.dim_tree.proofs.Entries.{length-node_lines}
 use Rattle.dim_tree.proofs.Outlines.{tree_fault_first}
-use Rattle.text_lines.specs.LineText.{field_at, is_skipped, without_cr}
+use Rattle.text_lines.specs.LineText.{is_skipped, without_cr}
 use Rattle.text_lines.specs.Text.{after_lines, fields_of, lines_of}
 use Rattle.schema_text.specs.declared.word.SchemaWord.{SchemaWord}
-use Rattle.schema_text.specs.declared.word.SchemaWord.TheVariants.{Cube, Policy, Number, Parts, Dimension as DimensionWord, Node, End}
+use Rattle.schema_text.specs.declared.word.SchemaWord.TheVariants.{Cube, Policy, Number, Parts, Dimension as DimensionWord, Node, View, End}
 use Rattle.schema_text.specs.Draft.{AreNodes, IsDraft, end_fault, size_fault, word_in}
-use Rattle.schema_text.specs.SchemaText.{BadLine, Draft, ReadLines, ReadSchema, blank_draft, dims_of, ended, has_many_cells, has_many_regions, has_no_room, has_wrong_count, has_wrong_depth, has_wrong_name, has_wrong_number, has_wrong_policy, is_end, lacks_measure, line_fault, may_follow, node_of_fields, policy_among, read_from, schema_of, schema_of_draft, sized, with_line, with_word, word_fault}
+use Rattle.schema_text.specs.SchemaText.{BadLine, Draft, ReadLines, ReadSchema, blank_draft, depth_fields, dims_of, ended, has_many_cells, has_many_regions, has_no_room, has_wrong_count, has_wrong_depth, has_wrong_depths, has_wrong_name, has_wrong_number, has_wrong_policy, is_end, lacks_measure, line_fault, may_follow, node_of_fields, policy_among, read_from, schema_of, schema_of_draft, sized, with_line, with_word, word_fault}
 use Rattle.schema_text.proofs.Drafts.{is_name-right}
 use Rattle.schema_text.proofs.DraftSteps.{IsDraft-word}
 use Rattle.schema_text.proofs.Ends.{line_fault-end}
 use Rattle.schema_text.proofs.LineFaults.{end-one_field, other_word}
 use Rattle.schema_text.proofs.LineWords.{HasWord, HasWord-in, line_fault-none, line_fault-word, with_line-word}
 use Rattle.schema_text.proofs.NodesMore.{AreNodes-none}
+use Rattle.schema_text.proofs.ViewsMore.{AreViews-none}
 
 -- what accepted lines say: the dimensions that are ended are trees, and the nodes of the last have names
 record HasTrees (draft : Draft) : Type 0 where
@@ -46,7 +47,7 @@ dims_of-trees draft has numbered = All-append IsTree draft.dims (ended draft.nod
 
 -- of the conditions on a line that is accepted none holds
 record IsRight (draft : Draft) (fields : List (List ℕ)) (word : SchemaWord) : Type 0 where
-  count : has_wrong_count draft.version fields word ≡ false
+  count : has_wrong_count draft.version (length draft.names) fields word ≡ false
   name : has_wrong_name draft fields word ≡ false
   number : has_wrong_number draft fields word ≡ false
 
@@ -60,7 +61,7 @@ four-fail false false false false rest none = (refl, refl, refl)
 right : (draft : Draft) (fields : List (List ℕ)) (word : SchemaWord) → word_fault draft fields word ≡ None → IsRight draft fields word
 right draft fields word accepted =
     let none =
-    four-fail (has_wrong_count draft.version fields word) (has_wrong_name draft fields word) (has_wrong_policy draft fields word) (has_wrong_number draft fields word)
+    four-fail (has_wrong_count draft.version (length draft.names) fields word) (has_wrong_name draft fields word) (has_wrong_policy draft fields word) (has_wrong_number draft fields word)
     ((has_wrong_depth draft fields word, code.Depth) ∷ (has_no_room draft fields word, code.Limit) ∷ (lacks_measure draft fields word, code.Policy) ∷ (has_many_cells draft fields word, code.Cells) ∷ (has_many_regions draft fields word, code.Nodes) ∷ []) accepted in
     record { count = none.0; name = none.1; number = none.2 }
 
@@ -83,6 +84,13 @@ HasTrees-word draft fields Node has follows goes_on accepted =
       trees = has.trees;
       names = list_all-append (λ (e : Entry). is_name e.name) draft.nodes (node ∷ []) ∙ together has.names (together named refl);
     }
+HasTrees-word draft fields View has follows goes_on accepted =
+    let fine = or_parts (has_wrong_depths (depth_fields fields)) (not (list_all is_numbered (ended draft.nodes))) (right draft fields View accepted).number in
+    record {
+      known = IsDraft-word draft fields View has.known follows goes_on accepted;
+      trees = dims_of-trees draft has (not-false (list_all is_numbered (ended draft.nodes)) fine.1);
+      names = refl;
+    }
 HasTrees-word draft fields End has follows goes_on accepted = absurd (goes_on refl)
 
 HasTrees-line : (draft : Draft) (line : List ℕ) → HasTrees draft → line_fault draft line ≡ None → is_end line ≡ false → HasTrees (with_line draft line)
@@ -96,7 +104,7 @@ HasTrees-line draft line has accepted other = by_word (word_in draft.last line) 
         let its : HasWord draft.last line word = HasWord-in draft.last line word is in
         let fields = fields_of (without_cr line) in
         let judged : word_fault draft fields word ≡ None = sym (line_fault-word draft line word its) ∙ accepted in
-        let goes_on : word ≢ End = other_word draft.version fields word (right draft fields word judged).count (λ ends. end-one_field line other (its.named ∙ ap (λ w. Some w) ends)) in
+        let goes_on : word ≢ End = other_word draft.version (length draft.names) fields word (right draft fields word judged).count (λ ends. end-one_field line other (its.named ∙ ap (λ w. Some w) ends)) in
         subst HasTrees (sym (with_line-word draft line word its)) (HasTrees-word draft fields word has its.follows goes_on judged)
 
 -- at the end the last dimension is numbered
@@ -145,6 +153,8 @@ HasTrees-blank = record {
     named = refl;
     some = refl;
     nodes = AreNodes-none;
+    viewed = refl;
+    views = AreViews-none 0;
   };
   trees = All-nil IsTree;
   names = refl;

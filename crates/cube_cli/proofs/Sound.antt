@@ -63,6 +63,7 @@ module _ (weigh : CellStat → ℕ) (schema : SchemaValue) where
   said-sound state (line.Pool measure region) sound here = sound
   said-sound state (line.Terms region) sound here = sound
   said-sound state (line.Rows id) sound here = sound
+  said-sound state (line.View view) sound here = sound
   said-sound state (line.Worlds region) sound here = sound
 
   step-sound : (state : State) (bytes : List ℕ) → IsSound state → IsSound (step weigh schema state bytes).state

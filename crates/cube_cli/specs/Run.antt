@@ -32,6 +32,7 @@ use Rattle.script_text.specs.declared.reply.Reply.TheVariants as reply
 use Rattle.script_text.specs.Reply.{reply_text}
 use Rattle.script_text.specs.ScriptLine.{line_of}
 use Rattle.cube_core.specs.Cube.{CubeValue, rows_over}
+use Rattle.cube_core.specs.View.{view_over}
 use Rattle.world_law.specs.declared.sum.WorldFault.{WorldFault}
 use Rattle.world_law.specs.declared.sum.WorldFault.TheVariants as world_fault
 use Rattle.world_law.specs.Placed.{fault_of, placed_of}
@@ -140,6 +141,7 @@ answer_to weigh schema state (line.Avg measure region) = Some (average_reply sch
 answer_to weigh schema state (line.Pool measure region) = Some (pool_reply schema measure (terms_at weigh schema state region))
 answer_to weigh schema state (line.Terms region) = Some (terms_reply schema (terms_at weigh schema state region))
 answer_to weigh schema state (line.Rows id) = Some (rows_reply (allocation_of id (rows_at weigh schema state)))
+answer_to weigh schema state (line.View view) = Some (reply.View (view_over weigh (schema_at schema state) state.facts view))
 answer_to weigh schema state (line.Worlds region) = Some (worlds_reply (width_of_all schema.measures + 1) state.dims region (rows_at weigh schema state))
 
 -- what a line that is read does: an edit is done, and what others ask is answered
@@ -172,6 +174,7 @@ refusals_in (Some (reply.Avg _)) = 0
 refusals_in (Some (reply.Pool _)) = 0
 refusals_in (Some (reply.Terms _)) = 0
 refusals_in (Some (reply.Rows _ _)) = 0
+refusals_in (Some (reply.View _)) = 0
 refusals_in (Some (reply.Worlds _ _ _)) = 0
 
 -- What lines do: the text of the reply to each, which is empty where there is none, the state at the end, and the number of

@@ -54,6 +54,7 @@ pub fn answer<P: WeightPolicy + Drop>(
         }
         Line::Terms(region) => Ok(Some(Reply::Terms(cube.answer(region)?))),
         Line::Rows(id) => Ok(Some(rows_reply(alloc, cube.rows(id))?)),
+        Line::View(view) => Ok(Some(Reply::View(cube.view_list(view)?))),
         Line::Worlds(region) => Ok(Some(worlds_reply(cube, region)?)),
     }
 }
