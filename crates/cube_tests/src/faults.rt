@@ -13,7 +13,7 @@ const REPLIES: &str =
     "ok\t1\nok\t1\nok\t2\nerror\texists\nok\t2\nrows\t2\t2\tAustin\tCamry\t1\tHouston\tCamry\t1\nterms\t2\t1\t2\t150\t2\t2\t1200\nok\t1\nerror\tcommand\nrows\t1\t1\tHouston\tCamry\t1\n";
 
 /// How many bytes a read gives, and how many reads there are, of which the last finds the end.
-const READS: [(usize, u64); 3] = [(16, 29), (100, 6), (ALL, 2)];
+const READS: [(usize, u64); 3] = [(16, 30), (100, 6), (ALL, 2)];
 
 /// Whether each read that fails ends the run before anything is written, and one behind the end is not made.
 fn fails_at_each(alloc: Global, row: &(usize, u64)) -> Result<bool, AllocError> {

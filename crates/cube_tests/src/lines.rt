@@ -167,9 +167,13 @@ const REFUSED: [(&[u8], Code); 153] = [
 ];
 
 /// The same of words that ask for one number.
-const REFUSED_QUESTIONS: [(&[u8], Code); 103] = [
-    (b"view\tstate", Code::Command),
-    (b"view\tstate\t1", Code::Command),
+const REFUSED_QUESTIONS: [(&[u8], Code); 107] = [
+    (b"view\tnone", Code::Name),
+    (b"view\tState", Code::Name),
+    (b"view\t", Code::Name),
+    (b"view\tstate\t1", Code::Fields),
+    (b"view", Code::Fields),
+    (b"View\tnone", Code::Command),
     (b"count\tAustin\tCam\x01", Code::Text),
     (b"count\tAus\xfftin\tCamry", Code::Text),
     (b"Count\tAustin\tCamry", Code::Command),

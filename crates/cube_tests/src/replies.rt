@@ -12,6 +12,14 @@ const EVENLY: &str =
 const STATES: &str =
     "cube\t1\npolicy\tcount\ndimension\tPlace\nnode\t0\tAll\nnode\t1\tNV\nnode\t2\tReno\nnode\t1\tTX\nnode\t2\tAustin\nnode\t2\tDallas\nend\n";
 
+/// A state with two cities, and a district without one, which is a leaf like them.
+const UNEVEN: &str =
+    "cube\t1\npolicy\tcount\ndimension\tPlace\nnode\t0\tAll\nnode\t1\tNV\nnode\t2\tReno\nnode\t2\tElko\nnode\t1\tDC\nview\tall\t0\nview\tdeep\t2\nview\tstates\t1\nend\n";
+
+/// Two states, of which the first has the greater number.
+const NUMBERED: &str =
+    "cube\t2\npolicy\tcount\ndimension\tPlace\nnode\t0\tAll\t0\nnode\t1\tTX\t2\nnode\t1\tNV\t1\nview\tstates\t1\nend\n";
+
 /// One node.
 const ROOT: &str = "cube\t1\npolicy\tuniform\ndimension\tPlace\nnode\t0\tAll\nend\n";
 
@@ -22,7 +30,7 @@ const FOUR_REPAIRS: &str =
 /// Each is new, and no other fact lies otherwise for it.
 const FOUR_OKS: &str = "ok\t1\nok\t1\nok\t1\nok\t1\n";
 
-const CASES: [Case; 13] = [
+const CASES: [Case; 17] = [
     (
         REPAIRS,
         "insert\t1\tAustin\tCamry\t100\ninsert\t2\tAustin\tCamry\t300\ninsert\t3\tDallas\tCamry\t50\ninsert\t4\tTX\tCamry\t600\nrows\t4\n",
@@ -40,6 +48,34 @@ const CASES: [Case; 13] = [
         REPAIRS,
         "insert\t1\tAustin\tCamry\t100\ninsert\t2\tAustin\tCamry\t300\ninsert\t3\tDallas\tCamry\t50\ninsert\t4\tTX\tCamry\t600\nchange\t3\tHouston\tCamry\t50\nrows\t4\n",
         "ok\t1\nok\t1\nok\t1\nok\t1\nok\t2\nrows\t3\t2\tAustin\tCamry\t2\tHouston\tCamry\t1\n",
+        End::Finished { refused: 0 },
+    ),
+    // The view has the one state by the one kind of autos where a fact lies.
+    (
+        REPAIRS,
+        "insert\t1\tAustin\tCamry\t100\ninsert\t2\tAustin\tCamry\t300\ninsert\t3\tDallas\tCamry\t50\ninsert\t4\tTX\tCamry\t600\nview\tstate\nview\tnone\n",
+        "ok\t1\nok\t1\nok\t1\nok\t1\nview\t1\tTX\tSedan\t2\t1\t3\t450\t3\t3\t1800\nerror\tname\n",
+        End::Finished { refused: 1 },
+    ),
+    // The first dimension is slowest, and an entry goes with its last fact.
+    (
+        REPAIRS,
+        "view\tstate\ninsert\t1\tLA\tF150\t7\ninsert\t2\tSF\tCivic\t5\ninsert\t3\tAustin\tSierra\t3\ninsert\t4\tDallas\tTruck\t-1\nview\tstate\nwithdraw\t3\nview\tstate\n",
+        "view\t0\nok\t1\nok\t1\nok\t1\nok\t1\nview\t3\tTX\tTruck\t2\t1\t1\t3\t2\t2\t-2\tCA\tSedan\t1\t1\t1\t5\tCA\tTruck\t1\t1\t1\t7\nok\t0\nview\t3\tTX\tTruck\t1\t2\t2\t-2\tCA\tSedan\t1\t1\t1\t5\tCA\tTruck\t1\t1\t1\t7\n",
+        End::Finished { refused: 0 },
+    ),
+    // A cut has the leaves that lie less deep too, and each name its own view.
+    (
+        UNEVEN,
+        "insert\t1\tReno\ninsert\t2\tDC\ninsert\t3\tNV\nview\tdeep\nview\tstates\nview\tall\n",
+        "ok\t1\nok\t1\nok\t1\nview\t2\tReno\t1\t1\t2\tDC\t1\t1\t1\nview\t2\tNV\t1\t1\t2\tDC\t1\t1\t1\nview\t1\tAll\t1\t1\t3\n",
+        End::Finished { refused: 0 },
+    ),
+    // In a text with numbers the order is that of the lines.
+    (
+        NUMBERED,
+        "insert\t1\tNV\ninsert\t2\tTX\nview\tstates\n",
+        "ok\t1\nok\t1\nview\t2\tTX\t1\t1\t1\tNV\t1\t1\t1\n",
         End::Finished { refused: 0 },
     ),
     // Another value changes no row.

@@ -8,7 +8,7 @@ use std::test::Fail;
 /// A line of the schema of repairs, counted from 1, what stands in its place, the line that is then at fault, and why.
 type Altered = (u64, &'static [u8], u64, Code);
 
-const ALTERED: [Altered; 30] = [
+const ALTERED: [Altered; 44] = [
     (1, b"cube\t3", 1, Code::Number),
     (1, b"cube\t2", 5, Code::Fields),
     (1, b"cube", 1, Code::Fields),
@@ -18,7 +18,7 @@ const ALTERED: [Altered; 30] = [
     (2, b"policy\tem", 2, Code::Policy),
     (2, b"policy\tweight", 2, Code::Fields),
     (2, b"policy\tweight\t", 2, Code::Name),
-    (2, b"policy\tweight\tPrice", 21, Code::Policy),
+    (2, b"policy\tweight\tPrice", 22, Code::Policy),
     (3, b"parts\tQuality\t100\tgood", 3, Code::Fields),
     (3, b"parts\tQuality\t100\tgood\tgood", 3, Code::Name),
     (3, b"parts\tQuality\t1000001\tgood\tbad", 3, Code::Number),
@@ -36,9 +36,23 @@ const ALTERED: [Altered; 30] = [
     (8, b"node\t2\tDal\x7flas", 8, Code::Text),
     (8, b"node\t2\tDal\xfflas", 8, Code::Text),
     (13, b"dimension\tPlace", 13, Code::Name),
-    (21, b"view\tstate\t1\t1", 21, Code::Order),
+    (3, b"view\tstate", 3, Code::Order),
+    (5, b"view\tstate\t1", 5, Code::Order),
+    (13, b"view\tstate\t1", 14, Code::Order),
+    (13, b"view\tstate\t1\t1", 13, Code::Fields),
+    (21, b"view\tstate\t1", 21, Code::Fields),
+    (21, b"view\tstate\t1\t1\t1", 21, Code::Fields),
+    (21, b"view\tstate\t1\t9", 21, Code::Number),
+    (21, b"view\tstate\t01\t1", 21, Code::Number),
+    (21, b"view\tstate\t\t1", 21, Code::Number),
+    (21, b"view\t\t1\t9", 21, Code::Name),
+    (21, b"View\tstate\t1\t1", 21, Code::Order),
     (21, b"end\t", 21, Code::Fields),
-    (21, b"# end", 22, Code::Cut),
+    (22, b"view\tstate\t2\t9", 22, Code::Name),
+    (22, b"node\t1\tNV", 22, Code::Order),
+    (22, b"dimension\tTime", 22, Code::Order),
+    (22, b"end\t", 22, Code::Fields),
+    (22, b"# end", 23, Code::Cut),
 ];
 
 /// Whether the altered schema is refused at its line, and nothing is written.
@@ -69,7 +83,7 @@ fn altered_schemas(rt: HostRuntime) -> Result<(), Fail> {
 }
 
 /// Whole inputs, and how they end.
-const WHOLES: [(&str, End); 23] = [
+const WHOLES: [(&str, End); 28] = [
     // Numbers.
     (
         "cube\t2\npolicy\tcount\ndimension\tPlace\nnode\t0\tAll\t0\nnode\t1\tTX\t1\nnode\t2\tAustin\t2\nnode\t2\tWaco\t5\nnode\t1\tCA\t3\nnode\t2\tLA\t4\nend\n",
@@ -235,6 +249,43 @@ const WHOLES: [(&str, End); 23] = [
             code: Code::Number,
         },
     ),
+    // Four views, of depths beyond the nodes'.
+    (
+        "cube\t1\npolicy\tcount\ndimension\tx\nnode\t0\tAll\nview\ta\t0\nview\tb\t8\nview\tc\t1\nview\td\t0\nend\n",
+        End::Finished { refused: 0 },
+    ),
+    // A fifth view.
+    (
+        "cube\t1\npolicy\tcount\ndimension\tx\nnode\t0\tAll\nview\ta\t0\nview\tb\t8\nview\tc\t1\nview\td\t0\nview\te\t0\nend\n",
+        End::Schema {
+            line: 9,
+            code: Code::Limit,
+        },
+    ),
+    // A fifth view of a depth that is none.
+    (
+        "cube\t1\npolicy\tcount\ndimension\tx\nnode\t0\tAll\nview\ta\t0\nview\tb\t8\nview\tc\t1\nview\td\t0\nview\te\t9\nend\n",
+        End::Schema {
+            line: 9,
+            code: Code::Number,
+        },
+    ),
+    // Numbers judged where a view ends the dimension.
+    (
+        "cube\t2\npolicy\tcount\ndimension\tPlace\nnode\t0\tAll\t0\nnode\t1\tTX\t2\nview\tstate\t1\nend\n",
+        End::Schema {
+            line: 6,
+            code: Code::Number,
+        },
+    ),
+    // The name of a view before the numbers.
+    (
+        "cube\t2\npolicy\tcount\ndimension\tPlace\nnode\t0\tAll\t0\nnode\t1\tTX\t2\nview\t\t1\nend\n",
+        End::Schema {
+            line: 6,
+            code: Code::Name,
+        },
+    ),
     // Seven measures.
     (
         "cube\t1\npolicy\tuniform\nnumber\t0\nnumber\t1\nnumber\t2\nnumber\t3\nnumber\t4\nnumber\t5\nnumber\t6\ndimension\tx\nnode\t0\tAll\nend\n",
@@ -349,7 +400,7 @@ fn is_cut(alloc: Global, lines: usize) -> Result<bool, AllocError> {
 
 #[test]
 fn inputs_that_end_within_their_schema(rt: HostRuntime) -> Result<(), Fail> {
-    for lines in 0..21usize {
+    for lines in 0..22usize {
         let cut = is_cut(rt.alloc(), lines)?;
         assert!(rt; cut);
     }
