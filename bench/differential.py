@@ -40,14 +40,14 @@ IDS = [b"1", b"2", b"3", b"4", b"5", b"6", b"7", b"8", b"9223372036854775807"]
 WRONG_IDS = [b"", b"0", b"-1", b"+1", b"01", b"9223372036854775808", b"18446744073709551617", b"x", b"1 "]
 WRONG_DEPTHS = [b"", b"-1", b"01", b"9", b"10", b"x", b"256", b"4294967296"]
 WRONG_LINES = [
-    *(b"count", b"sum\ta", b"avg\ta\tb", b"pool\ta\tb", b"view\tx", b"view\tx\t1", b"worlds"),
+    *(b"count", b"sum\ta", b"avg\ta\tb", b"pool\ta\tb", b"view", b"view\tx", b"view\tx\t1", b"view\tx\t1\t2", b"worlds"),
     *(b"Insert\t1\ta", b"insert", b"withdraw", b"rows", b"terms", b"\t", b"x", b"error\tid", b"end", b"node\t1\tz"),
     *(b"parts\tQ\t100\tgood\tbad", b"parts\tQ\t0\tx\ty", b"parts\tQ\t1\tx\tx", b"parts\tQ\t1\tx", b"policy\tem", b"policy\tweight\ta", b"policy\tweight", b"cube\t2", b"cube\t3", b"node\t1\tz\t1", b"dimension\t", b"number\t"),
 ]
 # Words of scripts, and how often they come.
 WORDS = {
     **{b"insert": 12, b"change": 4, b"withdraw": 2, b"terms": 3, b"rows": 4},
-    **{b"count": 3, b"sum": 3, b"avg": 4, b"pool": 3, b"worlds": 3},
+    **{b"count": 3, b"sum": 3, b"avg": 4, b"pool": 3, b"worlds": 3, b"view": 3},
 }
 SKIPPED = [b"", b"\r", b"#", b"# insert\t1", b"#\xff\x00\r", b"#" + b"x" * 5000]
 HOSTILE = [
@@ -128,6 +128,7 @@ class Made:
         names = random.sample(NAMES, random.choices([0, 1, 2, 3, 7, 8], [20, 20, 10, 10, 1, 1])[0])
         self.measures = [MadeMeasure(random, name) for name in names]
         self.ids = IDS[-random.choice([3, 6, 9]) :]
+        self.views = random.sample(NAMES, random.choices([0, 1, 2, 4, 5], [20, 20, 10, 5, 1])[0])
         self.schema = self.schema_lines()
         self.script = [self.script_line() for _ in range(random.choice([0, 10, 20, 40]))]
 
@@ -137,7 +138,12 @@ class Made:
         lines += [measure.line() for measure in self.measures]
         for name, tree in zip(self.random.sample(NAMES, len(self.trees)), self.trees):
             lines += [b"dimension\t" + name, *tree.lines(self.random if has_numbers else None)]
-        return [*lines, b"end"]
+        return [*lines, *map(self.view_line, self.views), b"end"]
+
+    def view_line(self, name):
+        """Cuts at any depths, mostly within the trees, since a view at the leaves of many dimensions is long."""
+        depths = [self.random.choice([0, 0, 1, 1, 1, 2, 3, 8]) for _ in self.trees]
+        return b"\t".join([b"view", name, *(b"%d" % depth for depth in depths)])
 
     def policy(self):
         """By a measure's sum where there is one that is not a distribution, and now and then by any name."""
@@ -155,9 +161,10 @@ class Made:
         return b"\t".join(fields)
 
     def often(self, word):
-        """How often a word comes: seldom where no measure is of its kind."""
+        """How often a word comes: seldom where no measure is of its kind, or no view is there."""
         kinds = {b"sum": False, b"avg": False, b"pool": True}
         has_one = word not in kinds or any(bool(m.outcomes) == kinds[word] for m in self.measures)
+        has_one = has_one and (word != b"view" or self.views != [])
         return WORDS[word] if has_one else 0.3
 
     def measure_name(self, is_distribution):
@@ -174,6 +181,8 @@ class Made:
         values = [measure.value() for measure in self.measures]
         if word in (b"count", b"terms", b"worlds"):
             return [word, *nodes]
+        if word == b"view":
+            return [word, random.choice(self.views if self.views and random.random() < 0.9 else NAMES)]
         if word in (b"sum", b"avg", b"pool"):
             return [word, self.measure_name(word == b"pool"), *nodes]
         return [word, *id, *nodes, *values] if word in (b"insert", b"change") else [word, *id]

@@ -30,6 +30,7 @@ MAX_FACTS = 2**20
 MAX_ROWS = 2**21  # of all facts
 MAX_WORLDS = 65_536  # that are listed
 MAX_MASS = 2**60  # of the worlds that are listed
+MAX_VIEWS = 4
 WIDE = 2**120  # the largest denominator and sum of absolute values of a fraction that is told as such
 UNITS = 10**9  # of a bound, in one
 
@@ -133,6 +134,7 @@ class Dimension(NamedTuple):
 
     names: list  # of each node
     leaves_under: list  # of each node: the leaves that are it or lie below it, in order
+    depths: list  # of each node
 
 
 class Measure(NamedTuple):
@@ -141,11 +143,17 @@ class Measure(NamedTuple):
     columns: int  # how many values it has
 
 
+class View(NamedTuple):
+    name: bytes
+    depths: list  # of each dimension
+
+
 class Schema(NamedTuple):
     weight: Callable  # what a cell weighs by its number of precise facts, and by the sum of the weight measure over them
     weight_measure: int | None  # its place among the measures
     measures: list
     dimensions: list
+    views: list
 
 
 class Draft:
@@ -161,6 +169,7 @@ class Draft:
         self.depths = []  # of each dimension: the depths of its nodes
         self.names = []  # of each dimension: the names of its nodes, as the keys of a dict
         self.numbers = []  # of each dimension: the numbers of its nodes, as the keys of a dict
+        self.views = []
 
 
 POLICIES = {
@@ -235,6 +244,15 @@ def read_node(draft, depth_text, name, number_text=None):
     numbers[number] = None
 
 
+def read_view(draft, name, *depth_texts):
+    refuse_where(not is_name(name) or any(view.name == name for view in draft.views), "name")
+    depths = [number_in(0, MAX_DEPTH, text) for text in depth_texts]
+    refuse_where(None in depths, "number")
+    refuse_broken_numbers(draft)
+    refuse_where(len(draft.views) == MAX_VIEWS, "limit")
+    draft.views.append(View(name, depths))
+
+
 def may_follow(depths, depth):
     """The first node of a dimension is the root, and no other is. A node lies at most one deeper than the one before."""
     return 1 <= depth <= depths[-1] + 1 if depths else depth == 0
@@ -267,7 +285,8 @@ SCHEMA_WORDS = {
     b"parts": SchemaWord((b"policy", b"number", b"parts"), lambda draft, fields: [3 + n for n in OUTCOMES], read_parts),
     b"dimension": SchemaWord((b"policy", b"number", b"parts", b"node"), lambda draft, fields: [2], read_dimension),
     b"node": SchemaWord((b"dimension", b"node"), lambda draft, fields: [3 + draft.has_numbers], read_node),
-    b"end": SchemaWord((b"node",), lambda draft, fields: [1], read_end),
+    b"view": SchemaWord((b"node", b"view"), lambda draft, fields: [2 + len(draft.dimensions)], read_view),
+    b"end": SchemaWord((b"node", b"view"), lambda draft, fields: [1], read_end),
 }
 
 
@@ -291,7 +310,8 @@ def read_schema(lines):
         except Refused as refused:
             raise SchemaFault(place, refused.code) from None
         if draft.last_word == b"end":
-            schema = Schema(draft.weight, weight_measure_of(draft), draft.measures, dimensions_of(draft))
+            measure = weight_measure_of(draft)
+            schema = Schema(draft.weight, measure, draft.measures, dimensions_of(draft), draft.views)
             return schema, lines[place:]
     raise SchemaFault(len(lines) + 1, "cut")
 
@@ -300,7 +320,7 @@ def read_schema(lines):
 
 
 def dimensions_of(draft):
-    return [Dimension(list(names), leaves_under(depths)) for names, depths in zip(draft.names, draft.depths)]
+    return [Dimension(list(names), leaves_under(depths), depths) for names, depths in zip(draft.names, draft.depths)]
 
 
 def parents_of(depths):
@@ -615,6 +635,26 @@ def do_rows(schema, facts, id_text):
     return reply_line(b"rows", found.denominator, len(found.rows), *items), facts
 
 
+def cut_of(dim, depth):
+    """The nodes of this depth, and the leaves that lie less deep."""
+    nodes = range(len(dim.depths))
+    return [n for n in nodes if dim.depths[n] == depth or (dim.depths[n] < depth and dim.leaves_under[n] == [n])]
+
+
+def do_view(schema, facts, name):
+    """The regions where the cuts of the view meet, the first dimension slowest: those that have terms, with these."""
+    views = [view for view in schema.views if view.name == name]
+    refuse_where(not views, "name")
+    regions = product(*(cut_of(dim, depth) for dim, depth in zip(schema.dimensions, views[0].depths)))
+    entries = [(region, terms) for region in regions if (terms := answer(schema, facts, region))]
+    items = [
+        item
+        for region, terms in entries
+        for item in [*cell_names(schema, region), len(terms), *(number for term in terms for number in term)]
+    ]
+    return reply_line(b"view", len(entries), *items), facts
+
+
 def worlds_of(allocations):
     """All possible worlds: each fact stands in the cell of one of its rows, whose weights are multiplied."""
     for rows in product(*(allocation.rows for allocation in allocations)):
@@ -641,7 +681,7 @@ def cell_names(schema, cell):
 
 
 # Each command with what it does, which gives the reply and the facts after it, and whether its line has an id or the
-# name of a measure, a node of each dimension, a value of each measure.
+# name of a measure or of a view, a node of each dimension, a value of each measure.
 COMMANDS = {
     b"insert": (do_insert, True, True, True),
     b"change": (do_change, True, True, True),
@@ -652,6 +692,7 @@ COMMANDS = {
     b"pool": (do_pool, True, True, False),
     b"terms": (do_terms, False, True, False),
     b"rows": (do_rows, True, False, False),
+    b"view": (do_view, True, False, False),
     b"worlds": (do_worlds, False, True, False),
 }
 

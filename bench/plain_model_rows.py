@@ -49,6 +49,35 @@ node|2|Civic
 node|1|Truck
 node|2|F150
 node|2|Sierra
+view|state|1|1
+end
+""")
+
+# A state with two cities, and a district without one, which is a leaf like them.
+UNEVEN = lines_in("""
+cube|1
+policy|count
+dimension|Place
+node|0|All
+node|1|NV
+node|2|Reno
+node|2|Elko
+node|1|DC
+view|all|0
+view|deep|2
+view|states|1
+end
+""")
+
+# Two states, of which the first has the greater number.
+EXCHANGED = lines_in("""
+cube|2
+policy|count
+dimension|Place
+node|0|All|0
+node|1|TX|2
+node|1|NV|1
+view|states|1
 end
 """)
 
@@ -338,9 +367,36 @@ SCRIPTS = [
         ("withdraw|17", "ok|0"),
         ("worlds|b", "worlds|65536|65536|524288"),
     ]),
-    ("words that are not known yet", CARS, [
-        ("view|state", "error|command"),
-        ("view|state|1", "error|command"),
+    ("a view of states by kinds of autos", CARS, [
+        *REPAIRS,
+        ("view|state", "view|1|TX|Sedan|2|1|3|450|3|3|1800"),
+        ("view|none", "error|name"),
+        ("view|", "error|name"),
+        ("view|state|1", "error|fields"),
+        ("view", "error|fields"),
+    ]),
+    ("the first dimension of a view is slowest", CARS, [
+        ("view|state", "view|0"),
+        ("insert|1|LA|F150|7", "ok|1"),
+        ("insert|2|SF|Civic|5", "ok|1"),
+        ("insert|3|Austin|Sierra|3", "ok|1"),
+        ("insert|4|Dallas|Truck|-1", "ok|1"),
+        ("view|state", "view|3|TX|Truck|2|1|1|3|2|2|-2|CA|Sedan|1|1|1|5|CA|Truck|1|1|1|7"),
+        ("withdraw|3", "ok|0"),
+        ("view|state", "view|3|TX|Truck|1|2|2|-2|CA|Sedan|1|1|1|5|CA|Truck|1|1|1|7"),
+    ]),
+    ("a cut has the leaves that lie less deep", UNEVEN, [
+        ("insert|1|Reno", "ok|1"),
+        ("insert|2|DC", "ok|1"),
+        ("insert|3|NV", "ok|1"),
+        ("view|deep", "view|2|Reno|1|1|2|DC|1|1|1"),
+        ("view|states", "view|2|NV|1|1|2|DC|1|1|1"),
+        ("view|all", "view|1|All|1|1|3"),
+    ]),
+    ("a view has the order of the lines, not of the numbers", EXCHANGED, [
+        ("insert|1|NV", "ok|1"),
+        ("insert|2|TX", "ok|1"),
+        ("view|states", "view|2|TX|1|1|1|NV|1|1|1"),
     ]),
     ("the most cells of a region", GRID, [("insert|1|L|R", "error|region"), ("change|1|L|R", "error|missing")]),
 ]
@@ -407,7 +463,7 @@ FAULTS = [
     (2, "policy|em", 2, "policy"),
     (2, "policy|weight", 2, "fields"),
     (2, "policy|weight|", 2, "name"),
-    (2, "policy|weight|Price", 21, "policy"),
+    (2, "policy|weight|Price", 22, "policy"),
     (3, "parts|Quality|100|good", 3, "fields"),
     (3, "parts|Quality|100|good|good", 3, "name"),
     (3, "parts|Quality|1000001|good|bad", 3, "number"),
@@ -425,10 +481,24 @@ FAULTS = [
     (8, "node|2|Dal\x7flas", 8, "text"),
     (8, "node|2|Dal\udcfflas", 8, "text"),
     (13, "dimension|Place", 13, "name"),
-    (21, "view|state|1|1", 21, "order"),
+    (3, "view|state", 3, "order"),
+    (5, "view|state|1", 5, "order"),
+    (13, "view|state|1", 14, "order"),
+    (13, "view|state|1|1", 13, "fields"),
+    (21, "view|state|1", 21, "fields"),
+    (21, "view|state|1|1|1", 21, "fields"),
+    (21, "view|state|1|9", 21, "number"),
+    (21, "view|state|01|1", 21, "number"),
+    (21, "view|state||1", 21, "number"),
+    (21, "view||1|9", 21, "name"),
+    (21, "View|state|1|1", 21, "order"),
     (21, "end|", 21, "fields"),
-    (21, "# end", 22, "cut"),
-    (21, "#" + "\udcff" * 5000, 22, "cut"),
+    (22, "view|state|2|9", 22, "name"),
+    (22, "node|1|NV", 22, "order"),
+    (22, "dimension|Time", 22, "order"),
+    (22, "end|", 22, "fields"),
+    (22, "# end", 23, "cut"),
+    (22, "#" + "\udcff" * 5000, 23, "cut"),
 ]
 
 
@@ -442,6 +512,10 @@ def wide(dimensions, leaves):
 
 def measured(measures):
     return ["cube|1", "policy|uniform", *(f"number|{k}" for k in range(measures)), "dimension|x", "node|0|All", "end"]
+
+
+def viewed(*views):
+    return ["cube|1", "policy|count", "dimension|x", "node|0|All", *(f"view|{view}" for view in views), "end"]
 
 
 def named(name):
@@ -473,6 +547,11 @@ SCHEMAS = [
     ("seven outcomes", ["cube|1", "policy|count", "parts|Q|1|" + "|".join("abcdefg")], (4, "cut")),
     ("a column beyond seven", ["cube|1", "policy|count", "number|n", "parts|Q|1|" + "|".join("abcdefg")], (4, "limit")),
     ("no scale", ["cube|1", "policy|count", "parts|Q|0|x|y"], (3, "number")),
+    ("four views", viewed("a|0", "b|8", "c|1", "d|0"), None),
+    ("a fifth view", viewed("a|0", "b|8", "c|1", "d|0", "e|0"), (9, "limit")),
+    ("a fifth view of no depth", viewed("a|0", "b|8", "c|1", "d|0", "e|9"), (9, "number")),
+    ("numbers judged where a view ends the dimension", EXCHANGED[:5] + EXCHANGED[6:], (6, "number")),
+    ("the name of a view before the numbers", [*EXCHANGED[:5], "view||1", "end"], (6, "name")),
     ("nothing", [], (1, "cut")),
     ("skipped lines count", ["", "# a\r", "cube|1", "\r", "policy|em"], (5, "policy")),
     ("a name of 128 bytes", named("x" * 128), (4, "cut")),
