@@ -1,0 +1,12 @@
+pub mod Accepting
+pub mod Adding
+pub mod Below
+pub mod Counting
+pub mod Covering
+pub mod Grouping
+pub mod Installing
+pub mod Looking
+pub mod Regrouping
+pub mod Seeing
+pub mod Spreading
+pub mod Touching

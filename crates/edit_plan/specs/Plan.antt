@@ -1,0 +1,98 @@
+-- What a plan is, when it may be installed, and why there is none.
+use Rattle.std.specs.Prelude.{◌≡◌, ◌≢◌, ℕ, Bool, true, List, All, filter, map, nat_lt, ◌||◌, Some, None, unwrap_or}
+use Rattle.std.specs.Option.{option_to_list}
+use Rattle.cube_base.specs.declared.code.Code.TheVariants as code
+use Rattle.cube_model.specs.declared.edit.Edit.{Edit}
+use Rattle.cube_model.specs.declared.edit.Edit.TheVariants.{Put, Change, Withdraw}
+use Rattle.cube_model.specs.declared.edit.Fact.{Fact}
+use Rattle.cube_model.specs.declared.statistic.CellStat.{CellStat}
+use Rattle.cube_model.specs.Allocation.{ExtendedFact, Policy, extended, row_count, stat_of}
+use Rattle.cube_model.specs.Cells.{is_among}
+use Rattle.cube_model.specs.Difference.{refreshed}
+use Rattle.cube_model.specs.Facts.{after, has_id}
+use Rattle.cube_model.specs.Tree.{Dimension}
+use Rattle.staged_map.specs.Staged.{AreOfDifferentKeys, Entries, Places, entry_of, have_places, value_at}
+use Rattle.cell_weight.specs.Stats.{AreOfDifferentCells, IsStat, change_of, stat_at}
+use Rattle.cell_weight.specs.Stats.{have_places as have_stat_places}
+use Rattle.fact_keeper.specs.declared.content.Batch.{Batch}
+use Rattle.fact_keeper.specs.declared.content.KeptFact.{KeptFact}
+use Rattle.fact_keeper.specs.declared.content.KeptRows.{KeptRows}
+use Rattle.fact_groups.specs.Edits.{given}
+use Rattle.fact_groups.specs.Groups.{Group, group_at}
+use Rattle.fact_records.specs.Judge.{fact_refusal}
+use Rattle.fact_records.specs.Shape.{width_of_all}
+use Rattle.fact_records.specs.Valid.{IsEditOver}
+use Rattle.region_index.specs.Changes.{IsStagedFor, Staging, ids_after}
+use Rattle.region_index.specs.Content.{Content, ids_at}
+use Rattle.region_index.specs.Indexed.{is_indexed_at}
+use Rattle.edit_plan.specs.State.{StateValue, judge_in, policy_in, rows_after, withdrawn}
+use Rattle.edit_plan.specs.declared.fault.PlanFault.{PlanFault}
+use Rattle.edit_plan.specs.declared.fault.PlanFault.TheVariants as plan_fault
+
+-- a fact, and the rows of one, as they are kept
+abbrev pub kept_fact : Fact → KeptFact
+kept_fact fact = record { id = fact.id; nodes = fact.region; cols = fact.cols }
+
+abbrev pub kept_rows : ExtendedFact → KeptRows
+kept_rows e = record { id = e.id; den = e.allocation.den; rows = e.allocation.rows }
+
+-- What an edit changes of what is kept: a withdrawn id goes, the fact that is given is put, and so are the rows of the facts
+-- that the edit refreshes.
+abbrev pub difference : Policy → List Dimension → Edit → List Fact → Batch
+difference policy dims edit facts = record {
+  schema = None;
+  gone = option_to_list (withdrawn edit);
+  facts = map kept_fact (option_to_list (given edit));
+  rows = map kept_rows (filter (λ e. is_among (refreshed policy dims facts (after edit facts)) e.id) (extended policy dims (after edit facts)));
+}
+
+-- a plan: its edit, the ids that it refreshes, its batch, and what it will set
+pub record PlanValue : Type 0 where
+  pub edit : Edit
+  pub refreshed : List ℕ
+  pub batch : Batch
+  pub stats : List (ℕ × CellStat)
+  pub index : Staging
+  pub groups : Entries Group
+  pub rows : ℕ
+
+-- With these statistics set, those kept are the ones of the facts; and there is a place for each.
+pub record SetStats (policy : Policy) (dims : List Dimension) (facts : List Fact) (places : Places CellStat) (changes : List (ℕ × CellStat)) : Type 0 where
+  pub different : AreOfDifferentCells changes
+  pub placed : have_stat_places places changes ≡ true
+  pub possible : All (λ change. IsStat change.1) changes
+  pub made : (cell : ℕ) → unwrap_or (change_of changes cell) (stat_at places cell) ≡ stat_of policy dims facts cell
+
+-- the same of the index
+pub record SetIndex (dims : List Dimension) (facts : List Fact) (content : Content) (stage : Staging) : Type 0 where
+  pub staged : IsStagedFor content stage
+  pub made : (code : ℕ) → ids_after stage.puts stage.drops code (ids_at content code) ≡ map (λ f. f.id) (filter (is_indexed_at dims code) facts)
+
+-- and of the groups
+pub record SetGroups (policy : Policy) (columns : ℕ) (dims : List Dimension) (facts : List Fact) (places : Places Group) (entries : Entries Group) : Type 0 where
+  pub different : AreOfDifferentKeys entries
+  pub placed : have_places places entries ≡ true
+  pub made : (code : ℕ) → unwrap_or (entry_of entries code) (value_at places code) ≡ group_at policy columns dims facts code
+
+-- there is room for the fact that an edit gives
+abbrev pub has_room : Edit → List Fact → ℕ → Bool
+has_room (Put fact) facts spare = has_id fact.id facts || nat_lt 0 spare
+has_room (Change fact) facts spare = has_id fact.id facts || nat_lt 0 spare
+has_room (Withdraw id) facts spare = true
+
+-- A plan fits a state: its edit is one of the space and is accepted; what it sets is what the edit makes of the state; and there is
+-- room for that.
+pub record IsPlanFor {P : Type 0} (weigh : P → CellStat → ℕ) (state : StateValue P) (plan : PlanValue) : Type 0 where
+  pub over : IsEditOver state.dims plan.edit
+  pub accepted : judge_in weigh state plan.edit ≡ None
+  pub room : has_room plan.edit state.facts state.kept.spare ≡ true
+  pub stats : SetStats (policy_in weigh state) state.dims (after plan.edit state.facts) state.kept.stats plan.stats
+  pub index : SetIndex state.dims (after plan.edit state.facts) state.kept.index plan.index
+  pub groups : SetGroups (policy_in weigh state) (width_of_all state.shape.measures) state.dims (after plan.edit state.facts) state.kept.groups plan.groups
+  pub rows : plan.rows ≡ row_count (rows_after weigh state plan.edit)
+
+-- Why an edit is not planned. Where it is refused for the number of rows, that number is told, else the code. Want of memory is said only where the fact is not refused.
+abbrev pub IsFaultOf : {P : Type 0} → (P → CellStat → ℕ) → StateValue P → Edit → PlanFault → Type 0
+IsFaultOf weigh state edit (plan_fault.Code refusal) = (judge_in weigh state edit ≡ Some refusal) × (refusal ≢ code.Rows)
+IsFaultOf weigh state edit (plan_fault.Rows would) = (judge_in weigh state edit ≡ Some code.Rows) × (would ≡ row_count (rows_after weigh state edit))
+IsFaultOf weigh state edit plan_fault.Memory = fact_refusal state.shape state.dims edit state.facts ≡ None

@@ -1,0 +1,85 @@
+-- What a state is and keeps. What its policy makes cells weigh is an argument of each: its trait says it.
+use Rattle.std.specs.Prelude.{◌≡◌, ℕ, ◌≤◌, List, Option, Some, None}
+use Rattle.cube_base.specs.declared.code.Code.{Code}
+use Rattle.cube_model.specs.declared.edit.Edit.{Edit}
+use Rattle.cube_model.specs.declared.edit.Edit.TheVariants.{Put, Change, Withdraw}
+use Rattle.cube_model.specs.declared.edit.Fact.{Fact}
+use Rattle.cube_model.specs.declared.statistic.CellStat.{CellStat}
+use Rattle.cube_model.specs.Allocation.{ExtendedFact, Policy, extended, row_count, stat_of}
+use Rattle.cube_model.specs.Difference.{refreshed}
+use Rattle.cube_model.specs.Facts.{after}
+use Rattle.cube_model.specs.Limits.{MAX_ROWS}
+use Rattle.cube_model.specs.Tree.{Dimension}
+use Rattle.staged_map.specs.Staged.{Places, value_at}
+use Rattle.cell_weight.specs.Stats.{stat_at}
+use Rattle.fact_records.specs.Judge.{judge}
+use Rattle.fact_records.specs.Shape.{ShapeValue, policy_over, width_of_all}
+use Rattle.fact_records.specs.Valid.{AreValid}
+use Rattle.region_index.specs.Indexed.{Indexes}
+use Rattle.fact_groups.specs.Groups.{Group, group_at}
+
+-- What is kept beside the facts, so that an edit looks at few of them: how many more facts there is room for, the statistics
+-- of cells, the ids of imprecise facts and the groups of facts by the code of their region, and the number of rows.
+pub record Kept : Type 0 where
+  pub spare : ℕ
+  pub stats : Places CellStat
+  pub index : Places (List ℕ)
+  pub groups : Places Group
+  pub rows : ℕ
+
+-- a policy, the dimensions of a space, measures and facts, with what is kept of the facts
+pub record StateValue (P : Type 0) : Type 0 where
+  pub policy : P
+  pub dims : List Dimension
+  pub shape : ShapeValue
+  pub facts : List Fact
+  pub kept : Kept
+
+-- how a state's cells weigh
+abbrev pub policy_in : {P : Type 0} → (P → CellStat → ℕ) → StateValue P → Policy
+policy_in weigh state = policy_over (weigh state.policy) state.shape
+
+-- What a state keeps is what its facts make it: the facts are such as a cube may have; the statistics are those of the precise
+-- facts, the index has the imprecise ones, and there is a group for each region that a fact has; and there are not too many rows.
+pub record IsState (policy : Policy) (shape : ShapeValue) (dims : List Dimension) (facts : List Fact) (kept : Kept) : Type 0 where
+  pub valid : AreValid shape dims facts
+  pub stats : (cell : ℕ) → stat_at kept.stats cell ≡ stat_of policy dims facts cell
+  pub index : Indexes dims facts kept.index
+  pub groups : (code : ℕ) → value_at kept.groups code ≡ group_at policy (width_of_all shape.measures) dims facts code
+  pub rows : kept.rows ≡ row_count (extended policy dims facts)
+  pub few_rows : kept.rows ≤ MAX_ROWS
+
+-- two states of one content: they differ at most in what is kept
+pub record HaveSameContent {P : Type 0} (old new : StateValue P) : Type 0 where
+  pub policy : new.policy ≡ old.policy
+  pub dims : new.dims ≡ old.dims
+  pub shape : new.shape ≡ old.shape
+  pub facts : new.facts ≡ old.facts
+
+-- the second is the first after an edit
+pub record IsAfter {P : Type 0} (edit : Edit) (old new : StateValue P) : Type 0 where
+  pub policy : new.policy ≡ old.policy
+  pub dims : new.dims ≡ old.dims
+  pub shape : new.shape ≡ old.shape
+  pub facts : new.facts ≡ after edit old.facts
+
+-- the rows of a state's facts, and those of its facts after an edit
+abbrev pub rows_in : {P : Type 0} → (P → CellStat → ℕ) → StateValue P → List ExtendedFact
+rows_in weigh state = extended (policy_in weigh state) state.dims state.facts
+
+abbrev pub rows_after : {P : Type 0} → (P → CellStat → ℕ) → StateValue P → Edit → List ExtendedFact
+rows_after weigh state edit = extended (policy_in weigh state) state.dims (after edit state.facts)
+
+-- why an edit of a state is refused
+abbrev pub judge_in : {P : Type 0} → (P → CellStat → ℕ) → StateValue P → Edit → Option Code
+judge_in weigh state edit = judge (policy_in weigh state) state.shape state.dims edit state.facts
+
+-- the ids that an edit of a state refreshes
+abbrev pub refreshed_in : {P : Type 0} → (P → CellStat → ℕ) → StateValue P → Edit → List ℕ
+refreshed_in weigh state edit = refreshed (policy_in weigh state) state.dims state.facts (after edit state.facts)
+
+-- the id of a withdrawal
+abbrev pub withdrawn : Edit → Option ℕ
+withdrawn (Put fact) = None
+withdrawn (Change fact) = None
+withdrawn (Withdraw id) = Some id

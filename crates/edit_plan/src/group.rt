@@ -1,0 +1,21 @@
+//! The facts of one region.
+use alloc_rows::Alloc;
+use cube_base::PlainList;
+use std::marker::Model;
+
+/// What is kept of the facts of one region, which have one allocation between them. Contracts see how they are spread, how many
+/// they are, and the sum of each column of their values.
+#[derive(Drop)]
+pub struct Group {
+    pub(crate) spread: Alloc,
+    pub(crate) members: u64,
+    pub(crate) sums: PlainList<i64>,
+}
+
+impl Model for Group {
+    ghost use Rattle.fact_groups.specs.Groups.{Group};
+
+    ghost Value = { Group };
+
+    ghost view = { λ g. record { spread = g.spread; count = g.members; sums = g.sums } };
+}

@@ -1,0 +1,15 @@
+//! What an edit moves.
+use crate::touched::Change;
+use cube_base::PlainList;
+use cube_model::{Edit, Fact};
+
+/// An edit, the facts that it takes and gives, the changes of the cells that it touches, and those of them that make a cell
+/// weigh otherwise.
+#[derive(Drop)]
+pub struct Moves {
+    pub edit: Edit,
+    pub taken: Option<Fact>,
+    pub given: Option<Fact>,
+    pub touched: PlainList<Change>,
+    pub reweighing: PlainList<Change>,
+}

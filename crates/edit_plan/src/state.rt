@@ -1,0 +1,158 @@
+//! The state of a cube.
+ghost use Rattle.std.specs.Prelude.{◌≡◌, ◌+◌, ◌≤◌, [], true, IfOk, IfSome, length};
+ghost use Rattle.std.specs.Option.{option_copied};
+ghost use Rattle.cube_model.specs.Allocation.{allocation_of, row_count};
+ghost use Rattle.cube_model.specs.Cells.{AreRows};
+ghost use Rattle.cube_model.specs.Facts.{after};
+ghost use Rattle.cube_model.specs.Limits.{MAX_ROWS};
+ghost use Rattle.fact_records.specs.Valid.{AreValid};
+ghost use Rattle.edit_plan.specs.Plan.{IsPlanFor, has_room};
+ghost use Rattle.edit_plan.specs.State.{IsAfter, rows_in};
+
+use crate::{Group, Plan};
+use alloc_rows::Alloc;
+use cell_weight::{StatIndex, WeightPolicy};
+use cube_base::Memory;
+use cube_model::Edit;
+use fact_records::{FactList, Shape};
+use region_algebra::Space;
+use region_index::{RegionIndex, Steps};
+use staged_map::Staged;
+use std::alloc::Global;
+use std::marker::Model;
+use std::sync::ledger::Ledger;
+
+/// A policy, a space, measures, and facts with all that is kept of them: the statistics of cells, the imprecise facts by region,
+/// for each region that facts have how they are spread, and the number of rows. Contracts see the policy, the dimensions,
+/// the measures and the list of facts; beside these, the maps beneath, which are what the facts make them.
+///
+/// There are at most 2^20 facts, with at most 2^21 rows together. Each has an id of its own from 1 to 2^63 - 1, values that
+/// the measures allow, and a region of the space with at most 2^20 cells.
+#[derive(Drop)]
+pub struct State<P: WeightPolicy + Drop> {
+    pub(crate) alloc: Global,
+    pub(crate) space: Space,
+    pub(crate) shape: Shape,
+    pub(crate) policy: P,
+    pub(crate) facts: FactList,
+    pub(crate) stats: StatIndex,
+    // The ids of the imprecise facts, by the code of their region.
+    pub(crate) index: RegionIndex,
+    // For each region that a fact has, by its code, the facts there.
+    pub(crate) groups: Staged<Group>,
+    // The number of rows of all facts.
+    pub(crate) rows: u64,
+}
+
+impl<P: WeightPolicy + Drop> Model for State<P> {
+    ghost use Rattle.edit_plan.specs.State.{StateValue, IsState};
+    ghost use Rattle.fact_records.specs.Shape.{policy_over};
+
+    ghost Value = { StateValue P };
+
+    ghost view = { λ s. record {
+      policy = s.policy;
+      dims = s.space;
+      shape = s.shape;
+      facts = s.facts.facts;
+      kept = record { spare = s.facts.spare; stats = s.stats; index = s.index; groups = s.groups; rows = s.rows };
+    } };
+
+    ghost invariant = { λ s. IsState (policy_over (P.weigh s.policy) s.shape) s.shape s.space s.facts.facts
+        (record { spare = s.facts.spare; stats = s.stats; index = s.index; groups = s.groups; rows = s.rows }) };
+}
+
+impl<P: WeightPolicy + Drop> State<P> {
+    /// A state without facts. The one error is want of memory.
+    pub fn new(alloc: Global, space: Space, shape: Shape, policy: P) -> Result<Self, Memory>
+        ensures policy { IfOk result (λ state. state.policy ≡ policy) }
+        ensures dims { IfOk result (λ state. state.dims ≡ space) }
+        ensures shape { IfOk result (λ state. state.shape ≡ shape) }
+        ensures facts { IfOk result (λ state. state.facts ≡ []) }
+    {
+        Ok(State {
+            alloc,
+            space,
+            shape,
+            policy,
+            facts: FactList::new(alloc),
+            stats: StatIndex::new(alloc),
+            index: RegionIndex::new(alloc),
+            groups: Staged::new(alloc),
+            rows: 0,
+        })
+    }
+
+    /// The space. It takes no memory.
+    pub fn space(&self) -> &Space
+        ensures { result.now ≡ self.now.dims }
+    {
+        &self.space
+    }
+
+    /// The measures. It takes no memory.
+    pub fn shape(&self) -> &Shape
+        ensures { result.now ≡ self.now.shape }
+    {
+        &self.shape
+    }
+
+    /// The facts in order of their ids. It takes no memory.
+    pub fn facts(&self) -> &FactList
+        ensures facts { result.now.facts ≡ self.now.facts }
+        ensures valid { AreValid self.now.shape self.now.dims self.now.facts }
+        ensures few_rows { row_count (rows_in P.weigh self.now) ≤ MAX_ROWS }
+    {
+        &self.facts
+    }
+
+    /// The allocation of the fact of an id: None exactly where there is none. It is one step, and takes no memory.
+    pub fn lookup<L: Ledger>(&self, id: u64, steps: &mut Steps<L>) -> Option<&Alloc>
+        ensures rows { option_copied result ≡ allocation_of id (rows_in P.weigh self.now) }
+        ensures cells { IfSome (option_copied result) (λ a. AreRows self.now.dims a.rows) }
+        ensures steps { steps.new ≡ steps.old + 1 }
+    {
+        steps.tick();
+        // What a space says of its dimensions.
+        let _ = self.space.dims();
+        let fact = self.facts.get(id)?;
+        let group = self.groups.get(self.space.code(fact.region))?;
+        Some(&group.spread)
+    }
+
+    /// Does the edit of a plan. It takes no memory. The plan fits the state as it stands, as `plan` promises of the state that it leaves.
+    pub fn install(&mut self, plan: Plan)
+        requires { IsPlanFor P.weigh self.old plan }
+        ensures { IsAfter plan.edit self.old self.new }
+    {
+        let Plan {
+            edit,
+            refreshed: _,
+            batch: _,
+            stats,
+            index,
+            groups,
+            rows,
+        } = plan;
+        apply(&mut self.facts, edit);
+        self.stats.install(stats.as_slice());
+        self.index.install(index);
+        self.groups.put_all(groups.into_vec());
+        self.rows = rows;
+    }
+}
+
+/// Does an edit, for which there is room. It takes no memory.
+fn apply(facts: &mut FactList, edit: Edit)
+    requires { has_room edit facts.old.facts facts.old.spare ≡ true }
+    ensures { facts.new.facts ≡ after edit facts.old.facts }
+{
+    match edit {
+        Edit::Put(fact) | Edit::Change(fact) => {
+            let _ = facts.put(fact);
+        }
+        Edit::Withdraw(id) => {
+            let _ = facts.take(id);
+        }
+    }
+}
