@@ -1,0 +1,94 @@
+//! The facts over a cell, by the regions where they are.
+ghost use Rattle.std.specs.Prelude.{◌≡◌, ◌<◌};
+
+use crate::fixtures::{CARS, CITIES, space_of};
+use cube_base::Ids;
+use region_algebra::Space;
+use region_index::{RegionIndex, Steps};
+use std::alloc::Global;
+use std::marker::Brand;
+use std::sync::ledger::{Blank, Ledger};
+use std::test::Fail;
+
+/// The nodes of a region, and the id of a fact there.
+type Fact = (&'static [u32], u64);
+
+/// Facts that come, and those of them that go at the same time as the next one comes.
+const FIRST: [Fact; 5] = [
+    (&[1, 2], 4),
+    (&[0, 0], 5),
+    (&[1, 1], 6),
+    (&[5, 0], 7),
+    (&[1, 2], 2),
+];
+
+const GONE: [Fact; 1] = [(&[1, 2], 4)];
+
+const NEXT: [Fact; 1] = [(&[1, 2], 9)];
+
+/// The nodes of a cell, and the ids of the facts over it.
+type Row = (&'static [u32], &'static [u64]);
+
+const COVERED: [Row; 6] = [
+    (&[2, 2], &[2, 5, 6, 9]),
+    (&[2, 3], &[5, 6]),
+    (&[2, 5], &[5]),
+    (&[4, 2], &[2, 5, 6, 9]),
+    (&[6, 2], &[5, 7]),
+    (&[7, 6], &[5, 7]),
+];
+
+/// The codes of the regions, each with the id.
+fn codes_of(alloc: Global, space: &Space, facts: &[Fact]) -> Result<Vec<(u64, u64)>, Fail> {
+    let mut pairs = Vec::new(alloc);
+    for (nodes, id) in facts {
+        let region = space.region(nodes).ok_or("no region")?;
+        pairs.push((space.code(region), *id))?;
+    }
+    Ok(pairs)
+}
+
+/// The index of the facts that are there.
+fn index_of(alloc: Global, space: &Space) -> Result<RegionIndex, Fail> {
+    let mut index = RegionIndex::new(alloc);
+    let first = index.stage(&codes_of(alloc, space, &FIRST)?, &[])?;
+    index.install(first);
+    let next = index.stage(
+        &codes_of(alloc, space, &NEXT)?,
+        &codes_of(alloc, space, &GONE)?,
+    )?;
+    index.install(next);
+    Ok(index)
+}
+
+/// The ids over the cell of these nodes.
+fn ids_over<L: Ledger>(
+    index: &RegionIndex,
+    space: &Space,
+    nodes: &[u32],
+    blank: Blank,
+) -> Result<Ids, Fail>
+    requires { (blank.name ≡ L.name) × (blank.parts ≡ L.parts) × (0 < L.parts) }
+{
+    let mut steps = Steps::<L>::new(blank);
+    let region = space.region(nodes).ok_or("no region")?;
+    let cell = space.cell_code(region).ok_or("no cell")?;
+    Ok(index.covering(space, cell, &mut steps)?)
+}
+
+fn are_covered(alloc: Global, rows: &[Row]) -> Result<bool, Fail> {
+    let space = space_of(alloc, &[&CITIES, &CARS])?;
+    let index = index_of(alloc, &space)?;
+    for (nodes, ids) in rows {
+        if ids_over::<Brand>(&index, &space, nodes, Blank::new(1))?.as_slice() != *ids {
+            return Ok(false);
+        }
+    }
+    Ok(true)
+}
+
+#[test]
+fn facts_over_a_cell_are_found(rt: HostRuntime) -> Result<(), Fail> {
+    assert!(rt; are_covered(rt.alloc(), &COVERED)?);
+    Ok(())
+}
