@@ -1,5 +1,5 @@
 -- The nodes of a cut: over each leaf there is one.
-use Rattle.std.proofs.Common.{◌≡◌, ℕ, zero, suc, ◌+◌, ◌<◌, ◌≤◌, ◌⊎◌, Bool, true, false, List, [], ◌∷◌, filter, length, map, get_or, refl, sym, ap, ◌∙◌, inl, inr, eq-eqb, arith}
+use Rattle.std.proofs.Common.{◌≡◌, ℕ, zero, suc, ◌+◌, ◌<◌, ◌≤◌, ◌≢◌, ◌⊎◌, Bool, true, false, List, [], ◌∷◌, filter, length, map, get_or, refl, sym, ap, ◌∙◌, inl, inr, eq-eqb, ne_eqb, true≢false, arith}
 use Rattle.std.specs.Prelude.{◌↔◌, IsNone, IsSome, if◌then◌else◌, ◌&&◌, ◌==◌, nat_lt, nat_le, Option, Some, None, slice_get}
 use Rattle.std.specs.Option.{option_map}
 use Rattle.std.proofs.lemmas.Bool.{cases_eq, cases_lt}
@@ -87,6 +87,11 @@ pub record IsAbove (dim : Dimension) (depth leaf node : ℕ) : Type 0 where
   pub over : is_under dim leaf node ≡ true
   pub least : (node ≡ leaf) ⊎ (depth ≤ depth_of dim node)
 
+-- over a leaf there is a node of the cut
+pub record HasCutNode (dim : Dimension) (depth leaf : ℕ) : Type 0 where
+  pub node : ℕ
+  pub is_cut_node : IsCutNode dim depth leaf node
+
 module _ (dim : Dimension) (tree : IsTree dim) where
   named : (n : ℕ) → number_at dim (place_at dim n) ≡ n
   named n = number_at-place_at dim (are_numbers dim tree) n
@@ -129,6 +134,19 @@ module _ (dim : Dimension) (tree : IsTree dim) where
             let place_parent : parent (numbered lines) i ≡ Some q = parent-place lines accepted i inside ∙ grind (arith, nat_tests, some) in
             is_under-plain dim tree n p ∙ ap (is_under (plain dim) i) at ∙ is_under-parent lines accepted i q place_parent;
       }
+
+  -- what is kept as a node's parent
+  abbrev parent_number : ℕ → ℕ
+  parent_number n = number_at dim (get_or (parents_from [] (depths_of (node_lines dim))) (place_at dim n) 0)
+
+  -- a node that does not lie at 0 has a parent
+  parent_of : (n : ℕ) → n < length dim → 0 < depth_of dim n → parent dim n ≡ Some (parent_number n)
+  parent_of n within deep =
+      let i = place_at dim n in
+      let kept : parent dim n ≡ (if i == 0 then None else Some (parent_number n)) = ap (parent dim) (sym (named n)) ∙ kept_parent dim (are_numbers dim tree) i (accepted_lines dim tree) (placed n within) in
+      let other : i ≢ 0 = λ first. omega (arith, deep, ap (λ j. get_or (depths_of (node_lines dim)) j 0) first, first-depth (node_lines dim) (accepted_lines dim tree)) in
+      let test : (i == 0) ≡ false = ne_eqb i 0 other in
+      kept ∙ ap (λ b. if b then None else Some (parent_number n)) test
 
   held : (x y : ℕ) → y < length dim → is_under dim x y ≡ true → (place_at dim y ≤ place_at dim x) × (place_at dim x < end_of dim (place_at dim y))
   held x y within under =
@@ -255,6 +273,42 @@ module _ (dim : Dimension) (tree : IsTree dim) where
       ];
     });
   }
+
+  climbed-from : (depth leaf fuel node : ℕ) → is_leaf dim leaf ≡ true → IsAbove dim depth leaf node → depth_of dim node ≤ depth + fuel → HasCutNode dim depth leaf
+  climbed-from depth leaf zero node is above most = record { node = node; is_cut_node = above-last depth leaf node is above (omega (arith, most)) }
+  climbed-from depth leaf (suc fuel) node is above most = elim (cases_lt depth (depth_of dim node)) [
+    | inl deeper ↦
+        let up = parent_of node above.within (omega (arith, deeper)) in
+        let its = is_parent node (parent_number node) above.within up in
+        climbed-from depth leaf fuel (parent_number node) is (above-next depth leaf node (parent_number node) above deeper up) (omega (arith, its.depth, most))
+    | inr least ↦ record { node = node; is_cut_node = above-last depth leaf node is above (omega (arith, least)) }
+  ]
+
+  -- over each leaf there is a node of the cut
+  pub some_in_cut : (depth leaf : ℕ) → leaf < length dim → is_leaf dim leaf ≡ true → HasCutNode dim depth leaf
+  some_in_cut depth leaf within is = climbed-from depth leaf (depth_of dim leaf) leaf is (above-first depth leaf within) (omega arith)
+
+  -- A leaf is under a node that lies no deeper than the cut where the leaf's node of the cut is.
+  pub under-from_cut : (depth leaf node over : ℕ) → leaf < length dim → over < length dim → depth_of dim over ≤ depth → IsCutNode dim depth leaf node → is_under dim leaf over ≡ is_under dim node over
+  under-from_cut depth leaf node over within room most is = by (is_under dim node over) (is_under dim leaf over) refl refl
+    where
+      cuts : IsInCut dim depth node
+      cuts = in_cut-from depth node is.in_cut
+
+      below : is_under dim leaf over ≡ true → is_under dim node over ≡ true
+      below under = elim (nested_or_apart dim node over tree is.within room) [
+        | inl is_below ↦ is_below
+        | inr (inl above) ↦ elim (under-deeper over node room is.within above) [
+          | inl same ↦ ap (is_under dim node) same ∙ (above-first 0 node is.within).over
+          | inr deeper ↦ ap (is_under dim node) (under-leaf over node is.within (cuts.leaf (omega (arith, deeper, most))) above) ∙ (above-first 0 node is.within).over
+        ]
+        | inr (inr apart) ↦ absurd (apart leaf within is.over under)
+      ]
+
+      by : (b c : Bool) → is_under dim node over ≡ b → is_under dim leaf over ≡ c → c ≡ b
+      by true c high low = sym low ∙ under-under leaf node over is.within room is.over high
+      by false true high low = absurd (true≢false (sym (below low) ∙ high))
+      by false false high low = refl
 
 -- a node that lies deeper than some depth has a parent
 pub some_parent : (dim : Dimension) (node depth : ℕ) (found : Option ℕ) → IsTree dim → depth < depth_of dim node → (IsNone found ↔ (node ≡ 0)) → IsSome found

@@ -17,3 +17,6 @@ pub mod Turns
 pub mod Serving
 pub mod RollingUp
 pub mod OfFacts
+pub mod CutsOver
+pub mod Weighing
+pub mod Answering

@@ -25,11 +25,11 @@ use Rattle.view_store.specs.Drafts.{FitsFact, FitsShares, HasShares, weight_at}
 use Rattle.view_store.specs.Views.{IsOver, no_terms, region_at}
 
 -- a weight of 0 adds nothing
-no_product : (x : ℤ) → pos 0 *ℤ x ≡ pos 0
+pub no_product : (x : ℤ) → pos 0 *ℤ x ≡ pos 0
 no_product x = same_in _ _ (omega (arith, product_is (pos 0) x))
 
 -- the products of two weights with a value are that of both
-sum-product : (m n : ℕ) (x : ℤ) → pos m *ℤ x +ℤ pos n *ℤ x ≡ pos (m + n) *ℤ x
+pub sum-product : (m n : ℕ) (x : ℤ) → pos m *ℤ x +ℤ pos n *ℤ x ≡ pos (m + n) *ℤ x
 sum-product m n x = same_in _ _ (omega (arith, product_is (pos m) x, product_is (pos n) x, product_is (pos (m + n)) x, sum_is_lem (pos m *ℤ x) (pos n *ℤ x)))
 
 total_by-append : {X : Type 0} (f : X → ℤ) (xs ys : List X) → total_by f (xs ++ ys) ≡ total_by f xs +ℤ total_by f ys
@@ -71,7 +71,7 @@ sum_at-none cells k (e ∷ facts) none =
     omega (arith, ints, here, sum_at-none cells k facts (omega (arith, whole, none)))
 
 -- no fact has a denominator from the bound on
-over-beyond : (facts : List ExtendedFact) (d : ℕ) → bound_of facts ≤ d → over d facts ≡ []
+pub over-beyond : (facts : List ExtendedFact) (d : ℕ) → bound_of facts ≤ d → over d facts ≡ []
 over-beyond [] d le = refl
 over-beyond (e ∷ facts) d le =
     let other : (e.allocation.den == d) ≡ false = grind (arith, nat_tests) in

@@ -1,10 +1,12 @@
 //! Laws of views, and examples that are computed from the definitions. The functions do nothing: each law is the contract.
-ghost use Rattle.std.specs.Prelude.{◌≡◌, ℕ, List, [], ◌∷◌, false, filter, pos, true};
+ghost use Rattle.std.specs.Prelude.{◌≡◌, ℕ, ◌-◌, All, List, [], ◌∷◌, false, filter, pos, true};
 ghost use Rattle.std.specs.List.{range_with_len};
 ghost use Rattle.cube_model.specs.Allocation.{ExtendedFact};
-ghost use Rattle.cube_model.specs.Tree.{Dimension};
+ghost use Rattle.cube_model.specs.Answer.{answer};
+ghost use Rattle.cube_model.specs.Tree.{Dimension, IsTree};
 ghost use Rattle.group_sum.specs.Examples.{one_sum};
 ghost use Rattle.region_algebra.specs.Examples.{small_space};
+ghost use Rattle.region_algebra.specs.Space.{IsRegion};
 ghost use Rattle.region_algebra.specs.declared.view_def.ViewDef.{ViewDef};
 ghost use Rattle.view_store.specs.declared.change.ViewChange.{ViewChange};
 ghost use Rattle.view_store.specs.Changes.{IsAfter, given, taken};
@@ -19,6 +21,13 @@ pub fn views_follow_their_facts()
     ensures none { (dims : List Dimension) (columns : ℕ) (def : ViewDef) → IsViewOfFacts dims [] (view_of columns def) }
     ensures kept { (dims : List Dimension) (changes : List ViewChange) (old new : ViewMap) (before after : List ExtendedFact)
         → IsAfter dims changes old new → IsViewOfFacts dims before old → FollowBy before (taken changes) (given changes) after → IsViewOfFacts dims after new }
+{}
+
+/// Where the entries of a view are the answers of facts, what the view makes of a region that it serves is the answer of the
+/// facts there. Each cell of the region is in exactly one region of the view's cuts, and that one lies under it.
+pub fn views_answer_as_their_facts()
+    ensures { (dims : List Dimension) (facts : List ExtendedFact) (view : ViewMap) (region : List ℕ) → All IsTree dims → IsViewOfFacts dims facts view
+        → IsRegion dims region → serves dims view.depths region ≡ true → rolled_up dims view region ≡ answer (view.columns - 1) dims facts region }
 {}
 
 /// The regions of products of cuts, and a view, that were worked out by hand: a leaf that lies less deep than a cut is in it, a
