@@ -6,6 +6,7 @@ ghost use Rattle.kept_spread.specs.Kept.{AreKept};
 use crate::fixtures::{CARS, CITIES, PLACES, space_of};
 use alloc_rows::Alloc;
 use cell_weight::{ByCount, BySum, CellStat, StatIndex, Uniform, WeightPolicy};
+use cube_base::Memory;
 use cube_model::Region;
 use kept_spread::{Change, start_kept, step_kept};
 use region_algebra::Space;
@@ -116,6 +117,11 @@ fn start<P: WeightPolicy>(
     }
 }
 
+/// Whether these are the rows of an allocation, and of a share of it.
+fn has_rows(spread: &Alloc, rows: &[(u64, u64)]) -> Result<bool, Memory> {
+    Ok(spread.shared_rows()?.as_slice() == rows && spread.share()?.rows() == rows)
+}
+
 /// Whether a region has these rows after each step.
 fn are_stepped<P: WeightPolicy>(
     alloc: Global,
@@ -131,7 +137,7 @@ fn are_stepped<P: WeightPolicy>(
             alloc, space, policy, MOST, &mut stats, &spread, region, changed,
         )?
         .ok_or("no step")?;
-        if spread.shared_rows()?.as_slice() != *rows {
+        if !has_rows(&spread, rows)? {
             return Ok(false);
         }
     }

@@ -1,4 +1,4 @@
-//! An allocation that steps along with the statistics that it is by, both of them kept by the caller: what tests and timings of
+//! An allocation that steps along with the statistics that it is by, both of them kept by the caller: what tests of
 //! `step` stand on.
 #![tactic(auto)]
 
