@@ -1,5 +1,6 @@
 -- A map in which keys have places, with or without a value.
-use Rattle.std.specs.Prelude.{◌≡◌, ℕ, ◌+◌, ◌<◌, Bool, true, List, length, not, ◌&&◌, ◌||◌, ◌==◌, if◌then◌else◌, Option, Some, None, is_some, nat_eq, slice_index, unwrap_or}
+use Rattle.std.specs.Prelude.{◌≡◌, ℕ, ◌+◌, ◌<◌, Bool, true, List, length, not, ◌&&◌, ◌||◌, ◌==◌, if◌then◌else◌, Option, Some, None, is_some, nat_eq, slice_index, unwrap_or, option_map, filter_map}
+use Rattle.std.specs.Borrow.{Bor}
 use Rattle.std.specs.Option.{option_flatten, option_map_or}
 use Rattle.std.specs.List.{IsDistinct, list_all, list_any}
 use Rattle.std.specs.Map.{keys_of, lookup}
@@ -19,6 +20,18 @@ value_at places key = option_flatten (place_of places key)
 -- the key has a place
 abbrev pub has_place : {V : Type 0} → Places V → ℕ → Bool
 has_place places key = is_some (place_of places key)
+
+-- the key and the value of a place, if it has one
+abbrev pub held_of : {V : Type 0} → ℕ × Option V → Option (ℕ × V)
+held_of place = option_map (λ value. (place.0, value)) place.1
+
+-- the keys that have a value, each with it, in the order of their places
+abbrev pub held : {V : Type 0} → Places V → List (ℕ × V)
+held places = filter_map held_of places
+
+-- a key and the value behind a reference, if they are there
+abbrev pub held_copied : {V : Type 0} → Option (ℕ × Bor V) → Option (ℕ × V)
+held_copied entry = option_map (λ e. (e.0, e.1.now)) entry
 
 -- the key has this value, and every other key what it had; all places stay
 pub record Sets {V : Type 0} (old new : Places V) (key : ℕ) (value : V) : Type 0 where

@@ -1,9 +1,9 @@
 //! A map from numbers in which keys can have a place before they have a value.
-ghost use Rattle.std.specs.Prelude.{◌≡◌, ◌∷◌, [], true, false, map, filter, is_some, nat_eq, All, IfOk, IsOk, OnOk, OnErr};
+ghost use Rattle.std.specs.Prelude.{◌≡◌, ◌∷◌, ◌++◌, [], ◌<◌, ◌+◌, ◌==◌, ℕ, true, false, length, map, filter, take, slice_get, is_some, nat_eq, option_and_then, option_to_list, All, IfOk, IsOk, OnOk, OnErr};
 ghost use Rattle.std.specs.List.{IsDistinct};
-ghost use Rattle.std.specs.Map.{keys_of};
+ghost use Rattle.std.specs.Map.{keys_of, lookup};
 ghost use Rattle.std.specs.Option.{option_copied};
-ghost use Rattle.staged_map.specs.Staged.{AreKeys, AreOfDifferentKeys, PutsAll, Removes, Reserves, ReservesSome, Sets, has_place, have_places, value_at};
+ghost use Rattle.staged_map.specs.Staged.{AreKeys, AreOfDifferentKeys, PutsAll, Removes, Reserves, ReservesSome, Sets, has_place, have_places, held, held_of, held_copied, value_at};
 
 use cube_base::{Ids, Memory};
 use indexmap::IndexMap;
@@ -40,6 +40,28 @@ impl<V: Drop> Staged<V> {
         ensures { option_copied result ≡ value_at self.now key }
     {
         self.places.get(&key)?.as_ref()
+    }
+
+    /// How many keys have a place, with a value or without. It takes no memory.
+    pub fn count(&self) -> usize
+        ensures count { result ≡ length self.now }
+        ensures distinct { IsDistinct nat_eq (keys_of self.now) }
+        ensures once { IsDistinct nat_eq (keys_of (held self.now)) }
+        ensures each { (key : ℕ) → lookup (λ k. key == k) (held self.now) ≡ value_at self.now key }
+    {
+        self.places.len()
+    }
+
+    /// The key and the value of a place, None where it has no value. Places are numbered from 0 to below `count`, and a
+    /// walk over all of them meets each key that has a value once: what it met by place `i` is `held (take i self.now)`.
+    /// It takes no memory.
+    pub fn at(&self, i: usize) -> Option<(u64, &V)>
+        requires { i < length self.now }
+        ensures entry { held_copied result ≡ option_and_then held_of (slice_get self.now i) }
+        ensures next { held (take (i + 1) self.now) ≡ held (take i self.now) ++ option_to_list (held_copied result) }
+    {
+        let (key, value) = self.places.get_index(i)?;
+        Some((*key, value.as_ref()?))
     }
 
     /// Gives a key that has a place a value, and hands back the one that it had. It takes no memory.
