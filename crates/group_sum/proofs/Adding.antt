@@ -1,4 +1,4 @@
--- What a share added to one term does to all of them.
+-- What a share that is added to one term does to all of them.
 use Rattle.std.proofs.Common.{◌≡◌, ℕ, zero, suc, ◌+◌, ◌<◌, ◌≤◌, Bool, true, List, [], ◌∷◌, length, get_or, set, replicate, ℤ, pos, nat_abs, Some, None, sym, ap, inl, inr, false, ◌==◌, le-leb, ◌∙◌, refl, arith, add-one}
 use Rattle.std.specs.Prelude.{nat_le}
 use Rattle.std.specs.List.{insert, list_all}
@@ -10,7 +10,7 @@ use lib.IntN.{+ℤ_idr}
 use Rattle.cube_model.specs.declared.term.Term.{Term}
 use Rattle.cube_model.specs.Answer.{term_of, count_of, numerator_of}
 use Rattle.cube_model.specs.Limits.{WIDE}
-use Rattle.group_sum.specs.Terms.{TermList, are_terms_from, is_term, AreTerms, Fits, AddsShare}
+use Rattle.group_sum.specs.Terms.{TermList, are_terms_from, is_term, AreTerms, FitsUnits, AddsUnits}
 use Rattle.group_sum.specs.Share.{TermFits, RaisesTerm, bare_term}
 use Rattle.group_sum.specs.Place.{term_at, no_term, IsAt, IsGapFor}
 use Rattle.group_sum.proofs.Ascending.{FindsAfter, term_of_at, term_of_gap, term_of-set, term_of-insert, are_terms-set, are_terms-insert, is_term_at}
@@ -22,7 +22,7 @@ pub record StandsFor (terms : List Term) (values : ℕ) (term : Term) : Type 0 w
   pub sums : (k : ℕ) → numerator_of terms term.den (k + 1) ≡ get_or term.sums k (pos 0)
 
 -- each of some zeros is 0, and so is what is read past them
-get_or-zeros : (n k : ℕ) → get_or (replicate n (pos 0)) k (pos 0) ≡ pos 0
+pub get_or-zeros : (n k : ℕ) → get_or (replicate n (pos 0)) k (pos 0) ≡ pos 0
 get_or-zeros zero k = refl
 get_or-zeros (suc n) zero = refl
 get_or-zeros (suc n) (suc k) = get_or-zeros n k
@@ -41,15 +41,15 @@ module _ (terms : List Term) (d k : ℕ) where
   numerator_absent none = ap (λ o. option_map_or (λ (t : Term). get_or (pos t.count ∷ t.sums) (k + 1) (pos 0)) o (pos 0)) none
 
 -- a share that fits, at a term that stands for its denominator
-module _ (terms : List Term) (weight : ℕ) (values : List ℤ) (term : Term) (fits : Fits terms term.den weight values) (stands : StandsFor terms (length values) term) where
+module _ (terms : List Term) (units weight : ℕ) (values : List ℤ) (term : Term) (fits : FitsUnits terms term.den units weight values) (stands : StandsFor terms (length values) term) where
   -- the share fits the term
-  pub term_fits : TermFits term weight values
+  pub term_fits : TermFits term units weight values
   term_fits = record {
     count = rw (← stands.count) fits.count;
     sums = record { columns = sym stands.columns; each = λ k lt. rw (← stands.sums k) (fits.sums k lt) };
   }
 
-  module _ (columns : ℕ) (whole : length values + 1 ≡ columns) (new : Term) (raises : RaisesTerm term new weight values) where
+  module _ (columns : ℕ) (whole : length values + 1 ≡ columns) (new : Term) (raises : RaisesTerm term new units weight values) where
     -- no sum of the raised term passes WIDE
     sum_within : (k : ℕ) → k < length new.sums → nat_le (nat_abs (get_or new.sums k (pos 0))) WIDE ≡ true
     sum_within k lt =
@@ -58,13 +58,13 @@ module _ (terms : List Term) (weight : ℕ) (values : List ℤ) (term : Term) (f
         le-leb _ _ bound
 
     -- the raised term is one of these columns
-    pub is_term_raised : 1 ≤ weight → is_term columns new ≡ true
+    pub is_term_raised : 1 ≤ units → is_term columns new ≡ true
     is_term_raised some =
         let sums = list_all_passes (λ sum. nat_le (nat_abs sum) WIDE) (pos 0) new.sums sum_within in
         grind (arith, nat_tests, sums, raises.count, raises.sums.columns, term_fits.count)
 
     -- at the share's denominator the numerators grow, and at the others they stay
-    pub adds_share : (all : List Term) → FindsAfter terms all new → AddsShare (record { columns = columns; terms = terms }) (record { columns = columns; terms = all }) term.den weight values
+    pub adds_share : (all : List Term) → FindsAfter terms all new → AddsUnits (record { columns = columns; terms = terms }) (record { columns = columns; terms = all }) term.den units weight values
     adds_share all finds = record {
       columns = refl;
       counts = λ d. grind (arith, nat_tests, finds d, raises.count, raises.den, stands.count);
@@ -99,11 +99,11 @@ stands_bare terms den values none = record {
 }
 
 -- with a share added, all are terms again
-pub record Grows (list : TermList) (all : List Term) (den weight : ℕ) (values : List ℤ) : Type 0 where
+pub record Grows (list : TermList) (all : List Term) (den units weight : ℕ) (values : List ℤ) : Type 0 where
   pub terms : AreTerms (record { columns = list.columns; terms = all })
-  pub adds : AddsShare list (record { columns = list.columns; terms = all }) den weight values
+  pub adds : AddsUnits list (record { columns = list.columns; terms = all }) den units weight values
 
-module _ (list : TermList) (ok : AreTerms list) (den weight : ℕ) (values : List ℤ) (whole : length values + 1 ≡ list.columns) (fits : Fits list.terms den weight values) (at : ℕ) where
+module _ (list : TermList) (ok : AreTerms list) (den units weight : ℕ) (values : List ℤ) (whole : length values + 1 ≡ list.columns) (fits : FitsUnits list.terms den units weight values) (at : ℕ) where
   -- at a denominator that has a term
   module _ (place : IsAt list.terms den at) (term : Term) (is : term ≡ get_or list.terms at term) where
     -- the term that is read there has the denominator
@@ -111,24 +111,24 @@ module _ (list : TermList) (ok : AreTerms list) (den weight : ℕ) (values : Lis
     den_here = ap (λ (t : Term). t.den) (is ∙ get_or_default list.terms at term no_term place.in_range) ∙ place.has_key
 
     -- the share fits, and the term stands for its denominator
-    fits_here : Fits list.terms term.den weight values
+    fits_here : FitsUnits list.terms term.den units weight values
     fits_here = rw den_here fits
 
     stands_here : StandsFor list.terms (length values) term
     stands_here = stands_at list.columns list.terms ok.terms (length values) at whole term place.in_range is
 
     -- so the share fits the term, and the terms with the raised one have the share
-    pub term_fits_at : TermFits term weight values
-    term_fits_at = term_fits list.terms weight values term fits_here stands_here
+    pub term_fits_at : TermFits term units weight values
+    term_fits_at = term_fits list.terms units weight values term fits_here stands_here
 
-    pub grows_at : 1 ≤ weight → (new : Term) → RaisesTerm term new weight values → Grows list (set list.terms at new) den weight values
+    pub grows_at : 1 ≤ units → (new : Term) → RaisesTerm term new units weight values → Grows list (set list.terms at new) den units weight values
     grows_at some new raises =
         let new_place : IsAt list.terms new.den at = rw (raises.den ∙ den_here) place in
-        let new_whole = is_term_raised list.terms weight values term fits_here stands_here list.columns whole new raises some in
+        let new_whole = is_term_raised list.terms units weight values term fits_here stands_here list.columns whole new raises some in
         let finds = term_of-set list.columns 1 list.terms ok.terms new at new_place in
         record {
           terms = record { some = ok.some; most = ok.most; terms = are_terms-set list.columns 1 list.terms ok.terms new at new_place new_whole };
-          adds = rw (← den_here) (adds_share list.terms weight values term fits_here stands_here list.columns whole new raises (set list.terms at new) finds);
+          adds = rw (← den_here) (adds_share list.terms units weight values term fits_here stands_here list.columns whole new raises (set list.terms at new) finds);
         }
 
   -- at a denominator that has none
@@ -138,14 +138,14 @@ module _ (list : TermList) (ok : AreTerms list) (den weight : ℕ) (values : Lis
     stands_in_gap = stands_bare list.terms den (length values) (term_of_gap list.terms den at gap)
 
     -- so the share fits the bare term, and the terms with the raised one inserted have the share
-    pub bare_term_fits : TermFits (bare_term den (length values)) weight values
-    bare_term_fits = term_fits list.terms weight values (bare_term den (length values)) fits stands_in_gap
+    pub bare_term_fits : TermFits (bare_term den (length values)) units weight values
+    bare_term_fits = term_fits list.terms units weight values (bare_term den (length values)) fits stands_in_gap
 
-    pub grows_in_gap : 1 ≤ den → 1 ≤ weight → (new : Term) → RaisesTerm (bare_term den (length values)) new weight values → Grows list (insert list.terms at new) den weight values
+    pub grows_in_gap : 1 ≤ den → 1 ≤ units → (new : Term) → RaisesTerm (bare_term den (length values)) new units weight values → Grows list (insert list.terms at new) den units weight values
     grows_in_gap from some new raises =
         let new_gap : IsGapFor list.terms new.den at = rw raises.den gap in
-        let new_whole = is_term_raised list.terms weight values (bare_term den (length values)) fits stands_in_gap list.columns whole new raises some in
+        let new_whole = is_term_raised list.terms units weight values (bare_term den (length values)) fits stands_in_gap list.columns whole new raises some in
         record {
           terms = record { some = ok.some; most = ok.most; terms = are_terms-insert list.columns 1 list.terms ok.terms new at new_gap (omega (arith, raises.den)) new_whole };
-          adds = adds_share list.terms weight values (bare_term den (length values)) fits stands_in_gap list.columns whole new raises (insert list.terms at new) (term_of-insert list.terms new at new_gap);
+          adds = adds_share list.terms units weight values (bare_term den (length values)) fits stands_in_gap list.columns whole new raises (insert list.terms at new) (term_of-insert list.terms new at new_gap);
         }

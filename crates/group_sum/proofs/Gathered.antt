@@ -13,8 +13,8 @@ use Rattle.std.proofs.lemmas.List.Sorted.{sum_by-IsPermutation}
 use borrow.Author.Differences.{up, down}
 use Rattle.cube_model.specs.Answer.{numerator_of, total_by}
 use Rattle.group_sum.specs.declared.shares.Share.{Share}
-use Rattle.group_sum.specs.Terms.{AddsShare, Fits, TermList}
-use Rattle.group_sum.specs.Shares.{AddUpTo, IsShare, SharesFit, product_at, product_in, shares_at, size_at, weight_at}
+use Rattle.group_sum.specs.Terms.{AddsUnits, FitsUnits, TermList}
+use Rattle.group_sum.specs.Shares.{AddUpTo, IsShare, SharesFit, product_at, product_in, shares_at, size_at, units_at, units_of}
 
 -- what is added up over the shares of a denominator
 abbrev part : (Share → ℕ) → ℕ → Share → ℕ
@@ -69,14 +69,14 @@ total_in_order f d xs ys order =
 
 pub fit_in_order : (columns : ℕ) (xs ys : List Share) → IsPermutation xs ys → SharesFit columns xs → SharesFit columns ys
 fit_in_order columns xs ys order fit = record {
-  counts = λ d. rw (same_in_order (λ s. s.weight) d xs ys order) (fit.counts d);
+  counts = λ d. rw (same_in_order units_of d xs ys order) (fit.counts d);
   sums = λ d k lt. rw (same_in_order (λ s. nat_abs (product_in k s)) d xs ys order) (fit.sums d k lt);
 }
 
 pub add_up_in_order : (columns : ℕ) (xs ys : List Share) (list : TermList) → IsPermutation xs ys → AddUpTo columns ys list → AddUpTo columns xs list
 add_up_in_order columns xs ys list order up = record {
   columns_are = up.columns_are;
-  counts = λ d. up.counts d ∙ same_in_order (λ s. s.weight) d xs ys order;
+  counts = λ d. up.counts d ∙ same_in_order units_of d xs ys order;
   sums = λ d k lt. up.sums d k lt ∙ total_in_order (product_in k) d xs ys order;
 }
 
@@ -92,12 +92,12 @@ module _ (shares : List Share) (i : ℕ) (s : Share) (lt : i < length shares) (i
   parts : (d : ℕ) → shares_at d (take (i + 1) shares) ≡ shares_at d (take i shares) ++ shares_at d (s ∷ [])
   parts d = ap (shares_at d) next ∙ filter-append (λ (x : Share). x.den == d) (take i shares) (s ∷ [])
 
-  weight_more : (d : ℕ) → weight_at (take (i + 1) shares) d ≡ weight_at (take i shares) d + (if d == s.den then s.weight else 0)
-  weight_more d =
-      let both : weight_at (take (i + 1) shares) d ≡ weight_at (take i shares) d + weight_at (s ∷ []) d = ap (sum_by (λ (x : Share). x.weight)) (parts d) ∙ sum_by-append (λ (x : Share). x.weight) (shares_at d (take i shares)) (shares_at d (s ∷ [])) in
-      both ∙ ap (λ n. weight_at (take i shares) d + n) (one d)
+  units_more : (d : ℕ) → units_at (take (i + 1) shares) d ≡ units_at (take i shares) d + (if d == s.den then units_of s else 0)
+  units_more d =
+      let both : units_at (take (i + 1) shares) d ≡ units_at (take i shares) d + units_at (s ∷ []) d = ap (sum_by units_of) (parts d) ∙ sum_by-append units_of (shares_at d (take i shares)) (shares_at d (s ∷ [])) in
+      both ∙ ap (λ n. units_at (take i shares) d + n) (one d)
     where
-      one : (d : ℕ) → weight_at (s ∷ []) d ≡ (if d == s.den then s.weight else 0)
+      one : (d : ℕ) → units_at (s ∷ []) d ≡ (if d == s.den then units_of s else 0)
       one d = elim (cases_eq d s.den) [
         | inl same ↦
             let there : (s.den == d) ≡ true = grind (arith, nat_tests) in
@@ -128,12 +128,12 @@ module _ (shares : List Share) (i : ℕ) (s : Share) (lt : i < length shares) (i
 
   module _ (columns : ℕ) (whole : IsShare columns s) (old : TermList) (up : AddUpTo columns (take i shares) old) where
     -- it fits the terms
-    pub fits_next : SharesFit columns shares → Fits old.terms s.den s.weight s.cols
+    pub fits_next : SharesFit columns shares → FitsUnits old.terms s.den (units_of s) s.weight s.cols
     fits_next fit = record {
       count =
           let test : (s.den == s.den) ≡ true = grind (arith, nat_tests) in
-          let more : weight_at (take (i + 1) shares) s.den ≡ weight_at (take i shares) s.den + s.weight = rw test at (weight_more s.den) in
-          omega (arith, up.counts s.den, more, front_le (λ (x : Share). x.weight) s.den (i + 1) shares, fit.counts s.den);
+          let more : units_at (take (i + 1) shares) s.den ≡ units_at (take i shares) s.den + units_of s = rw test at (units_more s.den) in
+          omega (arith, up.counts s.den, more, front_le units_of s.den (i + 1) shares, fit.counts s.den);
       sums = λ k within.
           let test : (s.den == s.den) ≡ true = grind (arith, nat_tests) in
           let more : product_at (take (i + 1) shares) s.den k ≡ product_at (take i shares) s.den k +ℤ product_in k s = rw test at (product_more s.den k) in
@@ -145,10 +145,10 @@ module _ (shares : List Share) (i : ℕ) (s : Share) (lt : i < length shares) (i
     }
 
     -- with it added, one share more is added up
-    pub add_up_next : (new : TermList) → AddsShare old new s.den s.weight s.cols → AddUpTo columns (take (i + 1) shares) new
+    pub add_up_next : (new : TermList) → AddsUnits old new s.den (units_of s) s.weight s.cols → AddUpTo columns (take (i + 1) shares) new
     add_up_next new adds = record {
       columns_are = adds.columns ∙ up.columns_are;
-      counts = λ d. adds.counts d ∙ ap (λ n. n + (if d == s.den then s.weight else 0)) (up.counts d) ∙ sym (weight_more d);
+      counts = λ d. adds.counts d ∙ ap (λ n. n + (if d == s.den then units_of s else 0)) (up.counts d) ∙ sym (units_more d);
       sums = λ d k within.
           adds.sums d k (omega (arith, whole.columns_are)) ∙ ap (λ z. z +ℤ (if d == s.den then product_in k s else pos 0)) (up.sums d k within) ∙ sym (product_more d k);
     }

@@ -17,15 +17,15 @@ pub record AddsScaled (old new : List ℤ) (weight : ℕ) (values : List ℤ) : 
   pub columns : length new ≡ length old
   pub each : (k : ℕ) → k < length values → slice_index_or new k (pos 0) ≡ scaled_sum old weight values k
 
--- with a share added, no numerator of the term passes WIDE
-pub record TermFits (term : Term) (weight : ℕ) (values : List ℤ) : Type 0 where
-  pub count : term.count + weight ≤ WIDE
+-- with units added to the count, and the weight times each value to its sum, no numerator of the term passes WIDE
+pub record TermFits (term : Term) (units weight : ℕ) (values : List ℤ) : Type 0 where
+  pub count : term.count + units ≤ WIDE
   pub sums : SumsFit term.sums weight values
 
--- a share was added to the term
-pub record RaisesTerm (old new : Term) (weight : ℕ) (values : List ℤ) : Type 0 where
+-- units were added to the count of the term, and the weight times each value to its sum
+pub record RaisesTerm (old new : Term) (units weight : ℕ) (values : List ℤ) : Type 0 where
   pub den : new.den ≡ old.den
-  pub count : new.count ≡ old.count + weight
+  pub count : new.count ≡ old.count + units
   pub sums : AddsScaled old.sums new.sums weight values
 
 -- a term that has no share yet

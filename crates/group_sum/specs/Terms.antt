@@ -26,20 +26,28 @@ pub record AreTerms (list : TermList) : Type 0 where
   pub most : list.columns ≤ MAX_COLS + 1
   pub terms : are_terms_from list.columns 1 list.terms ≡ true
 
--- with a share added at a denominator, no numerator passes WIDE
-pub record Fits (terms : List Term) (den weight : ℕ) (values : List ℤ) : Type 0 where
-  pub count : count_of terms den + weight ≤ WIDE
+-- with units added to the count at a denominator, and the weight times each value to the other columns, no numerator passes WIDE
+pub record FitsUnits (terms : List Term) (den units weight : ℕ) (values : List ℤ) : Type 0 where
+  pub count : count_of terms den + units ≤ WIDE
   pub sums : (k : ℕ) → k < length values → nat_abs (numerator_of terms den (k + 1) +ℤ pos weight *ℤ slice_index_or values k (pos 0)) ≤ WIDE
 
--- a share of the weight makes a term, since its denominator has none
-pub record NeedsTerm (terms : List Term) (den weight : ℕ) : Type 0 where
-  pub some : 1 ≤ weight
+-- so with a share, whose weight is its units
+abbrev pub Fits : List Term → ℕ → ℕ → List ℤ → Type 0
+Fits terms den weight values = FitsUnits terms den weight weight values
+
+-- units make a term, since their denominator has none
+pub record NeedsTerm (terms : List Term) (den units : ℕ) : Type 0 where
+  pub some : 1 ≤ units
   pub absent : term_of terms den ≡ None
 
--- A share was added at a denominator: its weight to the count, and its weight times each value to the other
--- columns. At every other denominator all numerators stay.
-pub record AddsShare (old new : TermList) (den weight : ℕ) (values : List ℤ) : Type 0 where
+-- Units were added to the count at a denominator, and the weight times each value to the other columns. At every other
+-- denominator all numerators stay.
+pub record AddsUnits (old new : TermList) (den units weight : ℕ) (values : List ℤ) : Type 0 where
   pub columns : new.columns ≡ old.columns
-  pub counts : (d : ℕ) → count_of new.terms d ≡ count_of old.terms d + (if d == den then weight else 0)
+  pub counts : (d : ℕ) → count_of new.terms d ≡ count_of old.terms d + (if d == den then units else 0)
   pub sums : (d k : ℕ) → k < length values →
       numerator_of new.terms d (k + 1) ≡ numerator_of old.terms d (k + 1) +ℤ (if d == den then pos weight *ℤ slice_index_or values k (pos 0) else pos 0)
+
+-- a share was added, whose weight is its units
+abbrev pub AddsShare : TermList → TermList → ℕ → ℕ → List ℤ → Type 0
+AddsShare old new den weight values = AddsUnits old new den weight weight values

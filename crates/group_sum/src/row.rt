@@ -7,14 +7,14 @@ ghost use Rattle.group_sum.specs.Share.{AddsScaled, RaisesTerm, SumsFit, TermFit
 
 use cube_base::Cols;
 
-/// Adds a share: its weight to the count, and the weight times each value to the sum at its place.
-pub fn raise(row: &mut [i128], weight: u64, cols: Cols)
+/// Adds units to the count, and the weight times each value to the sum at its place.
+pub fn raise(row: &mut [i128], units: u128, weight: u64, cols: Cols)
     requires row { IsRow row.old }
-    requires within { TermFits (row_term 0 row.old) weight cols }
+    requires within { TermFits (row_term 0 row.old) units weight cols }
     ensures row { IsRow row.new }
-    ensures raised { RaisesTerm (row_term 0 row.old) (row_term 0 row.new) weight cols }
+    ensures raised { RaisesTerm (row_term 0 row.old) (row_term 0 row.new) units weight cols }
 {
-    row[0] += i128::from(weight);
+    row[0] += units as i128;
     add_scaled(&mut row[1..], weight, cols);
 }
 

@@ -107,16 +107,17 @@ impl Rows {
         self.dens.binary_search(&den)
     }
 
-    /// Adds a share to the term at a place.
-    pub fn raise(&mut self, at: usize, weight: u64, cols: Cols)
+    /// Adds units to the count of the term at a place, and the weight times each value to its sum.
+    pub fn raise(&mut self, at: usize, units: u128, weight: u64, cols: Cols)
         requires place { at < length self.old.terms }
-        requires within { TermFits (term_at self.old.terms at) weight cols }
+        requires within { TermFits (term_at self.old.terms at) units weight cols }
         ensures only { self.new ≡ record { columns = self.old.columns; terms = slice_set self.old.terms at (term_at self.new.terms at) } }
-        ensures raised { RaisesTerm (term_at self.old.terms at) (term_at self.new.terms at) weight cols }
+        ensures raised { RaisesTerm (term_at self.old.terms at) (term_at self.new.terms at) units weight cols }
     {
         let from = start(self.columns, &self.nums, at);
         raise(
             &mut self.nums[from..from + self.columns as usize],
+            units,
             weight,
             cols,
         );

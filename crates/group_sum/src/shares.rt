@@ -1,28 +1,40 @@
 //! Many shares at once.
 ghost use Rattle.std.specs.Prelude.{◌≡◌, ◌≤◌, [], All, IfOk, OnOk, IsPermutation};
 ghost use Rattle.group_sum.specs.Terms.{AreTerms};
-ghost use Rattle.group_sum.specs.Shares.{AddUpTo, IsShare, SharesFit};
+ghost use Rattle.group_sum.specs.Shares.{AddUpTo, IsShare, SharesFit, units_of};
 
 use crate::terms::{MAX_COLUMNS, Terms};
 use cube_base::{Cols, Memory};
 use std::alloc::Global;
 
-/// A weight at a denominator, with the values that it weighs.
+/// A weight at a denominator, with the values that it weighs: of one fact, or of several at once which all have this weight.
 #[derive(Clone, Copy, Debug)]
 pub struct Share {
+    /// How many facts there are: at least 1.
+    pub facts: u64,
     /// The denominator.
     pub den: u64,
-    /// The weight.
+    /// The weight of each of them.
     pub weight: u64,
-    /// The values of the columns behind the count.
+    /// What their values add up to, in the columns behind the count.
     pub cols: Cols,
+}
+
+impl Share {
+    /// What it adds to the count: the weight, once for each of the facts.
+    fn units(&self) -> u128
+        ensures { result ≡ units_of self.now }
+    {
+        u128::from(self.weight) * u128::from(self.facts)
+    }
 }
 
 /// The terms that shares in any order add up to, over a number of columns, the count included. The shares are sorted by
 /// denominator, so that each term is put behind the others. The one error is want of memory.
 ///
-/// Each denominator is at least 1, and each share has a value for each column but the count. At no denominator do the
-/// weights, or the absolute values of the products with the values of a column, add up to more than 2^120.
+/// Each share has a fact at least, a denominator of at least 1, and a value for each column but the count. At no denominator do
+/// the weights, each once for each fact, or the absolute values of the products with the values of a column, add up to more than
+/// 2^120.
 pub fn terms_of_shares(alloc: Global, columns: u32, shares: &mut [Share]) -> Result<Terms, Memory>
     requires some { 1 ≤ columns }
     requires most { columns ≤ MAX_COLUMNS }
@@ -48,7 +60,7 @@ fn add_all(terms: &mut Terms, shares: &[Share]) -> Result<(), Memory>
     ensures terms { OnOk result (AreTerms terms.new) }
 {
     for share in shares {
-        terms.add_term(share.den, share.weight, share.cols)?;
+        terms.add_units(share.den, share.units(), share.weight, share.cols)?;
     }
     Ok(())
 }

@@ -2,7 +2,7 @@
 ghost use Rattle.std.specs.Prelude.{◌≡◌, ◌+◌, ◌-◌, ◌<◌, ◌≤◌, [], length, slice_get, Some, OnOk, OnErr, IfOk, IfErr, ◌∷◌, slice_index_or, pos};
 ghost use Rattle.std.specs.Option.{option_map};
 ghost use Rattle.cube_model.specs.Answer.{count_of, merge, numerator_of};
-ghost use Rattle.group_sum.specs.Terms.{AddsShare, AreTerms, Fits, NeedsTerm};
+ghost use Rattle.group_sum.specs.Terms.{AddsShare, AddsUnits, AreTerms, Fits, FitsUnits, NeedsTerm};
 ghost use Rattle.group_sum.specs.Place.{IsAt, IsGapFor};
 ghost use Rattle.group_sum.specs.Merge.{Faults, FitsDifference, FitsMerge, HasDifference, IsDifference};
 
@@ -116,18 +116,43 @@ impl Terms {
         ensures memory { OnErr result (NeedsTerm self.old.terms den weight) }
         ensures terms { AreTerms self.new }
     {
+        self.add_units(den, u128::from(weight), weight, cols)
+    }
+
+    /// Adds a share that several facts have together: `units` to the count at a denominator, and `weight` times each value,
+    /// which is that of all of them, to the other columns. Each of the facts has the weight, so there are as many units at
+    /// least. 0 units change nothing. Memory is taken for a new term alone. An error leaves the terms as they were.
+    ///
+    /// The denominator is at least 1, there is a value for each of the other columns, and with the share added no numerator
+    /// at the denominator passes 2^120 in absolute value.
+    pub fn add_units(
+        &mut self,
+        den: u64,
+        units: u128,
+        weight: u64,
+        cols: Cols,
+    ) -> Result<(), Memory>
+        requires den { 1 ≤ den }
+        requires columns { length cols + 1 ≡ self.old.columns }
+        requires least { weight ≤ units }
+        requires within { FitsUnits self.old.terms den units weight cols }
+        ensures ok { OnOk result (AddsUnits self.old self.new den units weight cols) }
+        ensures err { OnErr result (self.new ≡ self.old) }
+        ensures memory { OnErr result (NeedsTerm self.old.terms den units) }
+        ensures terms { AreTerms self.new }
+    {
         let place = self.search(den);
-        if weight == 0 {
+        if units == 0 {
             return Ok(());
         }
         match place {
             Ok(at) => {
-                self.rows.raise(at, weight, cols);
+                self.rows.raise(at, units, weight, cols);
                 Ok(())
             }
             Err(at) => {
                 self.rows.insert_bare(at, den)?;
-                self.rows.raise(at, weight, cols);
+                self.rows.raise(at, units, weight, cols);
                 Ok(())
             }
         }

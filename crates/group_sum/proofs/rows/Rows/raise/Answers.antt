@@ -27,7 +27,7 @@ raise-requires-clause-row c = subst (λ (r : List ℤ). IsRow r) (sym (row_lent 
 pub raise-requires-clause-within : goal.raise-requires-clause-within
 raise-requires-clause-within c =
     let within = rw (← c.self.view_is) at c.requires.within in
-    subst (λ (r : List ℤ). TermFits (row_term 0 r) c.args.weight c.args.cols) (sym (row_lent _ _ _ _ _ _ _ (lent c))) (record { count = within.count; sums = within.sums })
+    subst (λ (r : List ℤ). TermFits (row_term 0 r) c.args.units c.args.weight c.args.cols) (sym (row_lent _ _ _ _ _ _ _ (lent c))) (record { count = within.count; sums = within.sums })
 
 -- it is written over
 len : (c : goal.After-self-1) → length c.raise.new.row ≡ c.self.inside.columns
@@ -63,5 +63,5 @@ pub returns-clause-raised : goal.returns-clause-raised
 returns-clause-raised c =
     let there = there_written _ _ _ _ _ _ _ (written c) in
     let row = row_lent _ _ _ _ _ _ _ ((written c).is_lent) in
-    let raised = subst (λ (r : List ℤ). RaisesTerm (row_term 0 r) (row_term 0 c.raise.new.row) c.args.weight c.args.cols) row c.raise.ensures.raised in
+    let raised = subst (λ (r : List ℤ). RaisesTerm (row_term 0 r) (row_term 0 c.raise.new.row) c.args.units c.args.weight c.args.cols) row c.raise.ensures.raised in
     rw (← c.self.view_is, there) (record { den = refl; count = raised.count; sums = raised.sums })

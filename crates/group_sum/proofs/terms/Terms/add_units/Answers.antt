@@ -2,7 +2,7 @@ use Rattle.std.proofs.Common.{◌≤◌, arith, rules}
 use Rattle.group_sum.specs.Terms.{NeedsTerm}
 use Rattle.group_sum.proofs.Ascending.{term_of_gap}
 use Rattle.group_sum.proofs.Raised.{IsGrown, fits_bare, fits_there, grown_bare, grown_there}
-use Rattle.group_sum.proofs.terms.Terms.add_term.Goals as goal
+use Rattle.group_sum.proofs.terms.Terms.add_units.Goals as goal
 
 -- the denominator has a term, which is raised in its place
 pub raise-requires-clause-within : goal.raise-requires-clause-within
@@ -10,15 +10,15 @@ raise-requires-clause-within c =
     let columns = rw (← c.self.view_is) at c.requires.columns in
     let within = rw (← c.self.view_is) at c.requires.within in
     let place = rw (← c.self.view_is) at c.in-Ok.ensures.found in
-    fits_there _ c.self.invariant c.args.den _ _ columns within _ place
+    fits_there _ c.self.invariant c.args.den _ _ _ columns within _ place
 
-raised : (c : goal.After-raise) → IsGrown c.self.inside.rows c.raise.new.self c.args.den c.args.weight c.args.cols
+raised : (c : goal.After-raise) → IsGrown c.self.inside.rows c.raise.new.self c.args.den c.args.units c.args.weight c.args.cols
 raised c =
     let columns = rw (← c.self.view_is) at c.requires.columns in
     let within = rw (← c.self.view_is) at c.requires.within in
     let place = rw (← c.self.view_is) at c.in-Ok.ensures.found in
-    let some : 1 ≤ c.args.weight = omega arith in
-    grown_there _ c.self.invariant c.args.den _ _ columns within _ place some _ c.raise.ensures.only c.raise.ensures.raised
+    let some : 1 ≤ c.args.units = omega arith in
+    grown_there _ c.self.invariant c.args.den _ _ _ columns within _ place some _ c.raise.ensures.only c.raise.ensures.raised
 
 pub invariant_of-self : goal.invariant_of-self
 invariant_of-self c = (raised c).terms
@@ -35,15 +35,15 @@ raise-requires-in-Err-clause-within c =
     let columns = rw (← c.self.view_is) at c.requires.columns in
     let within = rw (← c.self.view_is) at c.requires.within in
     let gap = rw (← c.self.view_is) at c.in-Err.ensures.absent in
-    fits_bare _ c.self.invariant c.args.den _ _ columns within _ gap _ c.in_ok-insert_bare-in-Err.ensures.ok
+    fits_bare _ c.self.invariant c.args.den _ _ _ columns within _ gap _ c.in_ok-insert_bare-in-Err.ensures.ok
 
-inserted : (c : goal.After-raise-in-Err) → IsGrown c.self.inside.rows c.raise-in-Err.new.self c.args.den c.args.weight c.args.cols
+inserted : (c : goal.After-raise-in-Err) → IsGrown c.self.inside.rows c.raise-in-Err.new.self c.args.den c.args.units c.args.weight c.args.cols
 inserted c =
     let columns = rw (← c.self.view_is) at c.requires.columns in
     let within = rw (← c.self.view_is) at c.requires.within in
     let gap = rw (← c.self.view_is) at c.in-Err.ensures.absent in
-    let some : 1 ≤ c.args.weight = omega arith in
-    grown_bare _ c.self.invariant c.args.den _ _ columns within _ gap _ c.in_ok-insert_bare-in-Err.ensures.ok c.requires.den some _ c.raise-in-Err.ensures.only c.raise-in-Err.ensures.raised
+    let some : 1 ≤ c.args.units = omega arith in
+    grown_bare _ c.self.invariant c.args.den _ _ _ columns within _ gap _ c.in_ok-insert_bare-in-Err.ensures.ok c.requires.den some _ c.raise-in-Err.ensures.only c.raise-in-Err.ensures.raised
 
 pub invariant_of-self-in-Err : goal.invariant_of-self-in-Err
 invariant_of-self-in-Err c = (inserted c).terms
@@ -57,5 +57,5 @@ returns-in_ok-insert_bare-in-Err-clause-terms c = (inserted c).terms
 -- it takes memory, since the denominator has none
 pub returns-in_err-insert_bare-in-Err-clause-memory : goal.returns-in_err-insert_bare-in-Err-clause-memory
 returns-in_err-insert_bare-in-Err-clause-memory c =
-    let needs : NeedsTerm c.args.self.now.terms c.args.den c.args.weight = record { some = omega arith; absent = term_of_gap _ _ _ c.in-Err.ensures.absent } in
+    let needs : NeedsTerm c.args.self.now.terms c.args.den c.args.units = record { some = omega arith; absent = term_of_gap _ _ _ c.in-Err.ensures.absent } in
     search (rules, needs)
