@@ -5,7 +5,7 @@ use Rattle.std.specs.Cmp.{nat_eq_equiv}
 use Rattle.std.specs.List.{IsDistinct, list_any}
 use Rattle.std.specs.Option.{option_map_or}
 use Rattle.std.proofs.lemmas.Bool.Decides.{nat_tests}
-use Rattle.std.proofs.lemmas.List.{map-append, take_more}
+use Rattle.std.proofs.lemmas.List.{map-append}
 use Rattle.std.proofs.lemmas.List.Elements.{filter_more}
 use Rattle.std.proofs.lemmas.List.Folds.{list_any-append}
 use Rattle.std.proofs.lemmas.Map.Keys.{IsDistinct-from_apart}
@@ -13,9 +13,9 @@ use Rattle.std.proofs.lemmas.Map.Views.{any-filter_same}
 use Rattle.cube_model.specs.Ascending.{ascends_from}
 use Rattle.cube_model.specs.Cells.{is_among}
 use Rattle.cube_model.proofs.Ascending.{AscendsFrom, ascends_cons, ascends_filter, ascends_first, ascends_later}
-use Rattle.staged_map.specs.Staged.{Entries, PutsAll, Reserves, ReservesSome, entry_of, value_at}
+use Rattle.staged_map.specs.Staged.{Entries, Places, PutsAll, Reserves, ReservesSome, entry_of, value_at}
 use Rattle.staged_map.proofs.Entries.{entry_of-made, have_places-reserved, keys_of-made}
-use Rattle.region_index.specs.Changes.{Applies, IsStagedFor, IsUnchanged, Pair, Staging, entry_ids, held, ids_after, is_named, staging, with_id, with_puts, without}
+use Rattle.region_index.specs.Changes.{Applies, AreByCode, IsStagedFor, IsUnchanged, Pair, Staging, entry_at, entry_ids, held, ids_after, is_named, staging, with_id, with_puts, without}
 use Rattle.region_index.specs.Content.{AreAscending, Content, IsContent, ids_at}
 use Rattle.region_index.proofs.Ascent.{ascending-same, filters-above}
 
@@ -147,27 +147,27 @@ entry_ids-held [] = refl
 entry_ids-held (id ∷ ids) = refl
 
 -- numbers that ascend are distinct
-distinct-ascending : (least : ℕ) (xs : List ℕ) → ascends_from (λ x. x) least xs ≡ true → IsDistinct eqb xs
+pub distinct-ascending : (least : ℕ) (xs : List ℕ) → ascends_from (λ x. x) least xs ≡ true → IsDistinct eqb xs
 distinct-ascending least xs ascends = IsDistinct-from_apart eqb xs (λ i j d before within.
     let less = ascends_later (λ x. x) least xs ascends i j d d before within in
     grind (arith, nat_tests, less))
 
-any-flip : (codes : List ℕ) (code : ℕ) → list_any (eqb code) codes ≡ is_among codes code
+pub any-flip : (codes : List ℕ) (code : ℕ) → list_any (eqb code) codes ≡ is_among codes code
 any-flip [] code = refl
 any-flip (c ∷ codes) code = rw (nat_eq_equiv.symm code c, any-flip codes code) refl
 
 -- the content is as before where places were made alone
-pub IsUnchanged-reserved : (old new : Content) (codes : List ℕ) → Reserves old new codes → IsUnchanged old new
+pub IsUnchanged-reserved : {V : Type 0} (old new : Places V) (codes : List ℕ) → Reserves old new codes → IsUnchanged old new
 IsUnchanged-reserved old new codes reserves = record {
   values = reserves.values;
   places = λ code there. grind (arith, reserves.places code, there);
 }
 
-pub IsUnchanged-some : (old new : Content) (codes : List ℕ) → ReservesSome old new codes → IsUnchanged old new
+pub IsUnchanged-some : {V : Type 0} (old new : Places V) (codes : List ℕ) → ReservesSome old new codes → IsUnchanged old new
 IsUnchanged-some old new codes reserves = record { values = reserves.values; places = reserves.kept }
 
-pub IsUnchanged-same : (content : Content) → IsUnchanged content content
-IsUnchanged-same content = record { values = λ code. refl; places = λ code there. there }
+pub IsUnchanged-same : {V : Type 0} (places : Places V) → IsUnchanged places places
+IsUnchanged-same places = record { values = λ code. refl; places = λ code there. there }
 
 pub IsContent-unchanged : (old new : Content) → IsUnchanged old new → IsContent old → IsContent new
 IsContent-unchanged old new same is code = rw (same.values code) (is code)
@@ -223,20 +223,15 @@ pub among-kept : (ids kept put all changed : List ℕ) (dropped : List ℕ) → 
 among-kept ids kept put all changed dropped kept_is all_is same id =
     same id ∙ rw (all_is, kept_is, among-append (filter (λ id. not (is_among dropped id)) ids) put id, among-filter (λ id. not (is_among dropped id)) ids id) (grind arith)
 
--- the entry that changes make at a code
-abbrev pub entry_at : Content → List Pair → List Pair → ℕ → ℕ × Option (List ℕ)
-entry_at content puts drops code = (code, held (ids_after puts drops code (ids_at content code)))
-
--- one entry more
-pub entries-next : (content : Content) (codes : List ℕ) (puts drops : List Pair) (i : ℕ) (before after : Entries (List ℕ)) (ids put dropped : List ℕ) → i < length codes → before ≡ map (entry_at content puts drops) (take i codes)
-    → put ≡ map (λ pair. pair.1) (filter (λ pair. pair.0 == get_or codes i 0) puts) → dropped ≡ map (λ pair. pair.1) (filter (λ pair. pair.0 == get_or codes i 0) drops)
-    → AreAscending (ids_at content (get_or codes i 0)) → AreAscending ids
-    → ((id : ℕ) → is_among ids id ≡ (is_among put id || (is_among (ids_at content (get_or codes i 0)) id && not (is_among dropped id))))
-    → after ≡ before ++ (get_or codes i 0, held ids) ∷ [] → after ≡ map (entry_at content puts drops) (take (i + 1) codes)
-entries-next content codes puts drops i before after ids put dropped within so_far put_is dropped_is was ascending members is =
-    let made : ids ≡ ids_after puts drops (get_or codes i 0) (ids_at content (get_or codes i 0)) =
-    changed-is puts drops (get_or codes i 0) (ids_at content (get_or codes i 0)) put dropped ids was ascending put_is dropped_is members in
-    is ∙ rw (so_far, made, take_more codes i 0 within) (sym (map-append (entry_at content puts drops) (take i codes) (get_or codes i 0 ∷ [])))
+-- ids that ascend, of which those are there that the changes leave, are a code's entry
+pub entry-made : (content put dropped : Content) (code : ℕ) (ids put_ids dropped_ids : List ℕ) (made : Option (List ℕ)) → put_ids ≡ ids_at put code → dropped_ids ≡ ids_at dropped code
+    → AreAscending (ids_at content code) → AreAscending ids
+    → ((id : ℕ) → is_among ids id ≡ (is_among put_ids id || (is_among (ids_at content code) id && not (is_among dropped_ids id)))) → made ≡ held ids
+    → (puts drops : List Pair) → AreByCode put puts → AreByCode dropped drops → (code, made) ≡ entry_at content puts drops code
+entry-made content put dropped code ids put_ids dropped_ids made put_is dropped_is was ascending members is puts drops puts_are drops_are =
+    let all : ids ≡ ids_after puts drops code (ids_at content code) =
+    changed-is puts drops code (ids_at content code) put_ids dropped_ids ids was ascending (put_is ∙ puts_are.ids code) (dropped_is ∙ drops_are.ids code) members in
+    ap (λ entry. (code, entry)) (is ∙ ap held all)
 
 -- what was staged before places were made
 pub IsStagedFor-made : (inside old new : Content) (codes given reserved : List ℕ) (puts drops : List Pair) (stage : Staging) → inside ≡ old → given ≡ codes → reserved ≡ codes → stage ≡ staging old given puts drops

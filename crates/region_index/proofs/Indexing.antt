@@ -53,7 +53,7 @@ at-one code imprecise named (c ∷ codes) =
     parts a b = grind arith
 
 -- the code of a region is over a cell where the cell is the region's
-over-code : (dims : List Dimension) (cell : ℕ) (region : List ℕ) → All IsTree dims → IsRegion dims region → is_among (codes_over dims cell) (code_of dims region) ≡ is_among (cells_of dims region) cell
+pub over-code : (dims : List Dimension) (cell : ℕ) (region : List ℕ) → All IsTree dims → IsRegion dims region → is_among (codes_over dims cell) (code_of dims region) ≡ is_among (cells_of dims region) cell
 unfolding codes_over
 over-code dims cell region trees named =
     among-places (λ region. is_among (cells_of dims region) cell) 0 (code_of dims region) (code_of dims region) (all_regions dims) region (omega arith) (region-at_code dims region trees named)

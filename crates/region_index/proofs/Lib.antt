@@ -1,6 +1,13 @@
 pub mod Ascent
+pub mod ByPattern
 pub mod Chains
 pub mod Changing
+pub mod Counting
+pub mod Depths
+pub mod HeldCodes
 pub mod Indexing
+pub mod Lengths
+pub mod PatternCodes
+pub mod PatternWalk
 pub mod Places
 pub mod Walking

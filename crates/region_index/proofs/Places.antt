@@ -65,8 +65,18 @@ places-one_more f g k (suc i) at x (y ∷ xs) is found passes agree fails none =
     (λ j z from there. fails (suc j) z (omega arith) there)
     (λ j z from there. none (suc j) z (omega arith) there))
 
+-- where one item alone passes, there is its place alone
+pub places-single : (f : ℕ → Bool) (i x : ℕ) (xs : List ℕ) → slice_get xs i ≡ Some x → f x ≡ true → ((j y : ℕ) → (j ≡ i → ⊥) → slice_get xs j ≡ Some y → f y ≡ false)
+    → places_from f 0 xs ≡ i ∷ []
+places-single f i x xs found passes differs =
+    places-one_more f (λ y. false) 0 i i x xs (omega arith) found passes
+    (λ j y before there. differs j y (λ same. absurd (omega (arith, same))) there)
+    (λ j y from there. differs j y (λ same. absurd (omega (arith, same))) there)
+    (λ j y from there. refl)
+    ∙ ap (λ front. front ++ i ∷ []) (places-none (λ y. false) 0 xs (λ j y from there. refl))
+
 -- a number that stands at a place is among the numbers
-has-at : (xs : List ℕ) (i x : ℕ) → slice_get xs i ≡ Some x → has xs x ≡ true
+pub has-at : (xs : List ℕ) (i x : ℕ) → slice_get xs i ≡ Some x → has xs x ≡ true
 has-at [] i x found = absurd (grind arith)
 has-at (y ∷ xs) zero x found = grind (arith, nat_tests, found)
 has-at (y ∷ xs) (suc i) x found = grind (arith, nat_tests, has-at xs i x found)
@@ -105,11 +115,11 @@ module _ (dim : Dimension) (tree : IsTree dim) where
       above_parent x p (slice_get dim i) (sym (slice_get-map (λ (e : Entry). e.number) dim i) ∙ (place_of-number dim x i placed).1) (IfSome-passes i (slice_get dim i) refl) is
 
   module _ (x i : ℕ) (within : x < length dim) (placed : place_of dim x ≡ Some i) where
-    found : slice_get (numbers dim) i ≡ Some x
+    pub found : slice_get (numbers dim) i ≡ Some x
     found = (place_of-number dim x i placed).1
 
     -- of two nodes at different places the numbers differ
-    other : (j y : ℕ) → (j ≡ i → ⊥) → slice_get (numbers dim) j ≡ Some y → (x == y) ≡ false
+    pub other : (j y : ℕ) → (j ≡ i → ⊥) → slice_get (numbers dim) j ≡ Some y → (x == y) ≡ false
     other j y differs there = ne_eqb x y (λ same. differs (sym (place-found j y there).1 ∙ ap (place_at dim) (sym same) ∙ (place-found i x found).1))
 
     -- a root is under itself alone
@@ -117,12 +127,7 @@ module _ (dim : Dimension) (tree : IsTree dim) where
     unfolding places_over
     places_over-root root =
         let alone : (y : ℕ) → is_under dim x y ≡ (x == y) = λ y. is_under-alone dim x y (has-at (numbers dim) i x found) root in
-        let differs : (j y : ℕ) → (j ≡ i → ⊥) → slice_get (numbers dim) j ≡ Some y → is_under dim x y ≡ false = λ j y apart there. alone y ∙ other j y apart there in
-        places-one_more (is_under dim x) (λ y. false) 0 i i x (numbers dim) (omega arith) found (alone x ∙ grind (arith, nat_tests))
-        (λ j y before there. differs j y (λ same. absurd (omega (arith, same))) there)
-        (λ j y from there. differs j y (λ same. absurd (omega (arith, same))) there)
-        (λ j y from there. refl)
-        ∙ ap (λ front. front ++ i ∷ []) (places-none (λ y. false) 0 (numbers dim) (λ j y from there. refl))
+        places-single (is_under dim x) i x (numbers dim) found (alone x ∙ grind (arith, nat_tests)) (λ j y apart there. alone y ∙ other j y apart there)
 
     -- another node is under itself, and it stands behind those that its parent is under
     pub places_over-child : (p : ℕ) → parent dim x ≡ Some p → places_over dim x ≡ places_over dim p ++ i ∷ []

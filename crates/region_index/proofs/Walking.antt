@@ -1,10 +1,10 @@
 -- The codes of the regions over a cell, dimension by dimension, and what probes of them do.
-use Rattle.std.proofs.Common.{◌≡◌, ℕ, ◌+◌, ◌*◌, ◌<◌, ◌≤◌, Bool, List, [], ◌∷◌, ◌++◌, length, map, drop, get_or, refl, sym, ap, subst, ◌∙◌, append_assoc, length-append, arith}
-use Rattle.std.specs.Prelude.{All, IfSome, OnErr, Option, Some, None, Result, Ok, Err, slice_get, ◌||◌, ◌==◌}
+use Rattle.std.proofs.Common.{◌≡◌, ℕ, ◌+◌, ◌*◌, ◌<◌, ◌≤◌, Bool, true, false, List, [], ◌∷◌, ◌++◌, length, map, drop, get_or, refl, sym, ap, subst, ◌∙◌, append_assoc, length-append, arith}
+use Rattle.std.specs.Prelude.{if◌then◌else◌, nat_lt, All, IfSome, OnErr, Option, Some, None, Result, Ok, Err, slice_get, ◌||◌, ◌==◌}
 use Rattle.std.specs.List.{flat_map, list_any}
 use Rattle.std.specs.Option.{option_map_or}
 use Rattle.std.proofs.Math.Nat.{mul-le-mul_left}
-use Rattle.std.proofs.lemmas.List.Elements.{All-drop}
+use Rattle.std.proofs.lemmas.List.Elements.{All-drop, filter-append}
 use Rattle.std.proofs.lemmas.Grind.{flat_map-append}
 use Rattle.std.proofs.lemmas.List.{append-nil, drop_all, map-append}
 use Rattle.std.proofs.lemmas.Nat.{mul-le}
@@ -12,6 +12,8 @@ use Rattle.std.proofs.lemmas.Option.{get_or_from_slice_get, slice_get-get_or, sl
 use Rattle.cube_model.specs.Cells.{all_cells, cells_of, is_among, is_inside}
 use Rattle.cube_model.specs.Limits.{SPACE_LIMIT}
 use Rattle.cube_model.specs.Tree.{Dimension, IsTree, is_under, numbers, parent, place_of}
+use Rattle.cube_model.proofs.Ascending.{ascends_filter, ascends_places}
+use Rattle.std.proofs.lemmas.Bool.Decides.{nat_tests}
 use Rattle.region_algebra.specs.Space.{IsRegion, all_regions, region_total}
 use Rattle.region_algebra.proofs.Codes.{length-all_regions, places_from-blocks}
 use Rattle.region_algebra.proofs.Spaces.{accepted-limits}
@@ -21,13 +23,13 @@ use Rattle.region_algebra.proofs.Meets.{places_from-same}
 use Rattle.region_algebra.proofs.Turns.{drop-at, is_region-length, node-within, region_total-some}
 use Rattle.region_algebra.proofs.Numbers.{place_of-number}
 use Rattle.dim_tree.proofs.Renumbering.{are_numbers, place_of-place_at}
-use Rattle.region_index.specs.Content.{AreAscending, AreIdsAt, Content, ids_at}
+use Rattle.region_index.specs.Content.{AreAscending, AreIdsAt, Content, held_codes, holds_ids, ids_at}
 use Rattle.region_index.specs.Over.{codes_over}
 use Rattle.region_index.specs.Walk.{IsOnTheWay, Probes, codes_above, codes_behind, codes_higher, codes_of_leaves, places_over}
 use Rattle.region_index.proofs.Places.{among-places, places_over-child, places_over-root}
 
 -- the codes over one more dimension: for each place over the leaf there those over the others, as far on
-codes_of_leaves-cons : (dim : Dimension) (dims : List Dimension) (leaf : ℕ) (leaves : List ℕ)
+pub codes_of_leaves-cons : (dim : Dimension) (dims : List Dimension) (leaf : ℕ) (leaves : List ℕ)
     → codes_of_leaves (dim ∷ dims) (leaf ∷ leaves) ≡ flat_map (λ place. map (λ c. place * region_total dims + c) (codes_of_leaves dims leaves)) (places_over dim leaf)
 unfolding codes_of_leaves places_over all_regions is_inside
 codes_of_leaves-cons dim dims leaf leaves =
@@ -41,7 +43,7 @@ behind-place code size total place (c ∷ codes) =
     let here : code * (size * total) + (place * total + c) ≡ (code * size + place) * total + c = grind arith in
     rw (here, behind-place code size total place codes) refl
 
-behind-places : (code size total : ℕ) (codes places : List ℕ)
+pub behind-places : (code size total : ℕ) (codes places : List ℕ)
     → map (λ c. code * (size * total) + c) (flat_map (λ place. map (λ c. place * total + c) codes) places) ≡ flat_map (λ place. map (λ c. (code * size + place) * total + c) codes) places
 behind-places code size total codes [] = refl
 behind-places code size total codes (place ∷ places) =
@@ -89,7 +91,7 @@ codes_over-leaves dims cell leaves found =
 -- one way of probes and then another
 pub Probes-append : (content : Content) (xs ys a b c : List ℕ) (m n o : ℕ) → Probes content xs a b m n → Probes content ys b c n o → Probes content (xs ++ ys) a c m o
 Probes-append content xs ys a b c m n o first second = record {
-  found = second.found ∙ ap (λ zs. zs ++ flat_map (ids_at content) ys) first.found ∙ append_assoc a (flat_map (ids_at content) xs) (flat_map (ids_at content) ys) ∙ ap (λ zs. a ++ zs) (sym (flat_map-append (ids_at content) xs ys));
+  found = second.found ∙ ap (λ zs. zs ++ held_codes content ys) first.found ∙ append_assoc a (held_codes content xs) (held_codes content ys) ∙ ap (λ zs. a ++ zs) (sym (filter-append (holds_ids content) xs ys));
   steps = second.steps ∙ rw first.steps (grind (arith, length-append xs ys));
 }
 
@@ -245,13 +247,43 @@ Probes-over content inside dims cell leaves a b m n same found none probes =
 pub steps-over : (dims : List Dimension) (cell : ℕ) (leaves : List ℕ) (m n : ℕ) → slice_get (all_cells dims) cell ≡ Some leaves → n ≤ m + length (codes_behind dims leaves 0) → n ≤ m + length (codes_over dims cell)
 steps-over dims cell leaves m n found most = steps-of _ _ m n (codes_over-leaves dims cell leaves found) most
 
-any-flat_map : {X : Type 0} (p : ℕ → Bool) (f : X → List ℕ) (xs : List X) → list_any p (flat_map f xs) ≡ list_any (λ x. list_any p (f x)) xs
+pub any-flat_map : {X : Type 0} (p : ℕ → Bool) (f : X → List ℕ) (xs : List X) → list_any p (flat_map f xs) ≡ list_any (λ x. list_any p (f x)) xs
 any-flat_map p f [] = refl
 any-flat_map p f (x ∷ xs) = list_any-append p (f x) (flat_map f xs) ∙ ap (λ b. list_any p (f x) || b) (any-flat_map p f xs)
 
--- what was found, ascending, is the ids at the codes
-pub AreIdsAt-found : (content : Content) (codes found ids : List ℕ) (m n : ℕ) → Probes content codes [] found m n → AreAscending ids → ((id : ℕ) → is_among ids id ≡ is_among found id) → AreIdsAt content codes ids
-AreIdsAt-found content codes found ids m n probes ascending same = record {
+-- where no id is held at a code, it adds none
+either-held : (some : Bool) (code : ℕ) (codes : List ℕ) (content : Content) → holds_ids content code ≡ some
+    → flat_map (ids_at content) (if some then code ∷ codes else codes) ≡ ids_at content code ++ flat_map (ids_at content) codes
+either-held true code codes content is = refl
+either-held false code codes content is =
+    let none : ids_at content code ≡ [] = no-ids (ids_at content code) is in
+    rw none refl
+  where
+    no-ids : (ids : List ℕ) → nat_lt 0 (length ids) ≡ false → ids ≡ []
+    no-ids [] none = refl
+    no-ids (id ∷ ids) none = absurd (grind (arith, nat_tests, none))
+
+-- so the ids at codes are those at the codes at which some are held
+flat_map-held : (content : Content) (codes : List ℕ) → flat_map (ids_at content) (held_codes content codes) ≡ flat_map (ids_at content) codes
+flat_map-held content [] = refl
+flat_map-held content (code ∷ codes) =
+    either-held (holds_ids content code) code (held_codes content codes) content refl
+    ∙ ap (λ ids. ids_at content code ++ ids) (flat_map-held content codes)
+
+-- the ids at the codes that were found, ascending, are those at all the codes
+pub AreIdsAt-found : (content : Content) (codes found gathered ids : List ℕ) → found ≡ held_codes content codes → gathered ≡ flat_map (ids_at content) found
+    → AreAscending ids → ((id : ℕ) → is_among ids id ≡ is_among gathered id) → AreIdsAt content codes ids
+AreIdsAt-found content codes found gathered ids are all ascending same = record {
   ascending = ascending;
-  exact = λ id. same id ∙ ap (λ xs. is_among xs id) probes.found ∙ any-flat_map (λ i. i == id) (ids_at content) codes;
+  exact = λ id.
+      same id
+      ∙ ap (λ xs. is_among xs id) (all ∙ ap (flat_map (ids_at content)) are ∙ flat_map-held content codes)
+      ∙ any-flat_map (λ i. i == id) (ids_at content) codes;
 }
+
+-- the codes over a cell at which ids are held ascend
+pub AreAscending-held : (content : Content) (dims : List Dimension) (cell : ℕ) → AreAscending (held_codes content (codes_over dims cell))
+unfolding codes_over
+AreAscending-held content dims cell =
+    ascends_filter (λ code. code) (holds_ids content) 0 (codes_over dims cell)
+    (ascends_places (λ region. is_among (cells_of dims region) cell) 0 (all_regions dims))

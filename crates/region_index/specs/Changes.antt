@@ -2,7 +2,7 @@
 use Rattle.std.specs.Prelude.{◌≡◌, ℕ, Bool, true, List, [], ◌∷◌, ◌++◌, filter, map, not, nat_lt, ◌&&◌, ◌==◌, if◌then◌else◌, Option, Some, None, unwrap_or}
 use Rattle.std.specs.List.{list_any}
 use Rattle.std.specs.Option.{option_map_or}
-use Rattle.staged_map.specs.Staged.{AreOfDifferentKeys, Entries, entry_of, has_place, have_places, value_at}
+use Rattle.staged_map.specs.Staged.{AreOfDifferentKeys, Entries, Places, entry_of, has_place, have_places, value_at}
 use Rattle.region_index.specs.Content.{Content, ids_at}
 
 -- a change: an id that is put at a code, or taken away there
@@ -41,13 +41,21 @@ abbrev pub held : List ℕ → Option (List ℕ)
 held [] = None
 held (id ∷ ids) = Some (id ∷ ids)
 
+-- the entry that changes make at a code
+abbrev pub entry_at : Content → List Pair → List Pair → ℕ → ℕ × Option (List ℕ)
+entry_at content puts drops code = (code, held (ids_after puts drops code (ids_at content code)))
+
 -- the changes, with what they make of the content at these codes
 abbrev pub staging : Content → List ℕ → List Pair → List Pair → Staging
 staging content codes puts drops = record {
   puts = puts;
   drops = drops;
-  entries = map (λ code. (code, held (ids_after puts drops code (ids_at content code)))) codes;
+  entries = map (entry_at content puts drops) codes;
 }
+
+-- at each code the ids that these changes name there, in the order of the changes
+pub record AreByCode (groups : Content) (pairs : List Pair) : Type 0 where
+  pub ids : (code : ℕ) → ids_at groups code ≡ map (λ pair. pair.1) (filter (λ pair. pair.0 == code) pairs)
 
 -- what an entry leaves at its code
 abbrev pub entry_ids : Option (List ℕ) → List ℕ
@@ -60,7 +68,7 @@ pub record IsStagedFor (content : Content) (stage : Staging) : Type 0 where
   pub placed : have_places content stage.entries ≡ true
 
 -- nothing is held that was not, or the other way round; places stay
-pub record IsUnchanged (old new : Content) : Type 0 where
+pub record IsUnchanged {V : Type 0} (old new : Places V) : Type 0 where
   pub values : (code : ℕ) → value_at new code ≡ value_at old code
   pub places : (code : ℕ) → has_place old code ≡ true → has_place new code ≡ true
 

@@ -1,5 +1,5 @@
 -- The ids that an index holds, by the code of a region.
-use Rattle.std.specs.Prelude.{◌≡◌, ℕ, Bool, true, List, [], unwrap_or}
+use Rattle.std.specs.Prelude.{◌≡◌, ℕ, Bool, true, List, [], filter, length, nat_lt, unwrap_or}
 use Rattle.std.specs.List.{list_any}
 use Rattle.cube_model.specs.Ascending.{ascends_from}
 use Rattle.cube_model.specs.Cells.{is_among}
@@ -12,6 +12,14 @@ Content = Places (List ℕ)
 -- the ids at a code: none where nothing is held
 abbrev pub ids_at : Content → ℕ → List ℕ
 ids_at content code = unwrap_or (value_at content code) []
+
+-- some id is held at a code
+abbrev pub holds_ids : Content → ℕ → Bool
+holds_ids content code = nat_lt 0 (length (ids_at content code))
+
+-- those of the codes at which some id is held
+abbrev pub held_codes : Content → List ℕ → List ℕ
+held_codes content codes = filter (holds_ids content) codes
 
 -- ids that ascend, each once
 abbrev pub AreAscending : List ℕ → Type 0

@@ -27,3 +27,7 @@ covers dims cell fact = is_among (cells_of dims fact.region) cell && not (is_pre
 -- the ids of the facts that cover a cell
 abbrev pub ids_that_cover : List Dimension → ℕ → List Fact → List ℕ
 ids_that_cover dims cell facts = map (λ fact. fact.id) (filter (covers dims cell) facts)
+
+-- an imprecise fact whose region has the code and holds the cell
+abbrev pub covers_at : List Dimension → ℕ → ℕ → Fact → Bool
+covers_at dims cell code fact = covers dims cell fact && code_of dims fact.region == code

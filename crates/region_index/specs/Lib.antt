@@ -1,6 +1,9 @@
 pub mod Changes
 pub mod Content
+pub mod Depths
 pub mod Examples
 pub mod Indexed
 pub mod Over
+pub mod PatternChanges
+pub mod Patterns
 pub mod Walk

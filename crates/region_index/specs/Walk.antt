@@ -6,7 +6,7 @@ use Rattle.cube_model.specs.Cells.{is_inside, places_from}
 use Rattle.cube_model.specs.Limits.{MAX_DIMS, SPACE_LIMIT}
 use Rattle.cube_model.specs.Tree.{Dimension, IsTree, is_under, numbers, parent}
 use Rattle.region_algebra.specs.Space.{IsRegion, all_regions, region_total}
-use Rattle.region_index.specs.Content.{Content, ids_at}
+use Rattle.region_index.specs.Content.{Content, held_codes}
 
 -- the codes of the regions whose nodes these leaves are under
 unfoldable pub codes_of_leaves : List Dimension → List ℕ → List ℕ
@@ -40,7 +40,7 @@ pub record IsOnTheWay (dims : List Dimension) (leaves : List ℕ) (d code : ℕ)
   pub within : d ≤ length dims
   pub fits : (code + 1) * region_total (drop d dims) ≤ region_total dims
 
--- what probes of these codes do: the ids there are found, and each probe is a step
+-- what probes of these codes do: those at which ids are held are found, and each probe is a step
 pub record Probes (content : Content) (codes before after : List ℕ) (steps_before steps_after : ℕ) : Type 0 where
-  pub found : after ≡ before ++ flat_map (ids_at content) codes
+  pub found : after ≡ before ++ held_codes content codes
   pub steps : steps_after ≡ steps_before + length codes

@@ -1,8 +1,8 @@
 //! Changes of the facts' regions: which codes they name, and what they make of the ids at one of them.
 ghost use Rattle.std.specs.Prelude.{◌≡◌, ◌∷◌, [], ◌++◌, ◌||◌, ◌==◌, ℕ, IfOk, OnOk, filter, if◌then◌else◌, map, not, ◌&&◌};
-ghost use Rattle.std.specs.List.{list_any};
+ghost use Rattle.std.specs.List.{flat_map, list_any};
 ghost use Rattle.cube_model.specs.Cells.{is_among};
-ghost use Rattle.region_index.specs.Content.{AreAscending, ids_at};
+ghost use Rattle.region_index.specs.Content.{AreAscending, holds_ids, ids_at};
 
 use cube_base::{Ids, Memory};
 use staged_map::Staged;
@@ -78,6 +78,24 @@ pub fn at_code(groups: &Staged<Ids>, code: u64) -> &[u64]
         Some(ids) => ids.as_slice(),
         None => &[],
     }
+}
+
+/// Whether some id is held at a code.
+pub fn holds_ids(groups: &Staged<Ids>, code: u64) -> bool
+    ensures { result ≡ holds_ids groups.now code }
+{
+    !at_code(groups, code).is_empty()
+}
+
+/// The ids at codes, those of one code behind those of the one before.
+pub fn at_codes(alloc: Global, groups: &Staged<Ids>, codes: &[u64]) -> Result<Vec<u64>, Memory>
+    ensures { IfOk result (λ ids. ids.items ≡ flat_map (ids_at groups.now) codes.now) }
+{
+    let mut ids = Vec::new(alloc);
+    for code in codes {
+        ids.extend_from_slice(at_code(groups, *code))?;
+    }
+    Ok(ids)
 }
 
 /// The ids with more behind them.

@@ -1,22 +1,54 @@
 //! Laws of the index, and examples that are computed from the definitions. The functions do nothing: each law is the
 //! contract.
-ghost use Rattle.std.specs.Prelude.{◌≡◌, ℕ, List, [], ◌∷◌, ◌||◌, ◌&&◌, All, not, true};
+ghost use Rattle.std.specs.Prelude.{◌≡◌, ℕ, List, [], ◌∷◌, ◌||◌, ◌&&◌, ◌+◌, ◌<◌, ◌≤◌, All, count_by, length, not, true};
+ghost use Rattle.std.specs.List.{list_any};
+ghost use Rattle.cube_model.specs.Cells.{all_cells, is_among};
+ghost use Rattle.region_index.specs.Depths.{depth_product};
 ghost use Rattle.cube_model.specs.declared.edit.Fact.{Fact};
 ghost use Rattle.cube_model.specs.Ascending.{ascends_from};
 ghost use Rattle.cube_model.specs.Tree.{Dimension, IsTree};
 ghost use Rattle.region_algebra.specs.Examples.{numbered_space, small_space};
 ghost use Rattle.region_algebra.specs.Space.{IsRegion};
 ghost use Rattle.region_index.specs.Changes.{Applies, Pair, ids_after, is_named};
-ghost use Rattle.region_index.specs.Content.{AreIdsAt, Content};
+ghost use Rattle.region_index.specs.Content.{AreIdsAt, Content, held_codes};
 ghost use Rattle.region_index.specs.Examples.{small_facts};
-ghost use Rattle.region_index.specs.Indexed.{Indexes, has_at, ids_that_cover};
+ghost use Rattle.region_index.specs.Indexed.{Indexes, covers_at, has_at, ids_that_cover};
 ghost use Rattle.region_index.specs.Over.{codes_over};
+ghost use Rattle.region_index.specs.PatternChanges.{CountsPatterns, Recounts, count_after, has_pattern, times_among};
+ghost use Rattle.region_index.specs.Patterns.{HasPatterns, Patterns, codes_of_pattern, pattern_of};
 
 /// Where an index holds, at the code of each region, the ids of the imprecise facts there, the ids at the regions over a
 /// cell are those of the imprecise facts whose region holds the cell, in the facts' order.
 pub fn ids_over_a_cell_are_those_of_the_facts()
     ensures { (dims : List Dimension) (facts : List Fact) (content : Content) (cell : ℕ) (ids : List ℕ) → All IsTree dims → All (λ fact. IsRegion dims fact.region) facts
         → ascends_from (λ fact. fact.id) 0 facts ≡ true → Indexes dims facts content → AreIdsAt content (codes_over dims cell) ids → ids ≡ ids_that_cover dims cell facts }
+{}
+
+/// Where an index holds the imprecise facts, the codes over a cell at which it holds ids are those of the regions of the
+/// imprecise facts that cover the cell.
+pub fn codes_held_over_a_cell_are_those_of_the_facts()
+    ensures { (dims : List Dimension) (facts : List Fact) (content : Content) (cell code : ℕ) → All IsTree dims → All (λ fact. IsRegion dims fact.region) facts → Indexes dims facts content
+        → is_among (held_codes content (codes_over dims cell)) code ≡ list_any (covers_at dims cell code) facts }
+{}
+
+/// Where the patterns of the imprecise facts are counted, those of the regions at which an index of the facts holds ids are
+/// in use.
+pub fn counted_patterns_are_those_of_an_index()
+    ensures { (dims : List Dimension) (facts : List Fact) (content : Content) (patterns : Patterns) → All IsTree dims → All (λ fact. IsRegion dims fact.region) facts
+        → Indexes dims facts content → CountsPatterns dims facts patterns → HasPatterns dims content patterns }
+{}
+
+/// Counts of patterns are those of the facts after a change of them too, where of each pattern as many come and go as are
+/// given and taken.
+pub fn counts_of_patterns_follow_the_facts()
+    ensures { (dims : List Dimension) (before after : List Fact) (old new : Patterns) (given taken : List ℕ)
+        → ((pattern : ℕ) → count_by (has_pattern dims pattern) after + times_among taken pattern ≡ count_by (has_pattern dims pattern) before + times_among given pattern)
+        → CountsPatterns dims before old → Recounts old new given taken → CountsPatterns dims after new }
+{}
+
+/// The regions over a cell are no more than the depths of the nodes in each dimension, multiplied.
+pub fn regions_over_a_cell_are_no_more_than_depths()
+    ensures { (dims : List Dimension) (cell : ℕ) → All IsTree dims → cell < length (all_cells dims) → length (codes_over dims cell) ≤ depth_product dims }
 {}
 
 /// An index of facts is one of the facts after a change of them too, where the puts name what comes and the drops what
@@ -34,6 +66,12 @@ pub fn worked_indexes()
     ensures over_a_leaf_below_the_root { codes_over small_space 6 ≡ 0 ∷ 1 ∷ 18 ∷ 19 ∷ [] }
     ensures over_numbered { codes_over numbered_space 5 ≡ 0 ∷ 2 ∷ 12 ∷ 14 ∷ 15 ∷ 17 ∷ [] }
     ensures over_no_cell { codes_over small_space 8 ≡ [] }
+    ensures pattern { pattern_of small_space (4 ∷ 2 ∷ []) ≡ 10 }
+    ensures pattern_of_the_roots { pattern_of small_space (0 ∷ 0 ∷ []) ≡ 0 }
+    ensures of_a_pattern { codes_of_pattern small_space (5 ∷ 2 ∷ []) 10 ≡ 14 ∷ [] }
+    ensures leaf_less_deep { codes_of_pattern small_space (6 ∷ 2 ∷ []) 11 ≡ [] }
+    ensures recounted { count_after (10 ∷ 3 ∷ 10 ∷ []) (10 ∷ []) 10 4 ≡ 5 }
+    ensures depths { depth_product small_space ≡ 6 }
     ensures covering { ids_that_cover small_space 5 small_facts ≡ 2 ∷ 4 ∷ [] }
     ensures covering_elsewhere { ids_that_cover small_space 2 small_facts ≡ 4 ∷ 9 ∷ [] }
     ensures drops_before_puts { ids_after ((12, 9) ∷ []) ((12, 9) ∷ (12, 5) ∷ []) 12 (2 ∷ 5 ∷ 9 ∷ []) ≡ 2 ∷ 9 ∷ [] }

@@ -2,13 +2,19 @@
 #![tactic(auto)]
 
 mod changes;
+mod climb;
 mod laws;
+mod patterns;
 mod region_index;
 mod steps;
 mod walk;
 
 pub use laws::{
-    an_index_follows_its_facts, ids_over_a_cell_are_those_of_the_facts, worked_indexes,
+    an_index_follows_its_facts, codes_held_over_a_cell_are_those_of_the_facts,
+    counted_patterns_are_those_of_an_index, counts_of_patterns_follow_the_facts,
+    ids_over_a_cell_are_those_of_the_facts, regions_over_a_cell_are_no_more_than_depths,
+    worked_indexes,
 };
+pub use patterns::{DepthPatterns, PatternStage};
 pub use region_index::{RegionIndex, RegionStage};
 pub use steps::Steps;

@@ -1,13 +1,16 @@
 //! The index of the imprecise facts.
-ghost use Rattle.std.specs.Prelude.{◌≡◌, ◌+◌, ◌<◌, ◌≤◌, ◌||◌, ◌&&◌, ℕ, [], IfOk, OnErr, length, map, not};
+ghost use Rattle.std.specs.Prelude.{◌≡◌, ◌+◌, ◌<◌, ◌≤◌, ◌||◌, ◌&&◌, ℕ, List, [], IfOk, OnErr, length, map, not};
 ghost use Rattle.cube_model.specs.Cells.{all_cells, is_among};
-ghost use Rattle.region_index.specs.Content.{AreAscending, AreIdsAt, ids_at};
-ghost use Rattle.region_index.specs.Changes.{Applies, IsStagedFor, IsUnchanged, held, ids_after, staging};
+ghost use Rattle.region_index.specs.Content.{AreAscending, AreIdsAt, held_codes, ids_at};
+ghost use Rattle.region_index.specs.Changes.{Applies, AreByCode, IsStagedFor, IsUnchanged, Pair, entry_at, held, staging};
 ghost use Rattle.region_index.specs.Over.{codes_over};
-ghost use Rattle.region_index.specs.Walk.{Probes};
+ghost use Rattle.region_index.specs.Patterns.{HasPatterns, patterns_in_use};
 
 use crate::Steps;
-use crate::changes::{ascending, ascending_copy, at_code, by_code, changed, changed_codes, copied};
+use crate::changes::{
+    ascending, ascending_copy, at_code, at_codes, by_code, changed, changed_codes, copied,
+};
+use crate::patterns::DepthPatterns;
 use crate::walk::Walk;
 use cube_base::{Ids, Memory, Pairs};
 use region_algebra::Space;
@@ -75,20 +78,24 @@ impl RegionIndex {
         ensures steps { IfOk result (λ ids. steps.new ≡ steps.old + length (codes_over space.now cell) + length ids) }
         ensures err { OnErr result (steps.new ≤ steps.old + length (codes_over space.now cell)) }
     {
-        let ids = ascending(self.found(space, cell, steps)?);
+        let codes = self.held_codes_over(space, cell, steps)?;
+        let ids = ascending(at_codes(self.alloc, &self.ids, codes.as_slice())?);
         steps.add(ids.len() as u64);
         Ok(Ids::from(ids))
     }
 
-    /// The ids at each region over a cell, one region behind the other.
-    fn found<L: Ledger>(
+    /// The codes of the regions over a cell at which ids are held, ascending. A step is a probe of a region over the
+    /// cell, and where memory is wanting, they are no more than these.
+    pub fn held_codes_over<L: Ledger>(
         &self,
         space: &Space,
         cell: u64,
         steps: &mut Steps<L>,
-    ) -> Result<Vec<u64>, Memory>
+    ) -> Result<Ids, Memory>
         requires { cell < length (all_cells space.now) }
-        ensures ok { IfOk result (λ found. Probes self.now (codes_over space.now cell) [] found.items steps.old steps.new) }
+        ensures codes { IfOk result (λ codes. codes ≡ held_codes self.now (codes_over space.now cell)) }
+        ensures ascending { IfOk result AreAscending }
+        ensures steps { IfOk result (λ _. steps.new ≡ steps.old + length (codes_over space.now cell)) }
         ensures err { OnErr result (steps.new ≤ steps.old + length (codes_over space.now cell)) }
     {
         // What a space says of its dimensions.
@@ -100,7 +107,42 @@ impl RegionIndex {
         };
         let mut found = Vec::new(self.alloc);
         walk.over(0, 0, &mut found, steps)?;
-        Ok(found)
+        Ok(Ids::from(found))
+    }
+
+    /// What `held_codes_over` answers, found by way of the patterns in use. A step is a probe of the region over the cell
+    /// of a pattern in use, where there is one.
+    pub fn held_codes_by_pattern<L: Ledger>(
+        &self,
+        space: &Space,
+        patterns: &DepthPatterns,
+        cell: u64,
+        steps: &mut Steps<L>,
+    ) -> Result<Ids, Memory>
+        requires cell { cell < length (all_cells space.now) }
+        requires patterns { HasPatterns space.now self.now patterns.now }
+        ensures codes { IfOk result (λ codes. codes ≡ held_codes self.now (codes_over space.now cell)) }
+        ensures ascending { IfOk result AreAscending }
+        ensures patterns { steps.new ≤ steps.old + length (patterns_in_use patterns.now) }
+        ensures regions { steps.new ≤ steps.old + length (codes_over space.now cell) }
+    {
+        // What a space says of its dimensions, and the patterns of theirs.
+        let _ = space.dims();
+        let _ = patterns.places();
+        let walk = Walk {
+            ids: &self.ids,
+            space,
+            leaves: space.cell_at(cell),
+        };
+        Ok(Ids::from(ascending(patterns.probed(&walk, steps)?)))
+    }
+
+    /// The ids at a code, ascending, none where none is held. It takes no memory.
+    pub fn ids(&self, code: u64) -> &[u64]
+        ensures ids { result.now ≡ ids_at self.now code }
+        ensures ascending { AreAscending result.now }
+    {
+        at_code(&self.ids, code)
     }
 
     /// Makes changes of the ids ready, each a region's code and an id: the drops are taken away first, and then the puts
@@ -144,16 +186,40 @@ impl RegionIndex {
         puts: &[(u64, u64)],
         drops: &[(u64, u64)],
     ) -> Result<Vec<(u64, Option<Ids>)>, Memory>
-        ensures { IfOk result (λ entries. entries.items ≡ map (λ code. (code, held (ids_after puts.now drops.now code (ids_at self.now code)))) codes.now) }
+        ensures { IfOk result (λ entries. entries.items ≡ map (entry_at self.now puts.now drops.now) codes.now) }
     {
         let put = by_code(self.alloc, puts)?;
         let dropped = by_code(self.alloc, drops)?;
+        self.entries_by(codes, &put, &dropped)
+    }
+
+    /// The same where the changes are given by their codes.
+    fn entries_by(
+        &self,
+        codes: &[u64],
+        put: &Staged<Ids>,
+        dropped: &Staged<Ids>,
+    ) -> Result<Vec<(u64, Option<Ids>)>, Memory>
+        ensures { IfOk result (λ entries. (puts drops : List Pair) → AreByCode put.now puts → AreByCode dropped.now drops → entries.items ≡ map (entry_at self.now puts drops) codes.now) }
+    {
         let mut entries = Vec::new(self.alloc);
         for code in codes {
-            let ids = self.changed_at(*code, at_code(&put, *code), at_code(&dropped, *code))?;
-            entries.push((*code, held(ids)))?;
+            entries.push(self.entry(*code, put, dropped)?)?;
         }
         Ok(entries)
+    }
+
+    /// A code with the ids that changes make there.
+    fn entry(
+        &self,
+        code: u64,
+        put: &Staged<Ids>,
+        dropped: &Staged<Ids>,
+    ) -> Result<(u64, Option<Ids>), Memory>
+        ensures { IfOk result (λ entry. (puts drops : List Pair) → AreByCode put.now puts → AreByCode dropped.now drops → entry ≡ entry_at self.now puts drops code) }
+    {
+        let ids = self.changed_at(code, at_code(put, code), at_code(dropped, code))?;
+        Ok((code, held(ids)))
     }
 
     /// The ids at a code but for those that are dropped, and with those that are put, ascending, each once.

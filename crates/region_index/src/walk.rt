@@ -7,6 +7,7 @@ ghost use Rattle.region_index.specs.Walk.{IsOnTheWay, Probes, codes_above, codes
 ghost use Rattle.std.specs.Option.{option_map_or};
 
 use crate::Steps;
+use crate::changes::holds_ids;
 use cube_base::{Ids, Memory};
 use dim_tree::Dim;
 use region_algebra::{Region, Space};
@@ -87,19 +88,19 @@ impl Walk<'_> {
         }
     }
 
-    /// Takes the ids at a code.
-    fn probe<L: Ledger>(
+    /// Takes a code at which ids are held.
+    pub fn probe<L: Ledger>(
         &self,
         code: u64,
         found: &mut Vec<u64>,
         steps: &mut Steps<L>,
     ) -> Result<(), Memory>
         ensures ok { OnOk result (Probes self.now.ids.now (code ∷ []) found.old.items found.new.items steps.old steps.new) }
-        ensures err { OnErr result (steps.new ≤ steps.old + 1) }
+        ensures most { steps.new ≤ steps.old + 1 }
     {
         steps.tick();
-        if let Some(ids) = self.ids.get(code) {
-            found.extend_from_slice(ids.as_slice())?;
+        if holds_ids(self.ids, code) {
+            found.push(code)?;
         }
         Ok(())
     }
@@ -107,7 +108,7 @@ impl Walk<'_> {
 
 /// What nodes make with one more, of the next dimension: each dimension's nodes stand for as many codes as the places
 /// of the next one tell apart.
-fn with_node(dim: &Dim, node: u32, code: u64) -> u64
+pub fn with_node(dim: &Dim, node: u32, code: u64) -> u64
     requires node { node < length dim.now }
     requires small { (code + 1) * length dim.now < SPACE_LIMIT }
     ensures { result ≡ code * length dim.now + option_map_or (λ place. place) (place_of dim.now node) 0 }

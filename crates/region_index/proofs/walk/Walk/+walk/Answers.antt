@@ -15,7 +15,7 @@ over-returns-then-d-dims-clause-ok g t c =
 
 pub over-returns-then-d-dims-clause-err : goal.over-returns-then-d-dims-clause-err
 over-returns-then-d-dims-clause-err g t c =
-    on_err_weaker _ (steps-of _ _ _ _ (sym (codes_behind-end _ _ c.requires.named _ _ (c.if-d-dims.true ∙ c.dims.ensures.count)))) c.probe.ensures.err
+    on_err _ (steps-of _ _ _ _ (sym (codes_behind-end _ _ c.requires.named _ _ (c.if-d-dims.true ∙ c.dims.ensures.count))) c.probe.ensures.most)
 
 pub over-returns-else-d-dims-clause-ok : goal.over-returns-else-d-dims-clause-ok
 over-returns-else-d-dims-clause-ok g t c =
