@@ -1,19 +1,21 @@
 -- The shares of changes of a kind, added one after another.
-use Rattle.std.proofs.Common.{◌≡◌, ℕ, ◌+◌, ◌<◌, Bool, true, false, List, [], ◌∷◌, ◌++◌, filter, length, map, get_or, refl, ap, sym, subst, ◌∙◌, arith, take, drop, length-append, append-nil}
+use Rattle.std.proofs.Common.{◌≡◌, ℕ, ◌+◌, ◌<◌, Bool, true, false, List, [], ◌∷◌, ◌++◌, filter, length, get_or, refl, ap, sym, subst, ◌∙◌, arith, take, append-nil}
 use mathlib.Core.Bool.{beq}
 use Rattle.std.specs.Prelude.{All, if◌then◌else◌, not}
-use Rattle.std.proofs.lemmas.List.{map-append, take_more, take-append-drop}
+use Rattle.std.specs.List.{flat_map}
+use Rattle.std.proofs.lemmas.Grind.{flat_map-append}
+use Rattle.std.proofs.lemmas.List.{take_more}
+use Rattle.std.proofs.lemmas.List.Concat.{flat_map-cons}
 use Rattle.std.proofs.lemmas.List.Elements.{All-get_or, filter-append}
-use Rattle.std.proofs.Math.Seq.{take-append_seam}
 use Rattle.cube_model.specs.Allocation.{ExtendedFact}
 use Rattle.cube_model.specs.Tree.{Dimension}
-use Rattle.group_sum.specs.Terms.{AddsShare, TermList}
+use Rattle.group_sum.specs.Terms.{TermList}
 use Rattle.staged_map.specs.Staged.{Places}
 use Rattle.view_store.specs.declared.change.ViewChange.{ViewChange}
-use Rattle.view_store.specs.Changes.{IsChange, fact_of}
-use Rattle.view_store.specs.Drafts.{AreOver, FitsFact, FitsShares, HasShares, KeepsToView, draft_at, facts_of_kind, is_of_kind, weight_at}
+use Rattle.view_store.specs.Changes.{IsChange, facts_of}
+use Rattle.view_store.specs.Drafts.{AddsChange, AreOver, FitsChange, FitsShares, HasShares, KeepsToView, draft_at, facts_of_kind, is_of_kind}
 use Rattle.view_store.specs.Views.{is_in_view}
-use Rattle.view_store.proofs.Shares.{FitsShares-fact, HasShares-next, HasShares-none}
+use Rattle.view_store.proofs.Shares.{FitsShares-change, HasShares-next, HasShares-none}
 
 -- whether a change is of a kind
 pub kind-same : (a b : Bool) → beq a b ≡ true → (if b then a else not a) ≡ true
@@ -30,33 +32,26 @@ kind-other false true differ = refl
 
 module _ (put : Bool) where
   facts-append : (changes more : List ViewChange) → facts_of_kind put (changes ++ more) ≡ facts_of_kind put changes ++ facts_of_kind put more
-  facts-append changes more = ap (map fact_of) (filter-append (is_of_kind put) changes more) ∙ map-append fact_of (filter (is_of_kind put) changes) (filter (is_of_kind put) more)
+  facts-append changes more = ap (flat_map facts_of) (filter-append (is_of_kind put) changes more) ∙ flat_map-append facts_of (filter (is_of_kind put) changes) (filter (is_of_kind put) more)
 
-  fact-one : (change : ViewChange) → facts_of_kind put (change ∷ []) ≡ (if is_of_kind put change then fact_of change ∷ [] else [])
-  fact-one change = by (is_of_kind put change)
+  facts-one : (change : ViewChange) → facts_of_kind put (change ∷ []) ≡ (if is_of_kind put change then facts_of change else [])
+  facts-one change = by (is_of_kind put change)
     where
-      by : (b : Bool) → map fact_of (if b then change ∷ [] else []) ≡ (if b then fact_of change ∷ [] else [])
-      by true = refl
+      by : (b : Bool) → flat_map facts_of (if b then change ∷ [] else []) ≡ (if b then facts_of change else [])
+      by true = flat_map-cons facts_of change [] ∙ append-nil (facts_of change)
       by false = refl
 
   module _ (changes : List ViewChange) (i : ℕ) (change : ViewChange) (within : i < length changes) (is : change ≡ get_or changes i change) where
-    facts-next : facts_of_kind put (take (i + 1) changes) ≡ facts_of_kind put (take i changes) ++ (if is_of_kind put change then fact_of change ∷ [] else [])
+    facts-next : facts_of_kind put (take (i + 1) changes) ≡ facts_of_kind put (take i changes) ++ (if is_of_kind put change then facts_of change else [])
     facts-next =
         ap (facts_of_kind put) (take_more changes i change within ∙ ap (λ x. take i changes ++ x ∷ []) (sym is))
-        ∙ facts-append (take i changes) (change ∷ []) ∙ ap (λ fs. facts_of_kind put (take i changes) ++ fs) (fact-one change)
+        ∙ facts-append (take i changes) (change ∷ []) ∙ ap (λ fs. facts_of_kind put (take i changes) ++ fs) (facts-one change)
 
-    pub facts-next_of_kind : is_of_kind put change ≡ true → facts_of_kind put (take (i + 1) changes) ≡ facts_of_kind put (take i changes) ++ fact_of change ∷ []
+    pub facts-next_of_kind : is_of_kind put change ≡ true → facts_of_kind put (take (i + 1) changes) ≡ facts_of_kind put (take i changes) ++ facts_of change
     facts-next_of_kind kind = rw kind at facts-next
 
     pub facts-next_other : is_of_kind put change ≡ false → facts_of_kind put (take (i + 1) changes) ≡ facts_of_kind put (take i changes)
     facts-next_other kind = rw kind at facts-next ∙ append-nil (facts_of_kind put (take i changes))
-
-  -- the facts of the first changes are the first facts
-  first-facts : (changes : List ViewChange) (i : ℕ) → take (length (facts_of_kind put (take i changes))) (facts_of_kind put changes) ≡ facts_of_kind put (take i changes)
-  first-facts changes i =
-      let front = facts_of_kind put (take i changes) in
-      let whole : facts_of_kind put changes ≡ front ++ facts_of_kind put (drop i changes) = ap (facts_of_kind put) (sym (take-append-drop i changes)) ∙ facts-append (take i changes) (drop i changes) in
-      ap (take (length front)) whole ∙ take-append_seam front (facts_of_kind put (drop i changes))
 
 -- The shares of facts were added to the drafts.
 pub record HasFacts (dims : List Dimension) (depths : List ℕ) (columns : ℕ) (entries : Places TermList) (facts : List ExtendedFact) (old now : Places TermList) : Type 0 where
@@ -82,24 +77,19 @@ module _ (dims : List Dimension) (depths : List ℕ) (columns : ℕ) (entries : 
 
   -- the share of a change of the kind fits
   pub change-fits : IsChange dims columns change → is_of_kind put change ≡ true
-      → ((code : ℕ) → is_in_view dims depths code ≡ true → FitsShares columns dims (facts_of_kind put changes) code (draft_at columns entries old code))
-      → (code : ℕ) → is_in_view dims depths code ≡ true → FitsFact columns dims (fact_of change) code (draft_at columns entries now code)
+      → ((code : ℕ) → is_in_view dims depths code ≡ true → FitsShares columns dims put changes code (draft_at columns entries old code))
+      → (code : ℕ) → is_in_view dims depths code ≡ true → FitsChange columns dims change code (draft_at columns entries now code)
   change-fits one kind fits code in_view =
-      let front = facts_of_kind put (take i changes) in
-      let next = facts-next_of_kind put changes i change within is kind in
-      let count : length (facts_of_kind put (take (i + 1) changes)) ≡ length front + 1 = ap length next ∙ length-append front (fact_of change ∷ []) in
-      let after : take (length front + 1) (facts_of_kind put changes) ≡ front ++ fact_of change ∷ [] = ap (λ n. take n (facts_of_kind put changes)) (sym count) ∙ first-facts put changes (i + 1) ∙ next in
-      FitsShares-fact columns dims front code (draft_at columns entries old code) (draft_at columns entries now code) (fact_of change) (length front) (facts_of_kind put changes) one.width (fits code in_view) (before.shares code in_view)
-      (first-facts put changes i) after
+      FitsShares-change columns dims put changes i change code (draft_at columns entries old code) (draft_at columns entries now code) one (facts-next_of_kind put changes i change within is kind) (fits code in_view) (before.shares code in_view)
 
   -- and once it was added, the shares of one more were
   pub HasFacts-next : (new : Places TermList) → IsChange dims columns change → is_of_kind put change ≡ true
-      → ((code : ℕ) → is_in_view dims depths code ≡ true → AddsShare (draft_at columns entries now code) (draft_at columns entries new code) change.den (weight_at dims (fact_of change) code) change.cols)
+      → ((code : ℕ) → is_in_view dims depths code ≡ true → AddsChange dims change code (draft_at columns entries now code) (draft_at columns entries new code))
       → KeepsToView dims depths now new → AreOver columns new → HasFacts dims depths columns entries (facts_of_kind put (take (i + 1) changes)) old new
   HasFacts-next new one kind adds keys over = record {
     shares = λ code in_view.
         rw (facts-next_of_kind put changes i change within is kind)
-        (HasShares-next columns dims (facts_of_kind put (take i changes)) code (draft_at columns entries old code) (draft_at columns entries now code) (draft_at columns entries new code) (fact_of change) one.width (before.shares code in_view) (adds code in_view));
+        (HasShares-next columns dims (facts_of_kind put (take i changes)) change code (draft_at columns entries old code) (draft_at columns entries now code) (draft_at columns entries new code) one (before.shares code in_view) (adds code in_view));
     keys = λ code there. grind (arith, before.keys code, keys code there);
     over = over;
   }

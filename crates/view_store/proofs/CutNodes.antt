@@ -37,14 +37,14 @@ first-depth (line ∷ lines) accepted =
     grind (arith, nat_tests, first)
 
 -- a number among those of the entries that pass is that of one of them
-record IsOfEntry (p : Entry → Bool) (dim : List Entry) (n : ℕ) : Type 0 where
+pub record IsOfEntry (p : Entry → Bool) (dim : List Entry) (n : ℕ) : Type 0 where
   pub place : ℕ
   pub entry : Entry
   pub at : slice_get dim place ≡ Some entry
   pub passes : p entry ≡ true
   pub number : entry.number ≡ n
 
-among-entries : (p : Entry → Bool) (dim : List Entry) (n : ℕ) → is_among (map (λ e. e.number) (filter p dim)) n ≡ true → IsOfEntry p dim n
+pub among-entries : (p : Entry → Bool) (dim : List Entry) (n : ℕ) → is_among (map (λ e. e.number) (filter p dim)) n ≡ true → IsOfEntry p dim n
 among-entries p [] n among = absurd (grind arith)
 among-entries p (e ∷ dim) n among = here (p e) refl (among-entries p dim n)
   where
@@ -58,7 +58,7 @@ among-entries p (e ∷ dim) n among = here (p e) refl (among-entries p dim n)
       | inr other ↦ behind (rest (grind (arith, nat_tests, rw is at among)))
     ]
 
-entry-among : (p : Entry → Bool) (dim : List Entry) (i : ℕ) (e : Entry) → slice_get dim i ≡ Some e → p e ≡ true → is_among (map (λ e. e.number) (filter p dim)) e.number ≡ true
+pub entry-among : (p : Entry → Bool) (dim : List Entry) (i : ℕ) (e : Entry) → slice_get dim i ≡ Some e → p e ≡ true → is_among (map (λ e. e.number) (filter p dim)) e.number ≡ true
 entry-among p [] i e at passes = absurd (grind arith)
 entry-among p (f ∷ dim) zero e at passes =
     let same : f ≡ e = grind arith in
@@ -182,7 +182,7 @@ module _ (dim : Dimension) (tree : IsTree dim) where
       let place = held x y within under in
       same_place x y (grind (arith, nat_tests, ends, place.0, place.1))
 
-  entry_at : (i : ℕ) (e : Entry) → slice_get dim i ≡ Some e → (i < length dim) × ((e.number ≡ number_at dim i) × (e.depth ≡ get_or (depths_of (node_lines dim)) i 0))
+  pub entry_at : (i : ℕ) (e : Entry) → slice_get dim i ≡ Some e → (i < length dim) × ((e.number ≡ number_at dim i) × (e.depth ≡ get_or (depths_of (node_lines dim)) i 0))
   entry_at i e at =
       let within : i < length dim = slice_get-within dim i e at in
       let number : option_map (λ (f : Entry). f.number) (slice_get dim i) ≡ Some (number_at dim i) = number_at-read dim i within in

@@ -1,5 +1,5 @@
 -- Drafts of entries: copies of terms, and the shares of rows that are added to them.
-use Rattle.std.proofs.Common.{◌≡◌, ℕ, zero, suc, ◌+◌, ◌-◌, ◌<◌, ◌≤◌, Bool, true, false, List, [], ◌∷◌, ◌++◌, filter, length, get_or, refl, ap, sym, ◌∙◌, inl, inr, arith, ℤ, pos, nat_abs, take, drop, Option, Some, None, is_some, unwrap_or, add-one}
+use Rattle.std.proofs.Common.{◌≡◌, ℕ, zero, suc, ◌+◌, ◌*◌, ◌-◌, ◌<◌, ◌≤◌, Bool, true, false, List, [], ◌∷◌, ◌++◌, filter, length, get_or, refl, ap, sym, ◌∙◌, inl, inr, arith, pos, nat_abs, take, drop, Option, Some, None, is_some, unwrap_or, add-one}
 use Rattle.std.specs.Prelude.{if◌then◌else◌, ◌==◌, ◌&&◌, nat_le}
 use Rattle.std.specs.List.{list_all, sum_by}
 use Rattle.std.proofs.lemmas.Bool.{cases_eq}
@@ -14,16 +14,17 @@ use Rattle.cube_model.specs.Cells.{cells_of, is_among}
 use Rattle.cube_model.specs.Limits.{WIDE}
 use Rattle.cube_model.specs.Tree.{Dimension}
 use Rattle.group_sum.specs.Merge.{FitsMerge}
-use Rattle.group_sum.specs.Terms.{AddsShare, AreTerms, Fits, TermList, are_terms_from}
+use Rattle.group_sum.specs.Terms.{AddsUnits, AreTerms, FitsUnits, TermList, are_terms_from}
 use Rattle.group_sum.proofs.Ascending.{first_is}
 use Rattle.group_sum.proofs.MergeLaws.{merge_commutes, merge_nothing}
 use Rattle.staged_map.specs.Staged.{Places, value_at}
+use Rattle.view_store.specs.declared.change.ViewChange.{ViewChange}
 use Rattle.view_store.specs.Changes.{IsWithin}
 use Rattle.view_store.specs.Cuts.{IsCodeOver}
 use Rattle.view_store.specs.Drafts.{AreOver, KeepsToView, draft_at}
 use Rattle.view_store.specs.Views.{held_at, is_in_view, no_terms, region_at}
 use Rattle.view_store.proofs.Merges.{AreRegular}
-use Rattle.view_store.proofs.Shares.{AddsShare-more, AddsShare-none, Fits-part}
+use Rattle.view_store.proofs.Shares.{AddsUnits-more, AddsUnits-none, FitsUnits-part}
 
 -- what is read of items that pass passes, as the default does
 get_or-passes : {X : Type 0} (p : X → Bool) (d : X) (xs : List X) (k : ℕ) → list_all p xs ≡ true → p d ≡ true → p (get_or xs k d) ≡ true
@@ -108,15 +109,16 @@ weight-most : (cells : List ℕ) (rows : List (ℕ × ℕ)) (j : ℕ) → weight
 weight-most cells rows j = omega (arith, ap (weight_of_rows cells) (take-append-drop j rows), weight-append cells (take j rows) (drop j rows))
 
 -- The shares of the first rows of a change were added to the drafts.
-pub record HasRows (dims : List Dimension) (depths : List ℕ) (columns : ℕ) (entries : Places TermList) (den : ℕ) (values : List ℤ) (rows : List (ℕ × ℕ)) (old now : Places TermList) : Type 0 where
+pub record HasRows (dims : List Dimension) (depths : List ℕ) (columns : ℕ) (entries : Places TermList) (change : ViewChange) (rows : List (ℕ × ℕ)) (old now : Places TermList) : Type 0 where
   pub shares : (code : ℕ) → is_in_view dims depths code ≡ true
-      → AddsShare (draft_at columns entries old code) (draft_at columns entries now code) den (weight_of_rows (cells_of dims (region_at dims code)) rows) values
+      → AddsUnits (draft_at columns entries old code) (draft_at columns entries now code) change.den (weight_of_rows (cells_of dims (region_at dims code)) rows * change.facts) (weight_of_rows (cells_of dims (region_at dims code)) rows)
+      change.cols
   pub keys : KeepsToView dims depths old now
   pub over : AreOver columns now
 
-pub HasRows-none : (dims : List Dimension) (depths : List ℕ) (columns : ℕ) (entries : Places TermList) (den : ℕ) (values : List ℤ) (now : Places TermList) → AreOver columns now → HasRows dims depths columns entries den values [] now now
-HasRows-none dims depths columns entries den values now over = record {
-  shares = λ code in_view. AddsShare-none den values (draft_at columns entries now code);
+pub HasRows-none : (dims : List Dimension) (depths : List ℕ) (columns : ℕ) (entries : Places TermList) (change : ViewChange) (now : Places TermList) → AreOver columns now → HasRows dims depths columns entries change [] now now
+HasRows-none dims depths columns entries change now over = record {
+  shares = λ code in_view. AddsUnits-none change.den (0 * change.facts) change.cols (draft_at columns entries now code) (omega arith);
   keys = λ code there. grind (arith, there);
   over = over;
 }
@@ -127,8 +129,8 @@ pub record Begins (columns : ℕ) (entries : Places TermList) (code : ℕ) (old 
   pub others : (k : ℕ) → (code == k) ≡ false → value_at new k ≡ value_at old k
   pub there : is_some (value_at new code) ≡ true
 
-pub record Shares (columns : ℕ) (code den weight : ℕ) (values : List ℤ) (old new : Places TermList) : Type 0 where
-  pub share : AddsShare (held_at columns old code) (held_at columns new code) den weight values
+pub record Shares (columns : ℕ) (code : ℕ) (change : ViewChange) (weight : ℕ) (old new : Places TermList) : Type 0 where
+  pub share : AddsUnits (held_at columns old code) (held_at columns new code) change.den (weight * change.facts) weight change.cols
   pub others : (k : ℕ) → (code == k) ≡ false → value_at new k ≡ value_at old k
   pub stays : is_some (value_at new code) ≡ true
   pub over : AreOver columns new
@@ -141,22 +143,22 @@ draft-held columns entries drafts code there = by (value_at drafts code) there
     by None some = absurd (grind (arith, some))
     by (Some list) some = refl
 
-module _ (dims : List Dimension) (depths : List ℕ) (columns : ℕ) (entries : Places TermList) (den : ℕ) (values : List ℤ) (rows : List (ℕ × ℕ)) (old now mid : Places TermList)
-    (j code : ℕ) (within : j < length rows) (before : HasRows dims depths columns entries den values (take j rows) old now) (over : IsCodeOver dims depths (get_or rows j (0, 0)).0 code) (begins : Begins columns entries code now mid) where
+module _ (dims : List Dimension) (depths : List ℕ) (columns : ℕ) (entries : Places TermList) (change : ViewChange) (rows : List (ℕ × ℕ)) (old now mid : Places TermList)
+    (j code : ℕ) (within : j < length rows) (before : HasRows dims depths columns entries change (take j rows) old now) (over : IsCodeOver dims depths (get_or rows j (0, 0)).0 code) (begins : Begins columns entries code now mid) where
   -- the share of the next row fits where that of the change does
-  pub row-fits : length values + 1 ≡ columns → IsWithin columns (draft_at columns entries old code).terms
-      → Fits (draft_at columns entries old code).terms den (weight_of_rows (cells_of dims (region_at dims code)) rows) values
-      → Fits (held_at columns mid code).terms den (get_or rows j (0, 0)).1 values
+  pub row-fits : length change.cols + 1 ≡ columns → IsWithin columns (draft_at columns entries old code).terms
+      → FitsUnits (draft_at columns entries old code).terms change.den (weight_of_rows (cells_of dims (region_at dims code)) rows * change.facts) (weight_of_rows (cells_of dims (region_at dims code)) rows) change.cols
+      → FitsUnits (held_at columns mid code).terms change.den ((get_or rows j (0, 0)).1 * change.facts) (get_or rows j (0, 0)).1 change.cols
   row-fits width held fits =
       let cells = cells_of dims (region_at dims code) in
       let same : draft_at columns entries now code ≡ held_at columns mid code = sym (begins.same code) ∙ draft-held columns entries mid code begins.there in
       let inside : is_among cells (get_or rows j (0, 0)).0 ≡ true = over.only code over.in_view ∙ grind (arith, nat_tests) in
       let next = weight-next cells rows j within in
       let le : weight_of_rows cells (take j rows) + (get_or rows j (0, 0)).1 ≤ weight_of_rows cells rows = omega (arith, rw inside at next, weight-most cells rows (j + 1)) in
-      rw (← same) (Fits-part columns den values (draft_at columns entries old code) (draft_at columns entries now code) (weight_of_rows cells (take j rows)) (get_or rows j (0, 0)).1 (weight_of_rows cells rows) width le held fits (before.shares code over.in_view))
+      rw (← same) (FitsUnits-part columns change.den change.facts change.cols (draft_at columns entries old code) (draft_at columns entries now code) (weight_of_rows cells (take j rows)) (get_or rows j (0, 0)).1 (weight_of_rows cells rows) width le held fits (before.shares code over.in_view))
 
   -- and once it is added, the shares of one row more are
-  pub HasRows-next : (new : Places TermList) → Shares columns code den (get_or rows j (0, 0)).1 values mid new → HasRows dims depths columns entries den values (take (j + 1) rows) old new
+  pub HasRows-next : (new : Places TermList) → Shares columns code change (get_or rows j (0, 0)).1 mid new → HasRows dims depths columns entries change (take (j + 1) rows) old new
   HasRows-next new adds = record {
     shares = λ k in_view.
         let cells = cells_of dims (region_at dims k) in
@@ -168,8 +170,8 @@ module _ (dims : List Dimension) (depths : List ℕ) (columns : ℕ) (entries : 
               let inside : is_among cells (get_or rows j (0, 0)).0 ≡ true = among ∙ test in
               let from : draft_at columns entries now k ≡ held_at columns mid k = sym (begins.same k) ∙ draft-held columns entries mid k (ap (λ c. is_some (value_at mid c)) same ∙ begins.there) in
               let to : draft_at columns entries new k ≡ held_at columns new k = draft-held columns entries new k (ap (λ c. is_some (value_at new c)) same ∙ adds.stays) in
-              let share : AddsShare (held_at columns mid k) (held_at columns new k) den (get_or rows j (0, 0)).1 values = rw same adds.share in
-              let both = AddsShare-more columns den values (draft_at columns entries old k) (draft_at columns entries now k) (draft_at columns entries new k) (weight_of_rows cells (take j rows)) (get_or rows j (0, 0)).1 (before.shares k in_view) (rw (from, to) share) in
+              let share : AddsUnits (held_at columns mid k) (held_at columns new k) change.den ((get_or rows j (0, 0)).1 * change.facts) (get_or rows j (0, 0)).1 change.cols = rw same adds.share in
+              let both = AddsUnits-more columns change.den change.facts change.cols (draft_at columns entries old k) (draft_at columns entries now k) (draft_at columns entries new k) (weight_of_rows cells (take j rows)) (get_or rows j (0, 0)).1 (before.shares k in_view) (rw (from, to) share) in
               let sum : weight_of_rows cells (take j rows) + (get_or rows j (0, 0)).1 ≡ weight_of_rows cells (take (j + 1) rows) = sym (rw inside at next) in
               rw sum at both
           | inr other ↦

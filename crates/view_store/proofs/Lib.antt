@@ -1,3 +1,4 @@
+pub mod ChangeFacts
 pub mod Shares
 pub mod NearestParents
 pub mod LeafTuples
@@ -10,6 +11,7 @@ pub mod TakingAway
 pub mod Keeping
 pub mod Merges
 pub mod Staging
+pub mod Making
 pub mod Listing
 pub mod Viewing
 pub mod AllViews
@@ -18,5 +20,7 @@ pub mod Serving
 pub mod RollingUp
 pub mod OfFacts
 pub mod CutsOver
+pub mod CutOrder
+pub mod CutListing
 pub mod Weighing
 pub mod Answering

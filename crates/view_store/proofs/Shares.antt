@@ -1,13 +1,12 @@
 -- What facts add up to, one more at a time, and the terms that they make.
-use Rattle.std.proofs.Common.{◌≡◌, ℕ, suc, ◌+◌, ◌-◌, ◌<◌, ◌≤◌, true, false, List, [], ◌∷◌, ◌++◌, length, map, refl, ap, sym, ◌∙◌, inl, inr, arith, ℤ, pos, negsuc, ◌+ℤ◌, ◌*ℤ◌, nat_abs, take, mul-le-mul_right}
+use Rattle.std.proofs.Common.{◌≡◌, ℕ, suc, ◌+◌, ◌*◌, ◌-◌, ◌<◌, ◌≤◌, Bool, true, false, List, [], ◌∷◌, ◌++◌, length, map, refl, ap, sym, ◌∙◌, inl, inr, arith, ℤ, pos, negsuc, ◌+ℤ◌, ◌*ℤ◌, nat_abs, take, mul-le-mul_right}
 use Rattle.std.specs.Prelude.{if◌then◌else◌, slice_index_or, ◌==◌}
 use Rattle.std.specs.List.{range_with_len, sum_by}
 use Rattle.std.proofs.lemmas.Bool.{cases_eq}
 use Rattle.std.proofs.lemmas.Bool.Decides.{nat_tests}
 use Rattle.std.proofs.lemmas.Int.{ints}
-use Rattle.std.proofs.lemmas.List.Elements.{filter-append}
 use Rattle.std.proofs.lemmas.List.FromFn.{get_or-map-range_with_len, length-map-range_with_len}
-use Rattle.std.proofs.lemmas.List.Sums.{sum_by-append, sum_by-cons}
+use Rattle.std.proofs.lemmas.List.Sums.{sum_by-cons}
 use borrow.Author.Differences.{product_is, same_in, sum_is_lem}
 use Rattle.cube_model.specs.declared.term.Term.{Term}
 use Rattle.cube_model.specs.Allocation.{ExtendedFact}
@@ -15,14 +14,16 @@ use Rattle.cube_model.specs.Answer.{answer, bound_of, count_at, count_of, merge,
 use Rattle.cube_model.specs.Cells.{cells_of}
 use Rattle.cube_model.specs.Limits.{WIDE}
 use Rattle.cube_model.specs.Tree.{Dimension}
-use Rattle.group_sum.specs.Terms.{AddsShare, Fits, TermList}
+use Rattle.group_sum.specs.Terms.{AddsUnits, FitsUnits, TermList}
 use Rattle.group_sum.proofs.Determined.{terms_determined}
 use Rattle.group_sum.proofs.Merged.{is_merge}
 use Rattle.group_sum.proofs.MergeLaws.{count_of_below, numerator_of_below}
-use Rattle.view_store.specs.Changes.{IsWithin, shares}
-use Rattle.view_store.proofs.Merges.{AreRegular}
-use Rattle.view_store.specs.Drafts.{FitsFact, FitsShares, HasShares, weight_at}
+use Rattle.view_store.specs.declared.change.ViewChange.{ViewChange}
+use Rattle.view_store.specs.Changes.{IsChange, IsWithin, facts_of, shares}
+use Rattle.view_store.specs.Drafts.{AddsChange, FitsChange, FitsShares, HasShares, facts_of_kind, weight_at}
 use Rattle.view_store.specs.Views.{IsOver, no_terms, region_at}
+use Rattle.view_store.proofs.ChangeFacts.{count_at-append, count_at-change, sum_at-append, sum_at-change}
+use Rattle.view_store.proofs.Merges.{AreRegular}
 
 -- a weight of 0 adds nothing
 pub no_product : (x : ℤ) → pos 0 *ℤ x ≡ pos 0
@@ -31,34 +32,6 @@ no_product x = same_in _ _ (omega (arith, product_is (pos 0) x))
 -- the products of two weights with a value are that of both
 pub sum-product : (m n : ℕ) (x : ℤ) → pos m *ℤ x +ℤ pos n *ℤ x ≡ pos (m + n) *ℤ x
 sum-product m n x = same_in _ _ (omega (arith, product_is (pos m) x, product_is (pos n) x, product_is (pos (m + n)) x, sum_is_lem (pos m *ℤ x) (pos n *ℤ x)))
-
-total_by-append : {X : Type 0} (f : X → ℤ) (xs ys : List X) → total_by f (xs ++ ys) ≡ total_by f xs +ℤ total_by f ys
-total_by-append f [] ys = omega (arith, ints)
-total_by-append f (x ∷ xs) ys = omega (arith, ints, total_by-append f xs ys)
-
--- what one fact adds at a denominator
-over_one : (e : ExtendedFact) (d : ℕ) (f : ExtendedFact → ℕ) → sum_by f (over d (e ∷ [])) ≡ (if d == e.allocation.den then f e else 0)
-over_one e d f = grind (arith, nat_tests)
-
-over_one-total : (e : ExtendedFact) (d : ℕ) (f : ExtendedFact → ℤ) → total_by f (over d (e ∷ [])) ≡ (if d == e.allocation.den then f e else pos 0)
-over_one-total e d f = elim (cases_eq d e.allocation.den) [
-  | inl same ↦ let there : (e.allocation.den == d) ≡ true = grind (arith, nat_tests) in let here : (d == e.allocation.den) ≡ true = grind (arith, nat_tests) in rw (there, here) (omega (arith, ints))
-  | inr other ↦ let there : (e.allocation.den == d) ≡ false = grind (arith, nat_tests) in let here : (d == e.allocation.den) ≡ false = grind (arith, nat_tests) in rw (there, here) refl
-]
-
-module _ (cells : List ℕ) (facts : List ExtendedFact) (e : ExtendedFact) where
-  pub count_at-more : (d : ℕ) → count_at cells (facts ++ e ∷ []) d ≡ count_at cells facts d + (if d == e.allocation.den then weight_inside cells e.allocation else 0)
-  count_at-more d =
-      ap (sum_by (λ (f : ExtendedFact). weight_inside cells f.allocation)) (filter-append (λ (f : ExtendedFact). f.allocation.den == d) facts (e ∷ []))
-      ∙ sum_by-append (λ (f : ExtendedFact). weight_inside cells f.allocation) (over d facts) (over d (e ∷ []))
-      ∙ ap (λ n. count_at cells facts d + n) (over_one e d (λ f. weight_inside cells f.allocation))
-
-  pub sum_at-more : (k d : ℕ) → sum_at cells (facts ++ e ∷ []) k d ≡ sum_at cells facts k d +ℤ (if d == e.allocation.den then pos (weight_inside cells e.allocation) *ℤ slice_index_or e.values k (pos 0) else pos 0)
-  sum_at-more k d =
-      let part : ExtendedFact → ℤ = λ f. pos (weight_inside cells f.allocation) *ℤ slice_index_or f.values k (pos 0) in
-      ap (total_by part) (filter-append (λ (f : ExtendedFact). f.allocation.den == d) facts (e ∷ []))
-      ∙ total_by-append part (over d facts) (over d (e ∷ []))
-      ∙ ap (λ n. sum_at cells facts k d +ℤ n) (over_one-total e d part)
 
 -- where no weight is inside, no sum is
 sum_at-none : (cells : List ℕ) (k : ℕ) (facts : List ExtendedFact) → sum_by (λ e. weight_inside cells e.allocation) facts ≡ 0
@@ -103,14 +76,27 @@ AreRegular-answer columns dims facts region = record {
 pub HasShares-none : (columns : ℕ) (dims : List Dimension) (code : ℕ) (old : TermList) → HasShares columns dims [] code old old
 HasShares-none columns dims code old = record { counts = λ d. omega arith; sums = λ d k lt. omega (arith, ints) }
 
-module _ (columns : ℕ) (dims : List Dimension) (facts : List ExtendedFact) (code : ℕ) (old now new : TermList) where
-  -- with a share more
-  pub HasShares-next : (e : ExtendedFact) → length e.values + 1 ≡ columns → HasShares columns dims facts code old now
-      → AddsShare now new e.allocation.den (weight_at dims e code) e.values → HasShares columns dims (facts ++ e ∷ []) code old new
-  HasShares-next e width before adds = record {
-    counts = λ d. omega (arith, before.counts d, adds.counts d, count_at-more (cells_of dims (region_at dims code)) facts e d);
-    sums = λ d k lt. omega (arith, ints, before.sums d k lt, adds.sums d k (omega arith), sum_at-more (cells_of dims (region_at dims code)) facts e k d);
-  }
+-- the facts of one change more
+module _ (dims : List Dimension) (facts : List ExtendedFact) (change : ViewChange) (code : ℕ) (some : 1 ≤ change.facts) where
+  counts-more : (d : ℕ) → count_at (cells_of dims (region_at dims code)) (facts ++ facts_of change) d
+      ≡ count_at (cells_of dims (region_at dims code)) facts d + (if d == change.den then weight_at dims change code * change.facts else 0)
+  counts-more d =
+      let cells = cells_of dims (region_at dims code) in
+      count_at-append cells facts (facts_of change) d ∙ ap (λ n. count_at cells facts d + n) (count_at-change cells change d some)
+
+  sums-more : (k d : ℕ) → sum_at (cells_of dims (region_at dims code)) (facts ++ facts_of change) k d
+      ≡ sum_at (cells_of dims (region_at dims code)) facts k d +ℤ (if d == change.den then pos (weight_at dims change code) *ℤ slice_index_or change.cols k (pos 0) else pos 0)
+  sums-more k d =
+      let cells = cells_of dims (region_at dims code) in
+      sum_at-append cells facts (facts_of change) k d ∙ ap (λ n. sum_at cells facts k d +ℤ n) (sum_at-change cells change d k)
+
+-- with the share of a change more
+pub HasShares-next : (columns : ℕ) (dims : List Dimension) (facts : List ExtendedFact) (change : ViewChange) (code : ℕ) (old now new : TermList) → IsChange dims columns change → HasShares columns dims facts code old now
+    → AddsChange dims change code now new → HasShares columns dims (facts ++ facts_of change) code old new
+HasShares-next columns dims facts change code old now new is before adds = record {
+  counts = λ d. omega (arith, before.counts d, adds.counts d, counts-more dims facts change code is.facts d);
+  sums = λ d k lt. omega (arith, ints, before.sums d k lt, adds.sums d k (omega (arith, is.width)), sums-more dims facts change code is.facts k d);
+}
 
 -- Terms to which facts were added are those terms and the answer of the facts, merged.
 module _ (columns : ℕ) (dims : List Dimension) (facts : List ExtendedFact) (code : ℕ) (old new : TermList) where
@@ -150,39 +136,39 @@ within-part : (s v : ℤ) (part whole limit : ℕ) → part ≤ whole → nat_ab
 within-part s (pos n) part whole limit le before after = omega (arith, ints, mul-le-mul_right n le)
 within-part s (negsuc n) part whole limit le before after = omega (arith, ints, product_is (pos part) (negsuc n), product_is (pos whole) (negsuc n), mul-le-mul_right (suc n) le)
 
-module _ (columns : ℕ) (dims : List Dimension) (facts : List ExtendedFact) (code : ℕ) (old now : TermList) where
-  -- where all first facts fit, the next fact fits what those before it have made
-  pub FitsShares-fact : (e : ExtendedFact) (n : ℕ) (all : List ExtendedFact) → length e.values + 1 ≡ columns → FitsShares columns dims all code old → HasShares columns dims facts code old now
-      → take n all ≡ facts → take (n + 1) all ≡ facts ++ e ∷ [] → FitsFact columns dims e code now
-  FitsShares-fact e n all width fits has before after = record {
-    held = record {
-      counts = λ d. omega (arith, has.counts d, rw before at (fits.counts n d));
-      sums = λ d k lt. rw (has.sums d k lt) (rw before at (fits.sums n d k lt));
-    };
-    share = record {
-      count =
-          let den = e.allocation.den in
-          let more = count_at-more (cells_of dims (region_at dims code)) facts e den in
-          let same : (den == den) ≡ true = grind (arith, nat_tests) in
-          omega (arith, has.counts den, rw after at (fits.counts (n + 1) den), rw same at more);
-      sums = λ k lt.
-          let den = e.allocation.den in
-          let more = sum_at-more (cells_of dims (region_at dims code)) facts e k den in
-          let same : (den == den) ≡ true = grind (arith, nat_tests) in
-          let bound = rw after at (fits.sums (n + 1) den k (omega arith)) in
-          omega (arith, ints, has.sums den k (omega arith), bound, rw same at more);
-    };
-  }
+-- where what all first changes make fits, the next change fits what those before it have made
+pub FitsShares-change : (columns : ℕ) (dims : List Dimension) (put : Bool) (changes : List ViewChange) (n : ℕ) (change : ViewChange) (code : ℕ) (old now : TermList) → IsChange dims columns change
+    → facts_of_kind put (take (n + 1) changes) ≡ facts_of_kind put (take n changes) ++ facts_of change → FitsShares columns dims put changes code old → HasShares columns dims (facts_of_kind put (take n changes)) code old now
+    → FitsChange columns dims change code now
+FitsShares-change columns dims put changes n change code old now is next fits has =
+    let den = change.den in
+    let facts = facts_of_kind put (take n changes) in
+    let same : (den == den) ≡ true = grind (arith, nat_tests) in
+    record {
+      held = record {
+        counts = λ d. omega (arith, has.counts d, fits.counts n d);
+        sums = λ d k lt. rw (has.sums d k lt) (fits.sums n d k lt);
+      };
+      share = record {
+        count =
+            let more = rw same at (counts-more dims facts change code is.facts den) in
+            omega (arith, has.counts den, rw next at (fits.counts (n + 1) den), more);
+        sums = λ k lt.
+            let more = rw same at (sums-more dims facts change code is.facts k den) in
+            let bound = rw next at (fits.sums (n + 1) den k (omega (arith, is.width))) in
+            omega (arith, ints, has.sums den k (omega (arith, is.width)), bound, more);
+      };
+    }
 
--- of a fact whose share is being added, row by row
-module _ (columns : ℕ) (den : ℕ) (values : List ℤ) (old now : TermList) where
+-- of facts whose share is being added, row by row
+module _ (columns : ℕ) (den facts : ℕ) (values : List ℤ) (old now : TermList) where
   -- the share of a row fits, where that of all rows does
-  pub Fits-part : (before weight whole : ℕ) → length values + 1 ≡ columns → before + weight ≤ whole → IsWithin columns old.terms → Fits old.terms den whole values
-      → AddsShare old now den before values → Fits now.terms den weight values
-  Fits-part before weight whole width le within fits adds =
+  pub FitsUnits-part : (before weight whole : ℕ) → length values + 1 ≡ columns → before + weight ≤ whole → IsWithin columns old.terms → FitsUnits old.terms den (whole * facts) whole values
+      → AddsUnits old now den (before * facts) before values → FitsUnits now.terms den (weight * facts) weight values
+  FitsUnits-part before weight whole width le within fits adds =
       let same : (den == den) ≡ true = grind (arith, nat_tests) in
       record {
-        count = omega (arith, fits.count, rw same at (adds.counts den));
+        count = omega (arith, fits.count, rw same at (adds.counts den), mul-le-mul_right facts le);
         sums = λ k lt.
             let so_far = rw same at (adds.sums den k lt) in
             let v = slice_index_or values k (pos 0) in
@@ -192,8 +178,9 @@ module _ (columns : ℕ) (den : ℕ) (values : List ℤ) (old now : TermList) wh
       }
 
   -- and the shares of the rows so far and of the next are the share of all these
-  pub AddsShare-more : (new : TermList) (before weight : ℕ) → AddsShare old now den before values → AddsShare now new den weight values → AddsShare old new den (before + weight) values
-  AddsShare-more new before weight adds more = record {
+  pub AddsUnits-more : (new : TermList) (before weight : ℕ) → AddsUnits old now den (before * facts) before values → AddsUnits now new den (weight * facts) weight values
+      → AddsUnits old new den ((before + weight) * facts) (before + weight) values
+  AddsUnits-more new before weight adds more = record {
     columns = more.columns ∙ adds.columns;
     counts = λ d. elim (cases_eq d den) [
       | inl same ↦ let test : (d == den) ≡ true = grind (arith, nat_tests) in rw test (omega (arith, rw test at (adds.counts d), rw test at (more.counts d)))
@@ -209,11 +196,11 @@ module _ (columns : ℕ) (den : ℕ) (values : List ℤ) (old now : TermList) wh
   }
 
 -- no share changes nothing
-pub AddsShare-none : (den : ℕ) (values : List ℤ) (list : TermList) → AddsShare list list den 0 values
-AddsShare-none den values list = record {
+pub AddsUnits-none : (den units : ℕ) (values : List ℤ) (list : TermList) → units ≡ 0 → AddsUnits list list den units 0 values
+AddsUnits-none den units values list nothing = record {
   columns = refl;
   counts = λ d. elim (cases_eq d den) [
-    | inl same ↦ let test : (d == den) ≡ true = grind (arith, nat_tests) in rw test (omega arith)
+    | inl same ↦ let test : (d == den) ≡ true = grind (arith, nat_tests) in rw test (omega (arith, nothing))
     | inr other ↦ let test : (d == den) ≡ false = grind (arith, nat_tests) in rw test (omega arith)
   ];
   sums = λ d k lt.

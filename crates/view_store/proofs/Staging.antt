@@ -1,11 +1,7 @@
 -- What changes make of the entries of a view, from the drafts.
-use Rattle.std.proofs.Common.{◌≡◌, ℕ, ◌-◌, Bool, true, false, cond, List, [], ◌∷◌, eqb, length, refl, ap, sym, subst, ◌∙◌, arith, take, Option, Some, None, is_some, unwrap_or}
-use Rattle.std.specs.Prelude.{IfSome, if◌then◌else◌, ◌==◌, ◌||◌}
-use Rattle.std.specs.List.{IsDistinct}
-use Rattle.std.specs.Map.{keys_of}
-use Rattle.std.proofs.lemmas.Bool.Decides.{nat_tests}
+use Rattle.std.proofs.Common.{◌≡◌, ℕ, ◌-◌, true, false, List, [], refl, ap, sym, subst, ◌∙◌, arith, take, Option, Some, None, is_some, unwrap_or}
+use Rattle.std.specs.Prelude.{IfOk, IfSome, Result, Ok, Err}
 use Rattle.std.proofs.lemmas.Int.{ints}
-use Rattle.std.proofs.lemmas.List.Elements.{All-cons, All-nil}
 use Rattle.cube_model.specs.declared.term.Term.{Term}
 use Rattle.cube_model.specs.Allocation.{ExtendedFact}
 use Rattle.cube_model.specs.Answer.{answer, merge}
@@ -13,13 +9,11 @@ use Rattle.cube_model.specs.Tree.{Dimension}
 use Rattle.group_sum.specs.Merge.{FitsDifference, HasDifference, IsDifference}
 use Rattle.group_sum.specs.Terms.{TermList}
 use Rattle.group_sum.proofs.MergeLaws.{merge_nothing}
-use Rattle.staged_map.specs.Staged.{AreKeys, AreOfDifferentKeys, Entries, Places, entry_of, value_at}
-use Rattle.staged_map.proofs.Entries.{entry_of-made, keys_of-made}
+use Rattle.staged_map.specs.Staged.{Places, value_at}
 use Rattle.view_store.specs.declared.change.ViewChange.{ViewChange}
-use Rattle.view_store.specs.Changes.{AreWhole, CanChange, FitsView, IsMadeAnew, IsMadeFor, given, shares, staged_at, taken}
-use Rattle.view_store.specs.Drafts.{AreOver, CanTake, FitsShares, HasShares, KeepsToView, draft_at, kept, kept_of}
+use Rattle.view_store.specs.Changes.{CanChange, FitsView, given, shares, taken}
+use Rattle.view_store.specs.Drafts.{AreLeftOver, AreOver, AreRemade, AreWithout, CanTake, FitsShares, HasShares, KeepsToView, draft_at}
 use Rattle.view_store.specs.Views.{AreEntries, held_at, is_in_view, IsEntry, IsOver, no_terms, region_at}
-use Rattle.view_store.proofs.Ascending.{IsDistinct-ascending, ascends-increasing}
 use Rattle.view_store.proofs.Drafting.{AreRegular-terms, draft-held}
 use Rattle.view_store.proofs.Merges.{AreRegular, count_of-merge, numerator_of-merge}
 use Rattle.view_store.proofs.Shares.{AreRegular-answer, HasShares-answer, HasShares-merge, count_of-answer, numerator_of-answer}
@@ -50,22 +44,22 @@ draft-over columns entries drafts code held over = by (value_at drafts code) (ov
     by (Some list) is = is
 
 -- what is taken away fits
-can-taken : (columns : ℕ) (dims : List Dimension) (changes : List ViewChange) (old : TermList) (code : ℕ) → old.columns ≡ columns → CanChange dims changes old code → FitsShares columns dims (taken changes) code (no_terms columns)
+can-taken : (columns : ℕ) (dims : List Dimension) (changes : List ViewChange) (old : TermList) (code : ℕ) → old.columns ≡ columns → CanChange dims changes old code → FitsShares columns dims false changes code (no_terms columns)
 can-taken columns dims changes old code cols can = record {
-  counts = λ n d. omega (arith, (can.taken_within n).counts d, count_of-answer (old.columns - 1) dims (take n (taken changes)) (region_at dims code) d);
+  counts = λ n d. omega (arith, (can.taken_within n).counts d, count_of-answer (old.columns - 1) dims (taken (take n changes)) (region_at dims code) d);
   sums = λ n d k lt.
-      let read = numerator_of-answer (old.columns - 1) dims (take n (taken changes)) (region_at dims code) d k (omega arith) in
+      let read = numerator_of-answer (old.columns - 1) dims (taken (take n changes)) (region_at dims code) d k (omega arith) in
       let bound = rw read at ((can.taken_within n).sums d k (omega arith)) in
       omega (arith, ints, bound);
 }
 
 -- and so does what is put
 can-given : (columns : ℕ) (dims : List Dimension) (changes : List ViewChange) (old rest : TermList) (code : ℕ) → old.columns ≡ columns → CanChange dims changes old code → IsOver columns rest
-    → IsDifference old (shares columns dims (taken changes) code) rest → FitsShares columns dims (given changes) code rest
+    → IsDifference old (shares columns dims (taken changes) code) rest → FitsShares columns dims true changes code rest
 can-given columns dims changes old rest code cols can over difference =
     let same : old.columns - 1 ≡ rest.columns - 1 = omega (arith, cols, over.columns_are) in
     let left = subst (λ n. IsDifference old (shares n dims (taken changes) code) rest) (sym cols) difference in
-    let facts : ℕ → List ExtendedFact = λ n. take n (given changes) in
+    let facts : ℕ → List ExtendedFact = λ n. given (take n changes) in
     let terms : ℕ → List Term = λ n. answer (old.columns - 1) dims (facts n) (region_at dims code) in
     let regular : (n : ℕ) → AreRegular (rest.columns - 1) (terms n) = λ n. subst (λ m. AreRegular m (terms n)) same (AreRegular-answer (old.columns - 1) dims (facts n) (region_at dims code)) in
     record {
@@ -87,21 +81,14 @@ module _ (dims : List Dimension) (depths : List ℕ) (columns : ℕ) (entries : 
   entry-over : (code : ℕ) → IsOver columns (held_at columns entries code)
   entry-over code = held-over columns entries code none-over (AreOver-entries columns entries are)
 
-  pub taken-fits : (code : ℕ) → is_in_view dims depths code ≡ true → FitsShares columns dims (taken changes) code (no_terms columns)
+  pub taken-fits : (code : ℕ) → is_in_view dims depths code ≡ true → FitsShares columns dims false changes code (no_terms columns)
   taken-fits code in_view = can-taken columns dims changes (held_at columns entries code) code (entry-over code).columns_are (fits.entries_fit code in_view)
 
   -- the shares that are taken away
-  pub record AreTaken (parts : Places TermList) : Type 0 where
-    pub shares : (code : ℕ) → is_in_view dims depths code ≡ true → HasShares columns dims (taken changes) code (no_terms columns) (held_at columns parts code)
-    pub keys : KeepsToView dims depths [] parts
-    pub over : AreOver columns parts
-
-  module _ (parts : Places TermList) (taking : AreTaken parts) where
-    in_view-of : (code : ℕ) → is_some (value_at parts code) ≡ true → is_in_view dims depths code ≡ true
-    in_view-of code there = taking.keys code there
-
+  module _ (parts : Places TermList) (has : (code : ℕ) → is_in_view dims depths code ≡ true → HasShares columns dims (taken changes) code (no_terms columns) (held_at columns parts code))
+      (keys : KeepsToView dims depths [] parts) (parts_over : AreOver columns parts) where
     part-is : (code : ℕ) → is_in_view dims depths code ≡ true → held_at columns parts code ≡ shares columns dims (taken changes) code
-    part-is code in_view = HasShares-answer columns dims (taken changes) code (held_at columns parts code) (held-over columns parts code none-over taking.over) (taking.shares code in_view)
+    part-is code in_view = HasShares-answer columns dims (taken changes) code (held_at columns parts code) (held-over columns parts code none-over parts_over) (has code in_view)
 
     pub can-take : CanTake columns entries parts
     can-take code = by (value_at parts code) refl
@@ -109,25 +96,17 @@ module _ (dims : List Dimension) (depths : List ℕ) (columns : ℕ) (entries : 
         by : (o : Option TermList) → value_at parts code ≡ o → IfSome o (λ part. HasDifference (held_at columns entries code) part × FitsDifference (held_at columns entries code) part)
         by None is = tt
         by (Some part) is =
-            let in_view = in_view-of code (ap is_some is) in
+            let in_view = keys code (ap is_some is) in
             let can = fits.entries_fit code in_view in
             let cols = (entry-over code).columns_are in
             let held : part ≡ held_at columns parts code = sym (ap (λ o. unwrap_or o (no_terms columns)) is) in
             let its : shares (held_at columns entries code).columns dims (taken changes) code ≡ part = ap (λ n. shares n dims (taken changes) code) cols ∙ sym (held ∙ part-is code in_view) in
             (subst (HasDifference (held_at columns entries code)) its can.there, subst (FitsDifference (held_at columns entries code)) its can.left_within)
 
-    -- what is left of the entries
-    pub record AreLeftOver (rests : Places TermList) : Type 0 where
-      pub codes : (code : ℕ) → is_some (value_at rests code) ≡ is_some (value_at parts code)
-      pub left : (code : ℕ) → IfSome (value_at parts code) (λ part. IsDifference (held_at columns entries code) part (held_at columns rests code))
-      pub over : AreOver columns rests
-
-    module _ (rests : Places TermList) (leaving : AreLeftOver rests) where
-      rest-over : (code : ℕ) → IsOver columns (draft_at columns entries rests code)
-      rest-over code = draft-over columns entries rests code (entry-over code) leaving.over
-
+    -- and what is left of the entries without them
+    module _ (rests : Places TermList) (without : AreWithout columns entries parts rests) where
       rest-is : (code : ℕ) → is_in_view dims depths code ≡ true → IsDifference (held_at columns entries code) (shares columns dims (taken changes) code) (draft_at columns entries rests code)
-      rest-is code in_view = by (value_at parts code) refl (leaving.left code)
+      rest-is code in_view = by (value_at parts code) refl (without.left code)
         where
           old : TermList
           old = held_at columns entries code
@@ -136,93 +115,55 @@ module _ (dims : List Dimension) (depths : List ℕ) (columns : ℕ) (entries : 
           whole = record { columns = refl; merges = merge_nothing old.columns (entry-over code).are_terms.some old.terms (entry-over code).are_terms.terms }
 
           by : (o : Option TermList) → value_at parts code ≡ o → IfSome o (λ part. IsDifference old part (held_at columns rests code)) → IsDifference old (shares columns dims (taken changes) code) (draft_at columns entries rests code)
-          by None is left =
+          by None is difference =
               let none : no_terms columns ≡ shares columns dims (taken changes) code = sym (ap (λ o. unwrap_or o (no_terms columns)) is) ∙ part-is code in_view in
-              let absent : value_at rests code ≡ None = none-of (value_at rests code) (leaving.codes code ∙ ap is_some is) in
+              let absent : value_at rests code ≡ None = none-of (value_at rests code) (without.codes code ∙ ap is_some is) in
               let same : old ≡ draft_at columns entries rests code = sym (ap (λ o. unwrap_or o old) absent) in
               subst (IsDifference old (shares columns dims (taken changes) code)) same (subst (λ part. IsDifference old part old) none whole)
             where
               none-of : (o : Option TermList) → is_some o ≡ false → o ≡ None
               none-of None absent = refl
               none-of (Some list) absent = absurd (grind (arith, absent))
-          by (Some part) is left =
+          by (Some part) is difference =
               let its : part ≡ shares columns dims (taken changes) code = sym (ap (λ o. unwrap_or o (no_terms columns)) is) ∙ part-is code in_view in
-              let there : draft_at columns entries rests code ≡ held_at columns rests code = draft-held columns entries rests code (leaving.codes code ∙ ap is_some is) in
-              subst (IsDifference old (shares columns dims (taken changes) code)) (sym there) (subst (λ part. IsDifference old part (held_at columns rests code)) its left)
+              let there : draft_at columns entries rests code ≡ held_at columns rests code = draft-held columns entries rests code (without.codes code ∙ ap is_some is) in
+              subst (IsDifference old (shares columns dims (taken changes) code)) (sym there) (subst (λ part. IsDifference old part (held_at columns rests code)) its difference)
 
-      pub given-fits : (code : ℕ) → is_in_view dims depths code ≡ true → FitsShares columns dims (given changes) code (draft_at columns entries rests code)
-      given-fits code in_view = can-given columns dims changes (held_at columns entries code) (draft_at columns entries rests code) code (entry-over code).columns_are (fits.entries_fit code in_view) (rest-over code) (rest-is code in_view)
+      are-left_over : AreLeftOver dims changes (record { columns = columns; depths = depths; entries = entries }) rests
+      are-left_over = record {
+        left = rest-is;
+        keys = λ code there. keys code (sym (without.codes code) ∙ there);
+        over = without.over;
+      }
 
-      -- the drafts of the new entries
-      pub record AreGiven (drafts : Places TermList) : Type 0 where
-        pub shares : (code : ℕ) → is_in_view dims depths code ≡ true → HasShares columns dims (given changes) code (draft_at columns entries rests code) (draft_at columns entries drafts code)
-        pub keys : KeepsToView dims depths rests drafts
-        pub over : AreOver columns drafts
+    -- so of whatever says what is left
+    pub left_over-from : {E : Type 0} (result : Result (Places TermList) E) → IfOk result (AreWithout columns entries parts)
+        → IfOk result (AreLeftOver dims changes (record { columns = columns; depths = depths; entries = entries }))
+    left_over-from (Ok rests) without = are-left_over rests without
+    left_over-from (Err fault) without = tt
 
-      module _ (drafts : Places TermList) (giving : AreGiven drafts) (codes : List ℕ) (keys : AreKeys drafts codes) where
-        stage : Entries TermList
-        stage = kept_of drafts codes
+  -- what is left, and what is put to it
+  module _ (rests : Places TermList) (left_over : AreLeftOver dims changes (record { columns = columns; depths = depths; entries = entries }) rests) where
+    rest-over : (code : ℕ) → IsOver columns (draft_at columns entries rests code)
+    rest-over code = draft-over columns entries rests code (entry-over code) left_over.over
 
-        staged-of : (code : ℕ) → entry_of (kept_of drafts codes) code ≡ cond (is_some (value_at drafts code)) (Some (kept (value_at drafts code))) None
-        staged-of code = entry_of-made (λ c. kept (value_at drafts c)) codes code ∙ ap (λ b. cond b (Some (kept (value_at drafts code))) None) (keys.among code)
+    pub given-fits : (code : ℕ) → is_in_view dims depths code ≡ true → FitsShares columns dims true changes code (draft_at columns entries rests code)
+    given-fits code in_view = can-given columns dims changes (held_at columns entries code) (draft_at columns entries rests code) code (entry-over code).columns_are (fits.entries_fit code in_view) (rest-over code) (left_over.left code in_view)
 
-        staged-is : (code : ℕ) → staged_at (record { columns = columns; depths = depths; entries = entries }) (kept_of drafts codes) code ≡ draft_at columns entries drafts code
-        staged-is code = by (value_at drafts code) (staged-of code) (giving.over code)
-          where
-            empty : (list : TermList) (b : Bool) → (length list.terms == 0) ≡ b → IsOver columns list → unwrap_or (if b then None else Some list) (no_terms columns) ≡ list
-            empty list false is over = refl
-            empty list true is over = none list.terms is refl over.columns_are
-              where
-                none : (terms : List Term) → (length terms == 0) ≡ true → list.terms ≡ terms → list.columns ≡ columns → no_terms columns ≡ list
-                none [] nothing is cols = grind (arith, is, cols)
-                none (t ∷ terms) nothing is cols = absurd (grind (arith, nat_tests, nothing))
-
-            by : (o : Option TermList) → entry_of (kept_of drafts codes) code ≡ cond (is_some o) (Some (kept o)) None → IfSome o (IsOver columns)
-                → unwrap_or (unwrap_or (entry_of (kept_of drafts codes) code) (value_at entries code)) (no_terms columns) ≡ unwrap_or o (held_at columns entries code)
-            by None is over = rw is refl
-            by (Some list) is over = rw is (empty list (length list.terms == 0) refl over)
-
-        pub made-for : IsMadeFor dims changes (record { columns = columns; depths = depths; entries = entries }) (kept_of drafts codes)
-        made-for = record {
-          made = λ code in_view.
-              let rest = draft_at columns entries rests code in
-              let over = rest-over code in
-              let new = draft-over columns entries drafts code (entry-over code) giving.over in
-              let merged = HasShares-merge columns dims (given changes) code rest (draft_at columns entries drafts code) new (giving.shares code in_view) in
-              subst (IsMadeAnew (held_at columns entries code) (shares columns dims (taken changes) code) (shares columns dims (given changes) code)) (sym (staged-is code)) (record {
-                rest = rest;
-                are_terms = over.are_terms;
-                taken_away = rest-is code in_view;
-                columns = new.columns_are ∙ sym (entry-over code).columns_are;
-                put = merged ∙ ap (λ n. merge (n - 1) rest.terms (shares columns dims (given changes) code).terms) (sym over.columns_are);
-              });
-          kept = λ code outside. by code (value_at drafts code) refl outside (staged-of code);
-        }
-          where
-            by : (code : ℕ) (o : Option TermList) → value_at drafts code ≡ o → is_in_view dims depths code ≡ false → entry_of (kept_of drafts codes) code ≡ cond (is_some o) (Some (kept o)) None → entry_of (kept_of drafts codes) code ≡ None
-            by code None is outside at = at
-            by code (Some list) is outside at =
-                let there : (is_some (value_at rests code) || is_in_view dims depths code) ≡ true = giving.keys code (ap is_some is) in
-                let left : is_some (value_at rests code) ≡ true = grind (arith, there, outside) in
-                absurd (grind (arith, outside, in_view-of code (sym (leaving.codes code) ∙ left)))
-
-        pub codes-made : keys_of (kept_of drafts codes) ≡ codes
-        codes-made = keys_of-made (λ c. kept (value_at drafts c)) codes
-
-        pub distinct-made : AreOfDifferentKeys (kept_of drafts codes)
-        distinct-made = subst (IsDistinct eqb) (sym codes-made) (IsDistinct-ascending 0 codes (ascends-increasing 0 codes keys.ascending (λ some. omega arith)))
-
-        pub whole-made : AreWhole columns (kept_of drafts codes)
-        whole-made = each codes
-          where
-            whole : (o : Option TermList) → IfSome o (IsOver columns) → IfSome (kept o) (IsEntry columns)
-            whole None over = tt
-            whole (Some list) over = by (length list.terms == 0) refl
-              where
-                by : (b : Bool) → (length list.terms == 0) ≡ b → IfSome (if b then None else Some list) (IsEntry columns)
-                by true is = tt
-                by false is = record { over = over; some = grind (arith, nat_tests, is) }
-
-            each : (cs : List ℕ) → AreWhole columns (kept_of drafts cs)
-            each [] = All-nil (λ (entry : ℕ × Option TermList). IfSome entry.1 (IsEntry columns))
-            each (c ∷ cs) = All-cons (λ (entry : ℕ × Option TermList). IfSome entry.1 (IsEntry columns)) (c, kept (value_at drafts c)) (kept_of drafts cs) (whole (value_at drafts c) (giving.over c)) (each cs)
+    pub are-remade : (drafts : Places TermList) → ((code : ℕ) → is_in_view dims depths code ≡ true → HasShares columns dims (given changes) code (draft_at columns entries rests code) (draft_at columns entries drafts code))
+        → KeepsToView dims depths rests drafts → AreOver columns drafts → AreRemade dims changes (record { columns = columns; depths = depths; entries = entries }) drafts
+    are-remade drafts has keys drafts_over = record {
+      made = λ code in_view.
+          let rest = draft_at columns entries rests code in
+          let over = rest-over code in
+          let new = draft-over columns entries drafts code (entry-over code) drafts_over in
+          record {
+            rest = rest;
+            are_terms = over.are_terms;
+            taken_away = left_over.left code in_view;
+            columns = new.columns_are ∙ sym (entry-over code).columns_are;
+            put = HasShares-merge columns dims (given changes) code rest (draft_at columns entries drafts code) new (has code in_view) ∙ ap (λ n. merge (n - 1) rest.terms (shares columns dims (given changes) code).terms) (sym over.columns_are);
+          };
+      keys = λ code there. grind (arith, keys code there, left_over.keys code);
+      over = drafts_over;
+    }

@@ -1,5 +1,6 @@
 -- What changes of facts' shares make of the entries of views.
-use Rattle.std.specs.Prelude.{◌≡◌, ℕ, ◌+◌, ◌-◌, ◌<◌, ◌≤◌, true, false, List, All, IfSome, length, map, filter, not, nat_abs, None, slice_get, take, unwrap_or}
+use Rattle.std.specs.Prelude.{◌≡◌, ℕ, ◌+◌, ◌-◌, ◌<◌, ◌≤◌, true, false, List, ◌∷◌, All, IfSome, length, filter, not, nat_abs, None, replicate, slice_get, take, unwrap_or, ℤ, pos}
+use Rattle.std.specs.List.{flat_map}
 use Rattle.cube_model.specs.declared.term.Term.{Term}
 use Rattle.cube_model.specs.Allocation.{ExtendedFact}
 use Rattle.cube_model.specs.Answer.{answer, count_of, merge, numerator_of}
@@ -12,16 +13,21 @@ use Rattle.staged_map.specs.Staged.{AreOfDifferentKeys, Entries, PutsAll, entry_
 use Rattle.view_store.specs.declared.change.ViewChange.{ViewChange}
 use Rattle.view_store.specs.Views.{IsEntry, ViewMap, ViewMaps, entry_at, is_in_view, no_terms, region_at}
 
--- the fact that a change puts or takes away, as one of an extended database; its id, of which views take no notice, is 0
-abbrev pub fact_of : ViewChange → ExtendedFact
-fact_of change = record { id = 0; values = change.cols; allocation = record { den = change.den; rows = change.rows } }
+-- a fact of an extended database with the rows of a change, and these values; its id, of which views take no notice, is 0
+abbrev pub fact_with : ViewChange → List ℤ → ExtendedFact
+fact_with change values = record { id = 0; values = values; allocation = record { den = change.den; rows = change.rows } }
+
+-- The facts that a change puts or takes away: as many as it says, with its rows. Of their values no more is told than the sums,
+-- so the first of them has these, and the others have 0 in every column.
+abbrev pub facts_of : ViewChange → List ExtendedFact
+facts_of change = fact_with change change.cols ∷ replicate (change.facts - 1) (fact_with change (replicate (length change.cols) (pos 0)))
 
 -- the facts that are taken away, and those that are put, in order
 abbrev pub taken : List ViewChange → List ExtendedFact
-taken changes = map fact_of (filter (λ change. not change.put) changes)
+taken changes = flat_map facts_of (filter (λ change. not change.put) changes)
 
 abbrev pub given : List ViewChange → List ExtendedFact
-given changes = map fact_of (filter (λ change. change.put) changes)
+given changes = flat_map facts_of (filter (λ change. change.put) changes)
 
 -- The shares of facts in a region, merged: what the facts add up to there, over columns of which one is the count.
 abbrev pub shares : ℕ → List Dimension → List ExtendedFact → ℕ → TermList
@@ -44,17 +50,19 @@ pub record IsWithin (columns : ℕ) (terms : List Term) : Type 0 where
   pub counts : (d : ℕ) → count_of terms d ≤ WIDE
   pub sums : (d k : ℕ) → k + 1 < columns → nat_abs (numerator_of terms d (k + 1)) ≤ WIDE
 
--- What is taken away is there, and no numerator passes WIDE on the way: of no first shares taken away together, nor of what is
--- left without all of them, nor of that with any first shares put.
+-- What is taken away is there, and no numerator passes WIDE on the way: not of what the first changes, however many, take away,
+-- nor of what is left without all that is taken away, nor of that with what the first changes put.
 pub record CanChange (dims : List Dimension) (changes : List ViewChange) (old : TermList) (code : ℕ) : Type 0 where
-  pub taken_within : (n : ℕ) → IsWithin old.columns (shares old.columns dims (take n (taken changes)) code).terms
+  pub taken_within : (n : ℕ) → IsWithin old.columns (shares old.columns dims (taken (take n changes)) code).terms
   pub there : HasDifference old (shares old.columns dims (taken changes) code)
   pub left_within : FitsDifference old (shares old.columns dims (taken changes) code)
   pub put_within : (rest : TermList) → AreTerms rest → IsDifference old (shares old.columns dims (taken changes) code) rest
-      → (n : ℕ) → IsWithin old.columns (together rest (shares old.columns dims (take n (given changes)) code))
+      → (n : ℕ) → IsWithin old.columns (together rest (shares old.columns dims (given (take n changes)) code))
 
--- a change over columns: a denominator of at least 1, a value for each column but the count's, and cells of the space
+-- a change over columns: at least one fact, a denominator of at least 1, a value for each column but the count's, and cells of
+-- the space
 pub record IsChange (dims : List Dimension) (columns : ℕ) (change : ViewChange) : Type 0 where
+  pub facts : 1 ≤ change.facts
   pub den : 1 ≤ change.den
   pub width : length change.cols + 1 ≡ columns
   pub cells : AreRows dims change.rows

@@ -1,16 +1,17 @@
 -- Drafts: terms by region code, made from entries by shares.
-use Rattle.std.specs.Prelude.{◌≡◌, ℕ, ◌+◌, ◌<◌, ◌≤◌, Bool, true, List, IfSome, length, map, filter, nat_abs, not, ◌||◌, ◌==◌, ◌+ℤ◌, is_some, unwrap_or, take, Option, Some, None, if◌then◌else◌}
+use Rattle.std.specs.Prelude.{◌≡◌, ℕ, ◌+◌, ◌*◌, ◌<◌, ◌≤◌, Bool, true, List, [], IfSome, length, map, filter, nat_abs, not, ◌||◌, ◌==◌, ◌+ℤ◌, is_some, unwrap_or, take, Option, Some, None, if◌then◌else◌}
+use Rattle.std.specs.List.{flat_map}
 use Rattle.cube_model.specs.Allocation.{ExtendedFact}
 use Rattle.cube_model.specs.Answer.{count_at, count_of, numerator_of, sum_at, weight_inside}
 use Rattle.cube_model.specs.Cells.{cells_of}
 use Rattle.cube_model.specs.Limits.{WIDE}
 use Rattle.cube_model.specs.Tree.{Dimension}
-use Rattle.group_sum.specs.Merge.{FitsDifference, HasDifference}
-use Rattle.group_sum.specs.Terms.{Fits, TermList}
+use Rattle.group_sum.specs.Merge.{FitsDifference, HasDifference, IsDifference}
+use Rattle.group_sum.specs.Terms.{AddsUnits, FitsUnits, TermList}
 use Rattle.staged_map.specs.Staged.{Entries, Places, value_at}
 use Rattle.view_store.specs.declared.change.ViewChange.{ViewChange}
-use Rattle.view_store.specs.Changes.{IsWithin, fact_of}
-use Rattle.view_store.specs.Views.{IsOver, held_at, is_in_view, region_at}
+use Rattle.view_store.specs.Changes.{IsMadeAnew, IsWithin, facts_of, given, shares, taken}
+use Rattle.view_store.specs.Views.{IsOver, ViewMap, entry_at, held_at, is_in_view, region_at}
 
 -- the draft at a code: where there is none yet, it is the entry
 abbrev pub draft_at : ℕ → Places TermList → Places TermList → ℕ → TermList
@@ -20,14 +21,18 @@ draft_at columns entries drafts code = unwrap_or (value_at drafts code) (held_at
 abbrev pub AreOver : ℕ → Places TermList → Type 0
 AreOver columns places = (code : ℕ) → IfSome (value_at places code) (IsOver columns)
 
--- how much of a fact lies in the region of a code
-abbrev pub weight_at : List Dimension → ExtendedFact → ℕ → ℕ
-weight_at dims fact code = weight_inside (cells_of dims (region_at dims code)) fact.allocation
+-- how much of each fact of a change lies in the region of a code
+abbrev pub weight_at : List Dimension → ViewChange → ℕ → ℕ
+weight_at dims change code = weight_inside (cells_of dims (region_at dims code)) (record { den = change.den; rows = change.rows })
 
--- the draft at a code is within the limit, and stays there with the share of a fact
-pub record FitsFact (columns : ℕ) (dims : List Dimension) (fact : ExtendedFact) (code : ℕ) (draft : TermList) : Type 0 where
+-- the draft at a code is within the limit, and stays there with the share of a change
+pub record FitsChange (columns : ℕ) (dims : List Dimension) (change : ViewChange) (code : ℕ) (draft : TermList) : Type 0 where
   pub held : IsWithin columns draft.terms
-  pub share : Fits draft.terms fact.allocation.den (weight_at dims fact code) fact.values
+  pub share : FitsUnits draft.terms change.den (weight_at dims change code * change.facts) (weight_at dims change code) change.cols
+
+-- the share of a change was added to the draft of a code
+abbrev pub AddsChange : List Dimension → ViewChange → ℕ → TermList → TermList → Type 0
+AddsChange dims change code old new = AddsUnits old new change.den (weight_at dims change code * change.facts) (weight_at dims change code) change.cols
 
 -- a change puts, or takes away
 abbrev pub is_of_kind : Bool → ViewChange → Bool
@@ -35,17 +40,17 @@ is_of_kind put change = if put then change.put else not change.put
 
 -- the facts of the changes that put, or of those that take away
 abbrev pub facts_of_kind : Bool → List ViewChange → List ExtendedFact
-facts_of_kind put changes = map fact_of (filter (is_of_kind put) changes)
+facts_of_kind put changes = flat_map facts_of (filter (is_of_kind put) changes)
 
 -- with what facts add up to in the region of a code, at every denominator
 pub record HasShares (columns : ℕ) (dims : List Dimension) (facts : List ExtendedFact) (code : ℕ) (old new : TermList) : Type 0 where
   pub counts : (d : ℕ) → count_of new.terms d ≡ count_of old.terms d + count_at (cells_of dims (region_at dims code)) facts d
   pub sums : (d k : ℕ) → k + 1 < columns → numerator_of new.terms d (k + 1) ≡ numerator_of old.terms d (k + 1) +ℤ sum_at (cells_of dims (region_at dims code)) facts k d
 
--- with what any first of the facts add up to, no numerator passes WIDE
-pub record FitsShares (columns : ℕ) (dims : List Dimension) (facts : List ExtendedFact) (code : ℕ) (old : TermList) : Type 0 where
-  pub counts : (n d : ℕ) → count_of old.terms d + count_at (cells_of dims (region_at dims code)) (take n facts) d ≤ WIDE
-  pub sums : (n d k : ℕ) → k + 1 < columns → nat_abs (numerator_of old.terms d (k + 1) +ℤ sum_at (cells_of dims (region_at dims code)) (take n facts) k d) ≤ WIDE
+-- with what the facts of the first changes, however many, of a kind add up to, no numerator passes WIDE
+pub record FitsShares (columns : ℕ) (dims : List Dimension) (put : Bool) (changes : List ViewChange) (code : ℕ) (old : TermList) : Type 0 where
+  pub counts : (n d : ℕ) → count_of old.terms d + count_at (cells_of dims (region_at dims code)) (facts_of_kind put (take n changes)) d ≤ WIDE
+  pub sums : (n d k : ℕ) → k + 1 < columns → nat_abs (numerator_of old.terms d (k + 1) +ℤ sum_at (cells_of dims (region_at dims code)) (facts_of_kind put (take n changes)) k d) ≤ WIDE
 
 -- only codes of the product of the cuts have got drafts
 abbrev pub KeepsToView : List Dimension → List ℕ → Places TermList → Places TermList → Type 0
@@ -54,6 +59,25 @@ KeepsToView dims depths old new = (code : ℕ) → is_some (value_at new code) �
 -- what is held at each code can be taken from the entry there
 abbrev pub CanTake : ℕ → Places TermList → Places TermList → Type 0
 CanTake columns entries taken = (code : ℕ) → IfSome (value_at taken code) (λ part. HasDifference (held_at columns entries code) part × FitsDifference (held_at columns entries code) part)
+
+-- where something is taken away, and there alone, the entry without it is left
+pub record AreWithout (columns : ℕ) (entries taken rests : Places TermList) : Type 0 where
+  pub codes : (code : ℕ) → is_some (value_at rests code) ≡ is_some (value_at taken code)
+  pub left : (code : ℕ) → IfSome (value_at taken code) (λ part. IsDifference (held_at columns entries code) part (held_at columns rests code))
+  pub over : AreOver columns rests
+
+-- of the entries of a view, what is left without the shares taken away
+pub record AreLeftOver (dims : List Dimension) (changes : List ViewChange) (view : ViewMap) (rests : Places TermList) : Type 0 where
+  pub left : (code : ℕ) → is_in_view dims view.depths code ≡ true → IsDifference (entry_at view code) (shares view.columns dims (taken changes) code) (draft_at view.columns view.entries rests code)
+  pub keys : KeepsToView dims view.depths [] rests
+  pub over : AreOver view.columns rests
+
+-- and what the changes make of them
+pub record AreRemade (dims : List Dimension) (changes : List ViewChange) (view : ViewMap) (drafts : Places TermList) : Type 0 where
+  pub made : (code : ℕ) → is_in_view dims view.depths code ≡ true
+      → IsMadeAnew (entry_at view code) (shares view.columns dims (taken changes) code) (shares view.columns dims (given changes) code) (draft_at view.columns view.entries drafts code)
+  pub keys : KeepsToView dims view.depths [] drafts
+  pub over : AreOver view.columns drafts
 
 -- what is staged for a draft: no entry where it has no term
 abbrev pub kept : Option TermList → Option TermList

@@ -1,7 +1,7 @@
-pub mod Views
 pub mod Changes
-pub mod Rolling
 pub mod Cuts
 pub mod Drafts
-pub mod Facts
 pub mod Examples
+pub mod Facts
+pub mod Rolling
+pub mod Views

@@ -1,22 +1,34 @@
 //! Changes of facts' shares, and the entries that they will set.
-ghost use Rattle.std.specs.Prelude.{◌≡◌};
+ghost use Rattle.std.specs.Prelude.{◌≡◌, ◌*◌};
 
 use cube_base::{Cols, PlainList};
 use group_sum::Terms;
 use shared_list::SharedPairs;
 use std::marker::Model;
 
-/// A fact's rows that are put or taken away: each a cell and its weight, over a denominator, with the values of the fact.
+/// Rows that are put or taken away for one fact, or at once for several that all have these rows: each a cell and its weight,
+/// over a denominator, with what the values of the facts add up to.
 #[derive(Debug, Drop)]
 pub struct ViewChange {
     /// Whether the rows are put; else they are taken away.
     pub put: bool,
+    /// How many facts have the rows: at least 1.
+    pub facts: u64,
     /// The denominator of the weights.
     pub den: u64,
     /// The cells with their weights.
     pub rows: SharedPairs,
-    /// The values of the fact, one for each column but the count.
+    /// The values of all these facts added up, one for each column but the count.
     pub cols: Cols,
+}
+
+impl ViewChange {
+    /// What a row adds to the count: its weight, once for each of the facts.
+    pub(crate) fn units(&self, weight: u64) -> u128
+        ensures { result ≡ weight * self.now.facts }
+    {
+        u128::from(weight) * u128::from(self.facts)
+    }
 }
 
 /// The codes of regions, each with the terms that it shall have, or None where it shall have no entry.

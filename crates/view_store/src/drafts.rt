@@ -1,18 +1,18 @@
 //! Drafts of entries: terms by region code, to which the shares of facts are added.
-ghost use Rattle.std.specs.Prelude.{[], ◌≡◌, ◌≤◌, ◌+◌, ◌==◌, ℕ, true, false, IfOk, IfSome, OnOk, All, Some, is_some, length, unwrap_or};
+ghost use Rattle.std.specs.Prelude.{[], ◌≡◌, ◌≤◌, ◌+◌, ◌*◌, ◌==◌, ℕ, true, false, IfOk, IfSome, OnOk, All, Some, is_some, length, unwrap_or};
 ghost use Rattle.std.specs.Map.{keys_of};
 ghost use Rattle.std.specs.Option.{option_copied};
 ghost use Rattle.cube_model.specs.Limits.{MAX_COLS};
 ghost use Rattle.group_sum.specs.Merge.{FitsDifference, HasDifference, IsDifference};
-ghost use Rattle.group_sum.specs.Terms.{AddsShare, AreTerms, Fits};
-ghost use Rattle.staged_map.specs.Staged.{AreKeys, AreOfDifferentKeys, value_at};
-ghost use Rattle.view_store.specs.Changes.{AreWhole, FitsView, IsChange, IsMadeFor, fact_of, taken};
+ghost use Rattle.group_sum.specs.Terms.{AddsUnits, AreTerms, FitsUnits};
+ghost use Rattle.staged_map.specs.Staged.{AreKeys, AreOfDifferentKeys, Reserves, value_at};
+ghost use Rattle.view_store.specs.Changes.{AreWhole, FitsView, IsChange, IsMadeFor, taken};
 ghost use Rattle.view_store.specs.Views.{AreEntries, held_at, is_in_view, IsOver, no_terms};
-ghost use Rattle.view_store.specs.Drafts.{AreOver, CanTake, FitsFact, FitsShares, HasShares, KeepsToView, draft_at, facts_of_kind, kept, kept_of, weight_at};
+ghost use Rattle.view_store.specs.Drafts.{AddsChange, AreLeftOver, AreOver, AreRemade, AreWithout, CanTake, FitsChange, FitsShares, HasShares, KeepsToView, draft_at, facts_of_kind, kept, kept_of};
 
 use crate::ViewChange;
 use crate::cut::cut_code;
-use cube_base::{Cols, Ids, Memory};
+use cube_base::{Ids, Memory};
 use group_sum::{SubFault, Terms};
 use region_algebra::Space;
 use staged_map::Staged;
@@ -67,30 +67,30 @@ fn begin(
     Ok(())
 }
 
-/// Adds a share to the draft of a code.
+/// Adds the share of a change's row to the draft of a code.
 fn add_share(
     alloc: Global,
     columns: u32,
     drafts: &mut Staged<Terms>,
     code: u64,
-    den: u64,
+    change: &ViewChange,
     weight: u64,
-    cols: Cols,
 ) -> Result<(), Memory>
     requires some { 1 ≤ columns }
     requires most { columns ≤ MAX_COLS + 1 }
-    requires den { 1 ≤ den }
-    requires width { length cols + 1 ≡ columns }
+    requires facts { 1 ≤ change.now.facts }
+    requires den { 1 ≤ change.now.den }
+    requires width { length change.now.cols + 1 ≡ columns }
     requires there { is_some (value_at drafts.old code) ≡ true }
     requires drafts { AreOver columns drafts.old }
-    requires within { Fits (held_at columns drafts.old code).terms den weight cols }
-    ensures share { OnOk result (AddsShare (held_at columns drafts.old code) (held_at columns drafts.new code) den weight cols) }
+    requires within { FitsUnits (held_at columns drafts.old code).terms change.now.den (weight * change.now.facts) weight change.now.cols }
+    ensures share { OnOk result (AddsUnits (held_at columns drafts.old code) (held_at columns drafts.new code) change.now.den (weight * change.now.facts) weight change.now.cols) }
     ensures others { OnOk result ((k : ℕ) → (code == k) ≡ false → value_at drafts.new k ≡ value_at drafts.old k) }
     ensures stays { OnOk result (is_some (value_at drafts.new code) ≡ true) }
     ensures over { OnOk result (AreOver columns drafts.new) }
 {
     let mut terms = drafts.set(code, Terms::empty(alloc, columns)).unwrap();
-    terms.add_term(den, weight, cols)?;
+    terms.add_units(change.den, change.units(weight), weight, change.cols)?;
     let _ = drafts.set(code, terms);
     Ok(())
 }
@@ -111,24 +111,16 @@ fn add_change(
     requires change { IsChange space.now columns change.now }
     requires entries { AreOver columns entries.now }
     requires drafts { AreOver columns drafts.old }
-    requires within { (code : ℕ) → is_in_view space.now depths.now code ≡ true → FitsFact columns space.now (fact_of change.now) code (draft_at columns entries.now drafts.old code) }
+    requires within { (code : ℕ) → is_in_view space.now depths.now code ≡ true → FitsChange columns space.now change.now code (draft_at columns entries.now drafts.old code) }
     ensures shares { OnOk result ((code : ℕ) → is_in_view space.now depths.now code ≡ true
-        → AddsShare (draft_at columns entries.now drafts.old code) (draft_at columns entries.now drafts.new code) change.now.den (weight_at space.now (fact_of change.now) code) change.now.cols) }
+        → AddsChange space.now change.now code (draft_at columns entries.now drafts.old code) (draft_at columns entries.now drafts.new code)) }
     ensures keys { OnOk result (KeepsToView space.now depths.now drafts.old drafts.new) }
     ensures over { OnOk result (AreOver columns drafts.new) }
 {
     for (cell, weight) in change.rows.as_slice() {
         let code = cut_code(space, depths, *cell);
         begin(alloc, columns, entries, drafts, code)?;
-        add_share(
-            alloc,
-            columns,
-            drafts,
-            code,
-            change.den,
-            *weight,
-            change.cols,
-        )?;
+        add_share(alloc, columns, drafts, code, change, *weight)?;
     }
     Ok(())
 }
@@ -152,7 +144,7 @@ pub fn add_changes(
     requires entries { AreOver columns entries.now }
     requires drafts { AreOver columns drafts.old }
     requires within { (code : ℕ) → is_in_view space.now depths.now code ≡ true
-        → FitsShares columns space.now (facts_of_kind put changes.now) code (draft_at columns entries.now drafts.old code) }
+        → FitsShares columns space.now put changes.now code (draft_at columns entries.now drafts.old code) }
     ensures shares { OnOk result ((code : ℕ) → is_in_view space.now depths.now code ≡ true
         → HasShares columns space.now (facts_of_kind put changes.now) code (draft_at columns entries.now drafts.old code) (draft_at columns entries.now drafts.new code)) }
     ensures keys { OnOk result (KeepsToView space.now depths.now drafts.old drafts.new) }
@@ -191,6 +183,36 @@ fn take_away(
     }
 }
 
+/// Gives each of these codes what is left of its entry without what is taken away from it.
+fn leave_each(
+    alloc: Global,
+    columns: u32,
+    entries: &Staged<Terms>,
+    taken: &Staged<Terms>,
+    codes: &[u64],
+    left: &mut Staged<Terms>,
+) -> Result<(), Memory>
+    requires some { 1 ≤ columns }
+    requires most { columns ≤ MAX_COLS + 1 }
+    requires entries { AreOver columns entries.now }
+    requires taken { AreOver columns taken.now }
+    requires there { CanTake columns entries.now taken.now }
+    requires codes { AreKeys taken.now codes.now }
+    requires none { Reserves [] left.old codes.now }
+    ensures { OnOk result (AreWithout columns entries.now taken.now left.new) }
+{
+    for code in codes {
+        let rest = take_away(
+            alloc,
+            columns,
+            entries.get(*code),
+            taken.get(*code).unwrap(),
+        )?;
+        let _ = left.set(*code, rest);
+    }
+    Ok(())
+}
+
 /// What is left of the entries of these codes without what is taken away from them.
 pub fn take_all_away(
     alloc: Global,
@@ -203,22 +225,12 @@ pub fn take_all_away(
     requires entries { AreOver columns entries.now }
     requires taken { AreOver columns taken.now }
     requires there { CanTake columns entries.now taken.now }
-    ensures codes { IfOk result (λ left. (code : ℕ) → is_some (value_at left code) ≡ is_some (value_at taken.now code)) }
-    ensures left { IfOk result (λ left. (code : ℕ) → IfSome (value_at taken.now code) (λ part. IsDifference (held_at columns entries.now code) part (held_at columns left code))) }
-    ensures over { IfOk result (AreOver columns) }
+    ensures { IfOk result (AreWithout columns entries.now taken.now) }
 {
     let codes = taken.keys()?;
     let mut left = Staged::new(alloc);
     left.reserve(codes.as_slice())?;
-    for code in codes.as_slice() {
-        let rest = take_away(
-            alloc,
-            columns,
-            entries.get(*code),
-            taken.get(*code).unwrap(),
-        )?;
-        let _ = left.set(*code, rest);
-    }
+    leave_each(alloc, columns, entries, taken, codes.as_slice(), &mut left)?;
     Ok(left)
 }
 
@@ -258,7 +270,7 @@ fn taken_away(
     requires most { columns ≤ MAX_COLS + 1 }
     requires depths { length depths.now ≡ length space.now }
     requires changes { All (IsChange space.now columns) changes.now }
-    requires within { (code : ℕ) → is_in_view space.now depths.now code ≡ true → FitsShares columns space.now (taken changes.now) code (no_terms columns) }
+    requires within { (code : ℕ) → is_in_view space.now depths.now code ≡ true → FitsShares columns space.now false changes.now code (no_terms columns) }
     ensures shares { IfOk result (λ parts. (code : ℕ) → is_in_view space.now depths.now code ≡ true → HasShares columns space.now (taken changes.now) code (no_terms columns) (held_at columns parts code)) }
     ensures keys { IfOk result (KeepsToView space.now depths.now []) }
     ensures over { IfOk result (AreOver columns) }
@@ -269,6 +281,53 @@ fn taken_away(
         alloc, space, depths, columns, &none, &mut parts, changes, false,
     )?;
     Ok(parts)
+}
+
+/// What is left of the entries of a view without the shares that changes take away, by region code; there is nothing where none
+/// is taken away.
+fn left_over(
+    alloc: Global,
+    space: &Space,
+    depths: &[u8],
+    columns: u32,
+    entries: &Staged<Terms>,
+    changes: &[ViewChange],
+) -> Result<Staged<Terms>, Memory>
+    requires depths { length depths.now ≡ length space.now }
+    requires entries { AreEntries columns entries.now }
+    requires changes { FitsView space.now changes.now (record { columns = columns; depths = depths.now; entries = entries.now }) }
+    ensures { IfOk result (AreLeftOver space.now changes.now (record { columns = columns; depths = depths.now; entries = entries.now })) }
+{
+    let parts = taken_away(alloc, space, depths, columns, changes)?;
+    take_all_away(alloc, columns, entries, &parts)
+}
+
+/// What changes make of the entries of a view that they change, by region code.
+fn remade(
+    alloc: Global,
+    space: &Space,
+    depths: &[u8],
+    columns: u32,
+    entries: &Staged<Terms>,
+    changes: &[ViewChange],
+) -> Result<Staged<Terms>, Memory>
+    requires depths { length depths.now ≡ length space.now }
+    requires entries { AreEntries columns entries.now }
+    requires changes { FitsView space.now changes.now (record { columns = columns; depths = depths.now; entries = entries.now }) }
+    ensures { IfOk result (AreRemade space.now changes.now (record { columns = columns; depths = depths.now; entries = entries.now })) }
+{
+    let mut drafts = left_over(alloc, space, depths, columns, entries, changes)?;
+    add_changes(
+        alloc,
+        space,
+        depths,
+        columns,
+        entries,
+        &mut drafts,
+        changes,
+        true,
+    )?;
+    Ok(drafts)
 }
 
 /// The entries that changes make of those of a view, each once, with their codes, ascending.
@@ -288,18 +347,7 @@ pub fn make_entries(
     ensures distinct { IfOk result (λ made. AreOfDifferentKeys made.1.items) }
     ensures whole { IfOk result (λ made. AreWhole columns made.1.items) }
 {
-    let taken = taken_away(alloc, space, depths, columns, changes)?;
-    let mut drafts = take_all_away(alloc, columns, entries, &taken)?;
-    add_changes(
-        alloc,
-        space,
-        depths,
-        columns,
-        entries,
-        &mut drafts,
-        changes,
-        true,
-    )?;
+    let drafts = remade(alloc, space, depths, columns, entries, changes)?;
     let codes = drafts.keys()?;
     let made = entries_of(alloc, drafts, codes.as_slice())?;
     Ok((codes, made))

@@ -1,5 +1,5 @@
 //! One view: its entries by region code.
-ghost use Rattle.std.specs.Prelude.{◌≡◌, ◌≤◌, ◌<◌, ◌+◌, ◌-◌, [], IfOk, IfSome, length, map};
+ghost use Rattle.std.specs.Prelude.{◌≡◌, ◌≤◌, ◌<◌, ◌+◌, ◌-◌, [], All, IfOk, IfSome, length, map};
 ghost use Rattle.std.specs.Option.{option_copied};
 ghost use Rattle.cube_model.specs.Answer.{merge_all};
 ghost use Rattle.cube_model.specs.Limits.{MAX_COLS};
@@ -103,7 +103,8 @@ impl View {
     /// The regions that have an entry, each with a copy of it, ascending by code.
     pub fn list(&self, space: &Space) -> Result<ViewList, Memory>
         requires { IsViewOf space.now self.now }
-        ensures { IfOk result (λ list. list ≡ listed space.now self.now) }
+        ensures entries { IfOk result (λ list. list ≡ listed space.now self.now) }
+        ensures whole { IfOk result (All (λ entry. 1 ≤ length entry.1.terms)) }
     {
         let codes = self.entries.keys()?;
         let mut list = Vec::with_capacity(self.alloc, codes.as_slice().len())?;

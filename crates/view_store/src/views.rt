@@ -62,9 +62,10 @@ impl Views {
         })
     }
 
-    /// The number of columns, from 1 to 8.
+    /// The number of columns of each view, from 1 to 8.
     pub fn columns(&self) -> u32
         ensures columns { result ≡ self.now.columns }
+        ensures each { All (λ view. view.columns ≡ result) self.now.views }
         ensures some { 1 ≤ result }
         ensures most { result ≤ MAX_COLS + 1 }
     {
@@ -137,11 +138,12 @@ impl Views {
         self.views.iter().find(|view| view.serves(space, r))
     }
 
-    /// The regions of a view that have an entry, each with a copy of its terms, ascending by code.
+    /// The regions of a view that have an entry, each with a copy of its terms, of which there are some, ascending by code.
     pub fn list(&self, space: &Space, view: u32) -> Result<ViewList, Memory>
         requires views { AreViewsOf space.now self.now }
         requires view { view < length self.now.views }
-        ensures { IfOk result (λ list. IfSome (slice_get self.now.views view) (λ v. list ≡ listed space.now v)) }
+        ensures entries { IfOk result (λ list. IfSome (slice_get self.now.views view) (λ v. list ≡ listed space.now v)) }
+        ensures whole { IfOk result (All (λ entry. 1 ≤ length entry.1.terms)) }
     {
         self.views[view as usize].list(space)
     }

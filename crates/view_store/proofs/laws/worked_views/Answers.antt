@@ -12,6 +12,7 @@ unfolding merge is_inside cut in_cut is_leaf is_under parent path all_regions
 returns c = record {
   leaves = refl;
   inner = refl;
+  met = refl;
   served = refl;
   too_deep = refl;
   listed = refl;

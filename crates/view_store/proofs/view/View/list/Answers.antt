@@ -3,7 +3,9 @@ use Rattle.std.proofs.Common.{◌≡◌, ◌∙◌, ap, get_or, Some, sym, subst
 use Rattle.std.proofs.lemmas.List.{take_all}
 use Rattle.staged_map.specs.Staged.{AreKeys, value_at}
 use Rattle.std.specs.Option.{option_copied}
-use Rattle.view_store.specs.Views.{ViewMap}
+use Rattle.std.specs.Prelude.{All}
+use Rattle.view_store.specs.Views.{AreEntries, ViewMap}
+use Rattle.view_store.proofs.CutListing.{HasTerms, listed-whole}
 use Rattle.view_store.proofs.CutRegions.{region_at-is}
 use Rattle.view_store.proofs.Listing.{key-below, keys-are, listed-next, listed_first}
 use Rattle.view_store.proofs.view.View.list.Goals as goal
@@ -22,7 +24,13 @@ loop-code-preserved c =
     listed-next c.args.space.now c.args.self.now c.as_slice-code-items.result.now c.loop-code.code-index c.loop-code.list.items c.push.new.self.items c.unwrap-region.result c.in_ok-terms.terms c.loop-code-test.true
     c.loop-code.invariant (sym region) has c.in_ok-push.ensures.items
 
-pub returns : goal.returns
-returns c =
+pub returns-clause-entries : goal.returns-clause-entries
+returns-clause-entries c =
     let keys = subst (λ (v : ViewMap). AreKeys v.entries c.as_slice-code-items.result.now) c.self.view_is (subst (AreKeys c.self.inside.entries) (sym c.as_slice-code-items.ensures) c.in_ok-codes.ensures) in
     c.from.ensures ∙ c.loop-code.invariant ∙ ap (listed_first c.args.space.now c.args.self.now) (take_all c.loop-code.code-index c.as_slice-code-items.result.now c.loop-code-test.false ∙ keys-are c.args.space.now c.args.self.now c.as_slice-code-items.result.now c.requires keys)
+
+-- each entry that is kept has a term
+pub returns-clause-whole : goal.returns-clause-whole
+returns-clause-whole c =
+    let whole = subst (λ (v : ViewMap). AreEntries v.columns v.entries) c.self.view_is c.self.invariant in
+    subst (All HasTerms) (sym (returns-clause-entries c)) (listed-whole c.args.space.now c.args.self.now whole)

@@ -5,13 +5,19 @@ use Rattle.group_sum.specs.Merge.{IsDifference}
 use Rattle.group_sum.specs.Terms.{TermList}
 use Rattle.staged_map.specs.Staged.{value_at}
 use Rattle.view_store.specs.Views.{no_terms}
-use Rattle.view_store.proofs.TakingAway.{AreLeft-next}
-use Rattle.view_store.proofs.drafts.take_all_away.Goals as goal
+use Rattle.view_store.proofs.TakingAway.{AreLeft-all, AreLeft-next, AreLeft-none}
+use Rattle.view_store.proofs.drafts.leave_each.Goals as goal
+
+pub loop-code-init : goal.loop-code-init
+loop-code-init c = AreLeft-none c.args.columns c.args.entries.now c.args.taken.now c.args.codes.now c.args.left.now c.requires.none
 
 pub loop-code-preserved : goal.loop-code-preserved
 loop-code-preserved c =
-    let code = get_or c.as_slice-code-items.result.now c.loop-code.code-index 0 in
+    let code = get_or c.args.codes.now c.loop-code.code-index 0 in
     let found : value_at c.args.taken.now code ≡ Some c.unwrap.result.now = sym c.get-in-loop-code.ensures ∙ ap option_copied c.unwrap.ensures in
     let difference = subst (λ (o : Option TermList). IsDifference (unwrap_or o (no_terms c.args.columns)) c.unwrap.result.now c.in_ok-rest.rest) c.get.ensures c.in_ok-rest.ensures.left in
-    AreLeft-next c.args.columns c.args.entries.now c.args.taken.now c.as_slice-code-items.result.now c.loop-code.code-index c.loop-code.left c.set.new.self c.unwrap.result.now c.in_ok-rest.rest c.loop-code-test.true c.loop-code.invariant
+    AreLeft-next c.args.columns c.args.entries.now c.args.taken.now c.args.codes.now c.loop-code.code-index c.loop-code.left c.set.new.self c.unwrap.result.now c.in_ok-rest.rest c.loop-code-test.true c.loop-code.invariant
     found difference c.in_ok-rest.ensures.over c.set.ensures.sets
+
+pub returns : goal.returns
+returns c = AreLeft-all c.args.columns c.args.entries.now c.args.taken.now c.args.codes.now c.loop-code.code-index c.loop-code.left c.loop-code-test.false c.requires.codes c.loop-code.invariant
