@@ -24,6 +24,13 @@ MAX_COLS = 7
 abbrev pub MAX_VALUE : ℕ
 MAX_VALUE = 1000000000000
 
+-- the least and the greatest scale of a distribution
+abbrev pub MIN_SCALE : ℕ
+MIN_SCALE = 1
+
+abbrev pub MAX_SCALE : ℕ
+MAX_SCALE = 1000000
+
 -- the least and the greatest id of a fact
 abbrev pub MIN_ID : ℕ
 MIN_ID = 1

@@ -11,8 +11,8 @@ mod tree;
 
 pub use edit::{Edit, Fact};
 pub use limits::{
-    MAX_CELLS, MAX_DEPTH, MAX_DIMS, MAX_FACTS, MAX_ID, MAX_NODES, MAX_ROWS, MAX_VALUE, MIN_ID,
-    SPACE_LIMIT, WIDE,
+    MAX_CELLS, MAX_DEPTH, MAX_DIMS, MAX_FACTS, MAX_ID, MAX_NODES, MAX_ROWS, MAX_SCALE, MAX_VALUE,
+    MIN_ID, MIN_SCALE, SPACE_LIMIT, WIDE,
 };
 pub use region::Region;
 pub use statistic::CellStat;

@@ -15,6 +15,12 @@ pub const SPACE_LIMIT: u64 = 1 << 62;
 /// The greatest absolute value of a number measure.
 pub const MAX_VALUE: u64 = 1_000_000_000_000;
 
+/// The least scale of a distribution.
+pub const MIN_SCALE: u32 = 1;
+
+/// The greatest scale of a distribution.
+pub const MAX_SCALE: u32 = 1_000_000;
+
 /// The least id of a fact.
 pub const MIN_ID: u64 = 1;
 

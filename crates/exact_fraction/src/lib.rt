@@ -10,5 +10,5 @@ mod sums;
 
 pub use group_sum::Terms;
 pub use laws::{worked_examples, worked_wide_quotients, worked_wide_sums};
-pub use quotients::{MAX_SCALE, Quotient, ratio};
+pub use quotients::{Quotient, ratio};
 pub use sums::{Value, one};

@@ -14,10 +14,8 @@ use crate::column::{SignedSums, common_den, signed_sums};
 use crate::fraction::{Bounds, SignedFraction, bounds_of, over, reduce};
 use crate::gcd::{lcm_within, product_within};
 use crate::sums::{Value, exact_value, fraction_from, value_over};
+use cube_model::MAX_SCALE;
 use group_sum::Terms;
-
-/// The largest scale.
-pub const MAX_SCALE: u32 = 1_000_000;
 
 /// A quotient.
 #[derive(Clone, Copy, Debug, PartialEq, Eq)]

@@ -1,4 +1,5 @@
 pub mod AcceptedValues
+pub mod Adding
 pub mod Ascending
 pub mod BlockPlaces
 pub mod BlockStarts
@@ -10,9 +11,11 @@ pub mod Fronts
 pub mod GivenValues
 pub mod HasIds
 pub mod Keeping
+pub mod Leveling
 pub mod Load
 pub mod NodeFields
 pub mod PartTexts
 pub mod Rooms
+pub mod SmallValues
 pub mod Stocking
 pub mod ValueFields

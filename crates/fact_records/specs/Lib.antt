@@ -7,6 +7,7 @@ pub mod Fields
 pub mod Judge
 pub mod Joining
 pub mod Kept
+pub mod Leveling
 pub mod MeasureFields
 pub mod Outcomes
 pub mod Room

@@ -4,7 +4,7 @@ use Rattle.std.specs.Option.{option_and_then, option_map, option_map_or}
 use Rattle.cube_model.specs.declared.statistic.CellStat.{CellStat}
 use Rattle.cube_model.specs.Allocation.{Policy, add_column}
 use Rattle.std.specs.Str.{bytes_eq}
-use Rattle.cube_model.specs.Limits.{MAX_COLS}
+use Rattle.cube_model.specs.Limits.{MAX_COLS, MAX_SCALE, MIN_SCALE}
 use Rattle.fact_records.specs.declared.shape.Kind.{Kind}
 use Rattle.fact_records.specs.declared.shape.Kind.TheVariants.{Number, Parts}
 use Rattle.fact_records.specs.declared.shape.Measure.{Measure}
@@ -19,17 +19,28 @@ abbrev pub width_of_all : List Measure → ℕ
 width_of_all [] = 0
 width_of_all (measure ∷ measures) = width_of measure.kind + width_of_all measures
 
+-- a number that the parts of a distribution may add up to
+pub record IsScale (scale : ℕ) : Type 0 where
+  pub least : MIN_SCALE ≤ scale
+  pub most : scale ≤ MAX_SCALE
+
+-- where the values of a measure are distributions, their scale is such a number
+abbrev pub HasScale : Kind → Type 0
+HasScale Number = ⊤
+HasScale (Parts scale _) = IsScale scale
+
 -- the columns of the measures follow one another from this one on
 abbrev pub AreInOrder : ℕ → List Measure → Type 0
 AreInOrder first [] = Unit {0}
 AreInOrder first (measure ∷ measures) = (measure.first_col ≡ first) × AreInOrder (first + width_of measure.kind) measures
 
--- measures of a cube: no two have one name, each has a column, they have at most seven, and these follow the count
+-- measures of a cube: no two have one name, each has a column, they have at most seven, these follow the count, and no scale is out of its limits
 pub record AreMeasures (measures : List Measure) : Type 0 where
   pub distinct : AllPairs (λ a b. a.name ≢ b.name) measures
   pub some : All (λ m. 1 ≤ width_of m.kind) measures
   pub most : width_of_all measures ≤ MAX_COLS
   pub order : AreInOrder 1 measures
+  pub scales : All (λ m. HasScale m.kind) measures
 
 -- measures, and the place of the one by whose sum cells weigh, if there is one
 pub record ShapeValue : Type 0 where

@@ -74,29 +74,41 @@ impl Block {
         self.facts.remove(at)
     }
 
-    /// Moves the facts from a place on to a block that has none.
-    pub(crate) fn move_end(&mut self, from: usize, to: &mut Block)
+    /// Moves the facts from a place on to the front of the next block.
+    pub(crate) fn give_end(&mut self, from: usize, next: &mut Block)
         requires place { from ≤ length self.old }
-        requires most { length self.old ≤ BLOCK }
-        requires empty { to.old ≡ [] }
+        requires room { length self.old + length next.old ≤ from + BLOCK }
         ensures front { self.new ≡ take from self.old }
-        ensures back { to.new ≡ drop from self.old }
+        ensures back { next.new ≡ drop from self.old ++ next.old }
     {
-        if to.facts.extend_from_slice(&self.facts[from..]).is_err() {
+        if next.facts.extend_from_slice(&self.facts[from..]).is_err() {
             unreachable!()
         }
+        next.facts.rotate_right(self.facts.len() - from);
         self.facts.truncate(from);
     }
 
+    /// Moves so many facts from the front of the next block behind these.
+    pub(crate) fn take_front(&mut self, count: usize, next: &mut Block)
+        requires place { count ≤ length next.old }
+        requires room { length self.old + count ≤ BLOCK }
+        ensures front { self.new ≡ self.old ++ take count next.old }
+        ensures back { next.new ≡ drop count next.old }
+    {
+        if self.facts.extend_from_slice(&next.facts[..count]).is_err() {
+            unreachable!()
+        }
+        next.facts.rotate_left(count);
+        next.facts.truncate(next.facts.len() - count);
+    }
     /// Moves all facts of another block behind these.
     pub(crate) fn append(&mut self, other: &mut Block)
         requires { length self.old + length other.old ≤ BLOCK }
         ensures facts { self.new ≡ self.old ++ other.old }
         ensures emptied { other.new ≡ [] }
     {
-        if self.facts.extend_from_slice(&other.facts).is_err() {
+        if self.facts.append(&mut other.facts).is_err() {
             unreachable!()
         }
-        other.facts.truncate(0);
     }
 }

@@ -1,21 +1,26 @@
 //! Blocks of facts one after another, and blocks in stock for facts to come.
-ghost use Rattle.std.specs.Prelude.{◌≡◌, ◌+◌, ◌^◌, ◌<◌, ◌≤◌, [], Some, length, take, drop, slice_get, slice_set, insert, remove, All, OnOk, true};
+ghost use Rattle.std.specs.Prelude.{◌≡◌, ◌+◌, ◌*◌, ◌^◌, ◌<◌, ◌≤◌, [], Some, IfSome, length, take, drop, slice_get, slice_set, insert, remove, All, OnOk, true};
 ghost use Rattle.std.specs.Vec.{vec_capacity, vec_len};
 ghost use Rattle.std.specs.Option.{option_copied};
 ghost use Rattle.fact_records.specs.BlockList.{AllFilled, IsAt, IsPlace, all_facts, block_at, load, place_in_all, spare_of};
 ghost use Rattle.fact_records.specs.Joining.{IsJoined, are_sparse, joined};
+ghost use Rattle.fact_records.specs.Leveling.{IsPairWithRoom, IsPlaceInPair, has_room, leveled};
 ghost use Rattle.fact_records.specs.Room.{MakesRoom};
 
 use crate::block::{BLOCK, Block};
 use crate::in_room::{insert_in_room, push_in_room};
+use crate::level::level_at;
 use crate::search::{Place, nth};
-use crate::starts::{count_all, lower, raise};
+use crate::starts::{count_all, lower, raise, start_behind};
 use cube_model::Fact;
 use std::alloc::{AllocError, Global};
 use std::marker::Model;
 
 /// What goes to either side where a full block is split.
 pub(crate) const HALF: usize = 128;
+
+/// A block with no more facts than this takes some from a full one next to it, which is then not split.
+pub(crate) const ROOMY: usize = 224;
 
 /// Blocks in use, in order, and empty ones in stock. Putting facts in and taking them out takes no memory and gives none back.
 /// Contracts see the blocks in use and how many there are in stock.
@@ -182,14 +187,100 @@ impl Blocks {
                 at: 0,
             };
         }
+        match self.pair_with_room(place.block) {
+            Some(pair) => self.level_for(place, pair),
+            None => self.split_for(place),
+        }
+    }
+
+    /// The same place where its block and one next to it, of which this is the first, were leveled.
+    fn level_for(&mut self, place: Place, pair: usize) -> Place
+        requires place { IsPlace self.old.used place.block place.at }
+        requires filled { AllFilled self.old.used }
+        requires pair { IsPairWithRoom self.old.used place.block pair }
+        ensures { MakesRoom self.old self.new place.block place.at result.block result.at }
+    {
+        let at = self.at_in_pair(place, pair);
+        self.level(pair);
+        self.place_in_pair(pair, at)
+    }
+
+    /// Where a place is in two blocks next to each other.
+    fn at_in_pair(&self, place: Place, pair: usize) -> usize
+        requires place { IsPlace self.now.used place.block place.at }
+        requires filled { AllFilled self.now.used }
+        requires pair { IsPairWithRoom self.now.used place.block pair }
+        ensures place { place_in_all self.now.used pair result ≡ place_in_all self.now.used place.block place.at }
+        ensures within { result ≤ length (block_at self.now.used pair) + length (block_at self.now.used (pair + 1)) }
+    {
+        if place.block == pair {
+            place.at
+        } else {
+            self.block(pair).len() + place.at
+        }
+    }
+
+    /// The same place where its full block was split.
+    fn split_for(&mut self, place: Place) -> Place
+        requires place { IsPlace self.old.used place.block place.at }
+        requires filled { AllFilled self.old.used }
+        requires full { length (block_at self.old.used place.block) ≡ BLOCK }
+        requires stock { 0 < self.old.stock }
+        ensures { MakesRoom self.old self.new place.block place.at result.block result.at }
+    {
         self.split(place.block);
-        if place.at <= HALF {
-            return place;
+        self.place_in_pair(place.block, place.at)
+    }
+
+    /// A place in a block, or past its end in the one behind it.
+    fn place_in_pair(&self, first: usize, at: usize) -> Place
+        requires { first + 1 < length self.now.used }
+        ensures { IsPlaceInPair first (length (block_at self.now.used first)) at result.block result.at }
+    {
+        let len = self.used[first].as_slice().len();
+        if at <= len {
+            Place { block: first, at }
+        } else {
+            Place {
+                block: first + 1,
+                at: at - len,
+            }
         }
-        Place {
-            block: place.block + 1,
-            at: place.at - HALF,
+    }
+
+    /// The first of two blocks next to each other, of which one is this full block and the other has room for some facts.
+    fn pair_with_room(&self, block: usize) -> Option<usize>
+        requires place { block < length self.now.used }
+        requires full { length (block_at self.now.used block) ≡ BLOCK }
+        ensures { IfSome result (IsPairWithRoom self.now.used block) }
+    {
+        if self.used.len() > block + 1 && self.has_room(block + 1) {
+            Some(block)
+        } else if block > 0 && self.has_room(block - 1) {
+            Some(block - 1)
+        } else {
+            None
         }
+    }
+
+    /// Whether a block has room for some facts.
+    fn has_room(&self, block: usize) -> bool
+        requires { block < length self.now.used }
+        ensures { result ≡ has_room self.now.used block }
+    {
+        self.block(block).len() <= ROOMY
+    }
+
+    /// Levels a block with the one behind it.
+    fn level(&mut self, block: usize)
+        requires place { block + 1 < length self.old.used }
+        requires few { length (block_at self.old.used block) + length (block_at self.old.used (block + 1)) ≤ 2 * BLOCK }
+        ensures used { self.new.used ≡ leveled self.old.used block }
+        ensures stock { self.new.stock ≡ self.old.stock }
+    {
+        level_at(&mut self.used, block);
+        let len = self.used[block].as_slice().len();
+        start_behind(&mut self.starts, block, len as u64);
     }
 
     /// Puts a fact into a block that is not full.
@@ -250,7 +341,7 @@ impl Blocks {
         ensures stock { self.new.stock + 1 ≡ self.old.stock }
     {
         let mut end = self.stock.pop().unwrap();
-        self.used[block].move_end(HALF, &mut end);
+        self.used[block].give_end(HALF, &mut end);
         let start = self.starts[block] + HALF as u64;
         insert_in_room(&mut self.used, block + 1, end);
         insert_in_room(&mut self.starts, block + 1, start);

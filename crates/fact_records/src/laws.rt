@@ -1,16 +1,24 @@
-//! Examples that are computed from the definitions. The functions do nothing: each law is the contract.
-ghost use Rattle.std.specs.Prelude.{◌≡◌, [], ◌∷◌, true, codes, map, replicate, is_none, None, Some, Ok, Err, negsuc, pos};
+//! A law of accepted values, and examples that are computed from the definitions. The functions do nothing: each law is
+//! the contract.
+ghost use Rattle.std.specs.Prelude.{◌≡◌, ◌≤◌, List, [], ◌∷◌, All, true, codes, map, replicate, is_none, None, Some, Ok, Err, ℤ, nat_abs, negsuc, pos};
 ghost use Rattle.std.specs.List.{list_all};
 ghost use Rattle.cube_base.specs.declared.code.Code.TheVariants as code;
 ghost use Rattle.cube_model.specs.declared.edit.Edit.TheVariants.{Change, Put, Withdraw};
 ghost use Rattle.cube_model.specs.Allocation.{by_count};
+ghost use Rattle.cube_model.specs.Limits.{MAX_VALUE};
 ghost use Rattle.region_algebra.specs.Examples.{small_space};
 ghost use Rattle.fact_records.specs.Accepted.{cols_refusal};
 ghost use Rattle.fact_records.specs.Examples.{fact_at, four_facts, number, number_and_parts, one_number, parts, parts_and_number, second_weighs};
 ghost use Rattle.fact_records.specs.Fields.{cols_given, fact_given, nodes_named};
 ghost use Rattle.fact_records.specs.Judge.{judge};
-ghost use Rattle.fact_records.specs.Shape.{adds_of, measure_named};
+ghost use Rattle.fact_records.specs.Shape.{IsShape, ShapeValue, adds_of, measure_named};
 ghost use Rattle.fact_records.specs.Values.{values_for};
+
+/// No value that a fact may have is above 10^12 in absolute value, of distributions neither. So the columns of all facts
+/// add up within 64 bits.
+pub fn accepted_values_are_small()
+    ensures { (shape : ShapeValue) (values : List ℤ) → IsShape shape → cols_refusal shape values ≡ None → All (λ value. nat_abs value ≤ MAX_VALUE) values }
+{}
 
 /// Fields of a number and of a distribution. Where cells weigh by the sum of a number, it is not below 0.
 pub fn worked_fields()

@@ -12,6 +12,7 @@ mod fact_walk;
 mod in_room;
 mod judge;
 mod laws;
+mod level;
 mod measure_reader;
 mod places;
 mod search;
@@ -26,7 +27,9 @@ pub use fact_list::FactList;
 pub use fact_reader::{read_fact, read_id, read_region};
 pub use fact_walk::FactWalk;
 pub use judge::judge_fact;
-pub use laws::{worked_columns, worked_facts, worked_fields, worked_judgements};
+pub use laws::{
+    accepted_values_are_small, worked_columns, worked_facts, worked_fields, worked_judgements,
+};
 pub use measure_reader::{MeasureKind, read_measure};
 pub use shape::{Kind, Measure, Shape, width};
 pub use value_reader::read_values;

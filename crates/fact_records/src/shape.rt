@@ -2,7 +2,7 @@
 ghost use Rattle.std.specs.Prelude.{◌≡◌, ◌≢◌, ◌+◌, ◌<◌, ◌≤◌, All, AllPairs, None, Some, IfOk, IfSome, length, slice_get};
 ghost use Rattle.std.specs.Str.{bytes_eq};
 ghost use Rattle.cube_model.specs.Limits.{MAX_COLS};
-ghost use Rattle.fact_records.specs.Shape.{AreInOrder, AreMeasures, IsShape, IsWeighable, IsWithin, is_weight, measure_named, width_of, width_of_all};
+ghost use Rattle.fact_records.specs.Shape.{AreInOrder, AreMeasures, HasScale, IsShape, IsWeighable, IsWithin, is_weight, measure_named, width_of, width_of_all};
 
 use crate::copies::copy_measures;
 use cube_base::{Memory, Name, Names};
@@ -15,7 +15,7 @@ pub enum Kind {
     Number,
     /// A distribution: one part per outcome, and the parts add up to the scale.
     Parts {
-        /// What the parts add up to. A schema gives 1 to 1,000,000; a shape holds any number.
+        /// What the parts add up to: from 1 to 1,000,000.
         scale: u32,
         /// The names of the outcomes, in the order of their columns.
         outcomes: Names,
@@ -91,14 +91,15 @@ impl Model for Shape {
 }
 
 impl Shape {
-    /// The shape of these measures, which must be such as a cube can have: no two have one name, each has a column, and
-    /// their columns follow one another from column 1 on, at most seven of them. No cell weighs by the sum of one. It
-    /// takes no memory.
+    /// The shape of these measures, which must be such as a cube can have: no two have one name, each has a column,
+    /// their columns follow one another from column 1 on, at most seven of them, and the scale of a distribution is from 1
+    /// to 1,000,000. No cell weighs by the sum of one. It takes no memory.
     pub fn new(measures: Vec<Measure>) -> Self
         requires distinct { AllPairs (λ a b. a.name ≢ b.name) measures.items }
         requires some { All (λ m. 1 ≤ width_of m.kind) measures.items }
         requires most { width_of_all measures.items ≤ MAX_COLS }
         requires order { AreInOrder 1 measures.items }
+        requires scales { All (λ m. HasScale m.kind) measures.items }
         ensures { result ≡ record { measures = measures.items; weight = None } }
     {
         Shape {

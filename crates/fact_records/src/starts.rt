@@ -1,6 +1,6 @@
 //! For each block the number of facts before it.
-ghost use Rattle.std.specs.Prelude.{◌≡◌, ◌+◌, ◌-◌, ◌^◌, ◌<◌, All, IfSome, IsNone, length};
-ghost use Rattle.std.specs.Vec.{vec_capacity};
+ghost use Rattle.std.specs.Prelude.{◌≡◌, ◌+◌, ◌-◌, ◌^◌, ◌<◌, All, IfSome, IsNone, length, slice_index, slice_set};
+ghost use Rattle.std.specs.Vec.{vec_capacity, vec_len};
 ghost use Rattle.fact_records.specs.BlockList.{all_facts};
 ghost use Rattle.fact_records.specs.Starts.{IsRising, IsStartBefore, mapped_from, starts_of};
 
@@ -25,6 +25,16 @@ pub(crate) fn lower(starts: &mut Vec<u64>, from: usize)
     for block in from..starts.len() {
         starts[block] = starts[block].saturating_sub(1);
     }
+}
+
+/// Writes the number of facts before the block behind a block of so many.
+pub(crate) fn start_behind(starts: &mut Vec<u64>, block: usize, len: u64)
+    requires place { block + 1 < vec_len starts.old }
+    requires few { slice_index starts.old.items block + len < 2 ^ 64 }
+    ensures items { starts.new.items ≡ slice_set starts.old.items (block + 1) (slice_index starts.old.items block + len) }
+    ensures capacity { vec_capacity starts.new ≡ vec_capacity starts.old }
+{
+    starts[block + 1] = starts[block] + len;
 }
 
 /// The number of all facts.

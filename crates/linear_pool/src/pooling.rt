@@ -10,7 +10,8 @@ ghost use Rattle.linear_pool.specs.Pool.{AddUpToOne, AreOfOneTotal, HasScaleTo, 
 ghost use Rattle.linear_pool.specs.declared.pooling.PoolFault.TheVariants as pool_fault;
 
 use cube_base::{Memory, PlainList};
-use exact_fraction::{MAX_SCALE, Quotient, Terms, ratio};
+use cube_model::MAX_SCALE;
+use exact_fraction::{Quotient, Terms, ratio};
 use fact_records::{Kind, Shape};
 use std::alloc::Global;
 

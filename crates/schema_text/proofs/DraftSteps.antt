@@ -10,7 +10,7 @@ use Rattle.cube_base.specs.Name.{is_name}
 use Rattle.cube_base.specs.declared.code.Code.{Code}
 use Rattle.cube_base.specs.declared.code.Code.TheVariants as code
 use Rattle.cube_model.specs.Accepted.{first_that_holds}
-use Rattle.cube_model.specs.Limits.{MAX_DEPTH, MAX_DIMS}
+use Rattle.cube_model.specs.Limits.{MAX_DEPTH, MAX_DIMS, MAX_SCALE, MIN_SCALE}
 use Rattle.cube_model.specs.Tree.{is_numbered}
 use Rattle.text_lines.specs.LineText.{field_at}
 use Rattle.fact_records.specs.declared.shape.Measure.{Measure}
@@ -18,12 +18,12 @@ use Rattle.fact_records.specs.declared.shape.Kind.TheVariants as kind
 use Rattle.schema_text.specs.declared.word.SchemaWord.{SchemaWord}
 use Rattle.schema_text.specs.declared.word.SchemaWord.TheVariants.{Cube, Policy, Number, Parts, Dimension as DimensionWord, Node, View, End}
 use Rattle.schema_text.specs.Draft.{HasNodes, HasViews, IsDraft, IsNextMeasure, IsNextNode, open_count}
-use Rattle.schema_text.specs.Schema.{AreViews, IsKind, MAX_SCALE, MAX_VIEWS, MIN_SCALE}
-use Rattle.schema_text.specs.SchemaText.{Draft, depth_fields, depth_of, ended, has_many_cells, has_many_regions, has_no_room, has_wrong_count, has_wrong_depth, has_wrong_depths, has_wrong_name, has_wrong_names, has_wrong_number, has_wrong_policy, is_wrong_depth, is_wrong_name, lacks_measure, may_follow, measure_behind, node_of_fields, number_of, outcomes_of, parts_kind, scale_of, view_of_fields, with_word, word_fault}
+use Rattle.schema_text.specs.Schema.{AreViews, IsKind, MAX_VIEWS}
+use Rattle.schema_text.specs.SchemaText.{Draft, depth_fields, depth_of, ended, has_many_cells, has_many_regions, has_no_room, has_wrong_count, has_wrong_depth, has_wrong_depths, has_wrong_name, has_wrong_names, has_wrong_number, has_wrong_policy, is_wrong_depth, is_wrong_name, lacks_measure, may_follow, measure_behind, node_of_fields, number_of, outcomes_of, parts_kind, view_of_fields, with_word, word_fault}
 use Rattle.schema_text.proofs.Drafts.{AreNames-push, before-Cube, before-Dimension, before-End, before-Node, before-Number, before-Policy, is_name-right, no_views, Parts-like-Number, View-like-End}
 use Rattle.schema_text.proofs.MeasuresMore.{AreMeasures-push}
 use Rattle.schema_text.proofs.NodesMore.{AreNodes-none, AreNodes-push}
-use Rattle.schema_text.proofs.Outcomes.{IsDistribution-names}
+use Rattle.schema_text.proofs.Outcomes.{AreOutcomes-names}
 use Rattle.schema_text.proofs.NumbersRead.{number_in-range}
 use Rattle.schema_text.proofs.ViewsMore.{AreViews-none, AreViews-push, depths-shallow, length-depths}
 
@@ -72,7 +72,7 @@ IsDraft-measure draft word next is follows closed none unseen may =
     }
 
 IsNextMeasure-number : (draft : Draft) (fields : List (List ℕ)) → IsAccepted draft fields Number → IsNextMeasure draft.measures (measure_behind draft.measures (field_at fields 1) kind.Number)
-IsNextMeasure-number draft fields is = record { name = is.name; kind = tt; some = omega arith; order = refl; room = grind (arith, nat_tests, is.room) }
+IsNextMeasure-number draft fields is = record { name = is.name; kind = tt; scale = tt; some = omega arith; order = refl; room = grind (arith, nat_tests, is.room) }
 
 IsNextMeasure-parts : (draft : Draft) (fields : List (List ℕ)) → IsAccepted draft fields Parts → IsNextMeasure draft.measures (measure_behind draft.measures (field_at fields 1) (parts_kind fields))
 IsNextMeasure-parts draft fields is =
@@ -80,7 +80,7 @@ IsNextMeasure-parts draft fields is =
     let scale = number_in-range MIN_SCALE MAX_SCALE (field_at fields 2) is.number in
     let least : 5 ≤ length fields = grind (arith, nat_tests, is.count) in
     let some : 2 ≤ length (outcomes_of fields) = omega (arith, length-drop 3 fields) in
-    record { name = names.0; kind = IsDistribution-names (unwrap_or (scale_of fields) 0) (outcomes_of fields) scale.0 scale.1 some names.1; some = omega (arith, some); order = refl; room = grind (arith, nat_tests, is.room) }
+    record { name = names.0; kind = AreOutcomes-names (outcomes_of fields) some names.1; scale = record { least = scale.0; most = scale.1 }; some = omega (arith, some); order = refl; room = grind (arith, nat_tests, is.room) }
 
 -- the number of a node aside, it may come next
 IsNextNode-line : (draft : Draft) (fields : List (List ℕ)) → IsAccepted draft fields Node → IsNextNode draft.nodes (node_of_fields draft.version draft.nodes fields)

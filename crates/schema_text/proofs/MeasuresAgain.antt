@@ -14,17 +14,17 @@ use Rattle.std.proofs.lemmas.Slice.Eq.{bytes_eq-Decides}
 use Rattle.std.proofs.Math.ListN.{get_or-append}
 use Rattle.std.proofs.Math.Seq.{get_or-append_seam}
 use Rattle.cube_base.specs.Name.{is_name}
-use Rattle.cube_model.specs.Limits.{MAX_COLS}
+use Rattle.cube_model.specs.Limits.{MAX_COLS, MAX_SCALE, MIN_SCALE}
 use Rattle.text_lines.proofs.Ascii.{ascii_is_utf8}
 use Rattle.fact_records.specs.declared.shape.Kind.{Kind}
 use Rattle.fact_records.specs.declared.shape.Kind.TheVariants as kind
 use Rattle.fact_records.specs.declared.shape.Measure.{Measure}
-use Rattle.fact_records.specs.Shape.{AreInOrder, width_of, width_of_all}
+use Rattle.fact_records.specs.Shape.{AreInOrder, HasScale, IsScale, width_of, width_of_all}
 use Rattle.schema_text.specs.declared.policy.NamedPolicy.{NamedPolicy}
 use Rattle.schema_text.specs.declared.word.SchemaWord.{SchemaWord}
 use Rattle.schema_text.specs.declared.word.SchemaWord.TheVariants.{Cube, Policy, Number, Parts, Dimension as DimensionWord, Node, View, End}
 use Rattle.schema_text.specs.declared.word.Version.{Version}
-use Rattle.schema_text.specs.Schema.{AreNames, IsDistribution, IsKind, MAX_SCALE, MIN_SCALE}
+use Rattle.schema_text.specs.Schema.{AreNames, AreOutcomes, IsKind}
 use Rattle.schema_text.specs.SchemaText.{Draft, has_wrong_names, is_wrong_name, kind_line, may_follow, measure_behind, measure_line}
 use Rattle.schema_text.proofs.Reading.{IsRead}
 use Rattle.schema_text.proofs.Drafts.{is_name-right}
@@ -102,16 +102,16 @@ Parts-follows View follows = cc
 Parts-follows End follows = cc
 
 next-parts : (version : Version) (policy : NamedPolicy) (last : SchemaWord) (before : List Measure) (name : List ℕ) (scale : ℕ) (outcomes : List (List ℕ)) → may_follow (Some last) Number ≡ true → is_wrong_name name (names_of before) ≡ false
-    → IsDistribution scale outcomes → width_of_all before + length outcomes ≤ MAX_COLS → IsNext (measured version policy last before) (codes "parts") (name ∷ decimal scale ∷ outcomes) Parts
-next-parts version policy last before name scale outcomes follows right is room =
+    → AreOutcomes outcomes → IsScale scale → width_of_all before + length outcomes ≤ MAX_COLS → IsNext (measured version policy last before) (codes "parts") (name ∷ decimal scale ∷ outcomes) Parts
+next-parts version policy last before name scale outcomes follows right is is_scale room =
     let few : nat_lt MAX_COLS (width_of_all before + length outcomes) ≡ false = grind (arith, nat_tests) in
-    let number = number_in-decimal MIN_SCALE MAX_SCALE scale (omega (arith, is.most)) is.least is.most in
+    let number = number_in-decimal MIN_SCALE MAX_SCALE scale (omega (arith, is_scale.most)) is_scale.least is_scale.most in
     let count = counts (length outcomes) is.some (omega (arith, room)) in
     let named = has_wrong_names-right [] outcomes is.names in
     record {
       plain = IsPlain-fields (codes "parts") (name ∷ decimal scale ∷ outcomes) (record { bytes_are = refl; utf8 = ascii_is_utf8 (codes "parts") refl; short = lit≤ tt })
           (All-cons IsField name (decimal scale ∷ outcomes) (IsField-name name (is_name-right name (names_of before) right))
-          (All-cons IsField (decimal scale) outcomes (IsField-decimal scale (omega (arith, is.most))) (AreFields-names outcomes is.names.each))) (omega (arith, room));
+          (All-cons IsField (decimal scale) outcomes (IsField-decimal scale is_scale.most) (AreFields-names outcomes is.names.each))) (omega (arith, room));
       word_is = refl;
       stays = refl;
       goes_on = refl;
@@ -136,19 +136,20 @@ last_measure last [] = last
 last_measure last (m ∷ measures) = last_measure (word_of m.kind) measures
 
 read_kind : (text : List ℕ) (version : Version) (policy : NamedPolicy) (last : SchemaWord) (before : List Measure) (name : List ℕ) (of_kind : Kind) (lines : ℕ) (rest behind : List ℕ) → IsRead text (measured version policy last before) lines rest
-    → rest ≡ kind_line name of_kind ++ behind → may_follow (Some last) Number ≡ true → is_wrong_name name (names_of before) ≡ false → IsKind of_kind → width_of_all before + width_of of_kind ≤ MAX_COLS
+    → rest ≡ kind_line name of_kind ++ behind → may_follow (Some last) Number ≡ true → is_wrong_name name (names_of before) ≡ false → IsKind of_kind → HasScale of_kind → width_of_all before + width_of of_kind ≤ MAX_COLS
     → IsRead text (measured version policy (word_of of_kind) (before ++ measure_behind before name of_kind ∷ [])) (lines + 1) behind
-read_kind text version policy last before name kind.Number lines rest behind is parts follows right kind_is room =
+read_kind text version policy last before name kind.Number lines rest behind is parts follows right kind_is is_scale room =
     IsRead-next text (measured version policy last before) lines rest behind (codes "number") (name ∷ []) Number is parts (next-number version policy last before name follows right room)
-read_kind text version policy last before name (kind.Parts scale outcomes) lines rest behind is parts follows right kind_is room =
-    let number = number_in-decimal MIN_SCALE MAX_SCALE scale (omega (arith, kind_is.most)) kind_is.least kind_is.most in
-    let next = IsRead-next text (measured version policy last before) lines rest behind (codes "parts") (name ∷ decimal scale ∷ outcomes) Parts is parts (next-parts version policy last before name scale outcomes follows right kind_is room) in
+read_kind text version policy last before name (kind.Parts scale outcomes) lines rest behind is parts follows right kind_is is_scale room =
+    let number = number_in-decimal MIN_SCALE MAX_SCALE scale (omega (arith, is_scale.most)) is_scale.least is_scale.most in
+    let next = IsRead-next text (measured version policy last before) lines rest behind (codes "parts") (name ∷ decimal scale ∷ outcomes) Parts is parts (next-parts version policy last before name scale outcomes follows right kind_is is_scale room) in
     rw number at next
 
 -- measures that follow these, with names that are none of theirs
 pub record AreMore (before measures : List Measure) : Type 0 where
   pub names : AreNames (names_of before ++ names_of measures)
   pub kinds : All (λ m. IsKind m.kind) measures
+  pub scales : All (λ m. HasScale m.kind) measures
   pub order : AreInOrder (1 + width_of_all before) measures
   pub room : width_of_all before + width_of_all measures ≤ MAX_COLS
 
@@ -162,6 +163,7 @@ AreMore-next before m measures are =
     record {
       names = subst AreNames (sym joined) are.names;
       kinds = All-tail (λ (x : Measure). IsKind x.kind) m measures are.kinds;
+      scales = All-tail (λ (x : Measure). HasScale x.kind) m measures are.scales;
       order = subst (λ (c : ℕ). AreInOrder c measures) column are.order.1;
       room = omega (arith, wider, are.room);
     }
@@ -175,8 +177,9 @@ read_measures text version policy last before [] lines rest behind is parts foll
 read_measures text version policy last before (m ∷ measures) lines rest behind is parts follows are =
     let right = right-name (names_of before) m.name (names_of measures) are.names in
     let kind_is = All-head (λ (x : Measure). IsKind x.kind) m measures are.kinds in
+    let is_scale = All-head (λ (x : Measure). HasScale x.kind) m measures are.scales in
     let cuts : rest ≡ measure_line m ++ (flat_map measure_line measures ++ behind) = parts ∙ append_assoc (measure_line m) (flat_map measure_line measures) behind in
-    let next = read_kind text version policy last before m.name m.kind lines rest (flat_map measure_line measures ++ behind) is cuts follows right kind_is (omega (arith, are.room)) in
+    let next = read_kind text version policy last before m.name m.kind lines rest (flat_map measure_line measures ++ behind) is cuts follows right kind_is is_scale (omega (arith, are.room)) in
     let read : IsRead text (measured version policy (word_of m.kind) (before ++ m ∷ [])) (lines + 1) (flat_map measure_line measures ++ behind) = rw (measure_behind-same before m are.order.0) at next in
     let all = read_measures text version policy (word_of m.kind) (before ++ m ∷ []) measures (lines + 1) (flat_map measure_line measures ++ behind) behind read refl (may_follow-measure m.kind) (AreMore-next before m measures are) in
     let joined : (before ++ m ∷ []) ++ measures ≡ before ++ m ∷ measures = append_assoc before (m ∷ []) measures in

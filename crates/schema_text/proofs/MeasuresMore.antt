@@ -7,7 +7,7 @@ use Rattle.std.proofs.lemmas.List.{get_or-map, length-map}
 use Rattle.std.proofs.lemmas.List.Elements.{All-push}
 use Rattle.std.proofs.lemmas.List.Quantifiers.{all_pairs_push}
 use Rattle.fact_records.specs.declared.shape.Measure.{Measure}
-use Rattle.fact_records.specs.Shape.{AreInOrder, AreMeasures, width_of, width_of_all}
+use Rattle.fact_records.specs.Shape.{AreInOrder, AreMeasures, HasScale, width_of, width_of_all}
 use Rattle.cube_base.specs.declared.code.Code.TheVariants as code
 use Rattle.cube_model.specs.Limits.{MAX_COLS}
 use Rattle.text_lines.specs.LineText.{field_at}
@@ -44,6 +44,7 @@ AreMeasures-push measures next is may =
       some = All-push (λ (m : Measure). 1 ≤ width_of m.kind) measures next is.some may.some;
       most = omega (arith, width_of_all-push measures next, may.room);
       order = AreInOrder-push 1 measures next is.order may.order;
+      scales = All-push (λ (m : Measure). HasScale m.kind) measures next is.scales may.scale;
     }
 
 -- where the name is right, a distribution is refused for its kind

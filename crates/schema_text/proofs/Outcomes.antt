@@ -3,7 +3,7 @@ use Rattle.std.proofs.Common.{◌≡◌, ℕ, ◌+◌, ◌<◌, ◌≤◌, true,
 use Rattle.std.proofs.lemmas.Bool.{or_parts}
 use Rattle.std.proofs.lemmas.List.Elements.{All-nil}
 use Rattle.cube_base.specs.Name.{is_name}
-use Rattle.schema_text.specs.Schema.{AreNames, IsDistribution, MAX_SCALE, MIN_SCALE}
+use Rattle.schema_text.specs.Schema.{AreNames, AreOutcomes}
 use Rattle.schema_text.proofs.Drafts.{AreNames-push}
 use Rattle.std.proofs.lemmas.List.{drop_all, drop_more}
 use Rattle.text_lines.specs.LineText.{field_at}
@@ -48,6 +48,6 @@ AreNames-more taken (name ∷ names) are right =
 AreNames-none : AreNames []
 AreNames-none = record { each = All-nil (λ n. is_name n ≡ true); distinct = λ i j d before within. absurd (omega arith) }
 
--- a distribution with these outcomes and this scale
-pub IsDistribution-names : (scale : ℕ) (outcomes : List (List ℕ)) → MIN_SCALE ≤ scale → scale ≤ MAX_SCALE → 2 ≤ length outcomes → has_wrong_names [] outcomes ≡ false → IsDistribution scale outcomes
-IsDistribution-names scale outcomes least most some right = record { least = least; most = most; some = some; names = AreNames-more [] outcomes AreNames-none right }
+-- so they are the outcomes of a distribution, where they are two or more
+pub AreOutcomes-names : (outcomes : List (List ℕ)) → 2 ≤ length outcomes → has_wrong_names [] outcomes ≡ false → AreOutcomes outcomes
+AreOutcomes-names outcomes some right = record { some = some; names = AreNames-more [] outcomes AreNames-none right }

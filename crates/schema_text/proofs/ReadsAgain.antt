@@ -228,7 +228,7 @@ reads_again s is behind =
     let dims = some_dims s.dims is.space in
     let head = read_head text version s.measures s.policy (flat_map measure_line s.measures ++ measures_behind) (HasName-measures s.measures s.policy is.shape.weight is.measure_names) (text_parts s behind) in
     let measures = read_measures text version policy Policy [] s.measures 2 (flat_map measure_line s.measures ++ measures_behind) measures_behind head refl refl
-    (record { names = AreNames-measures s.measures is.measure_names is.shape.measures.distinct; kinds = is.kinds; order = is.shape.measures.order; room = omega (arith, is.shape.measures.most) }) in
+    (record { names = AreNames-measures s.measures is.measure_names is.shape.measures.distinct; kinds = is.kinds; scales = is.shape.measures.scales; order = is.shape.measures.order; room = omega (arith, is.shape.measures.most) }) in
     let draft = measured version policy (last_measure Policy s.measures) s.measures in
     let ended_at = read_dims text draft s.names s.dims (2 + length s.measures) measures_behind dims_behind measures refl is.named (may_follow-dims s.measures) refl is.dim_names (omega (arith, is.named, dims.1)) is.trees (AreWritable s.dims) in
     let found = policy-found s.measures s.policy is.shape.weight is.shape.measures.distinct in

@@ -11,7 +11,7 @@ use Rattle.cube_model.specs.Tree.{Dimension, Entry, first_fault, is_numbered, no
 use Rattle.text_lines.specs.LineText.{field_at, is_clean, is_long, without_cr}
 use Rattle.text_lines.specs.Text.{fields_of}
 use Rattle.fact_records.specs.declared.shape.Measure.{Measure}
-use Rattle.fact_records.specs.Shape.{AreMeasures, width_of, width_of_all}
+use Rattle.fact_records.specs.Shape.{AreMeasures, HasScale, width_of, width_of_all}
 use Rattle.region_algebra.specs.declared.view_def.ViewDef.{ViewDef}
 use Rattle.region_algebra.specs.Space.{cell_total, region_total}
 use Rattle.schema_text.specs.declared.word.SchemaWord.{SchemaWord}
@@ -152,6 +152,7 @@ HasViews word dims views = views ≡ []
 pub record IsNextMeasure (before : List Measure) (measure : Measure) : Type 0 where
   pub name : is_wrong_name measure.name (map (λ m. m.name) before) ≡ false
   pub kind : IsKind measure.kind
+  pub scale : HasScale measure.kind
   pub some : 1 ≤ width_of measure.kind
   pub order : measure.first_col ≡ 1 + width_of_all before
   pub room : width_of_all before + width_of measure.kind ≤ MAX_COLS

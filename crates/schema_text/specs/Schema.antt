@@ -46,13 +46,7 @@ policy_in weigh schema = policy_over weigh (shape_of schema)
 abbrev pub policy_of : SchemaValue → Policy
 policy_of schema = policy_in (weigh_of schema.policy) schema
 
--- the least and the greatest scale of a distribution, and how many outcomes it has
-abbrev pub MIN_SCALE : ℕ
-MIN_SCALE = 1
-
-abbrev pub MAX_SCALE : ℕ
-MAX_SCALE = 1000000
-
+-- the fewest outcomes of a distribution
 abbrev pub MIN_OUTCOMES : ℕ
 MIN_OUTCOMES = 2
 
@@ -61,16 +55,15 @@ pub record AreNames (names : List (List ℕ)) : Type 0 where
   pub each : All (λ name. is_name name ≡ true) names
   pub distinct : AllPairs (λ a b. a ≢ b) names
 
--- a scale that a schema may give, and two or more outcomes of distinct names; that they are at most seven, the columns say
-pub record IsDistribution (scale : ℕ) (outcomes : List (List ℕ)) : Type 0 where
-  pub least : MIN_SCALE ≤ scale
-  pub most : scale ≤ MAX_SCALE
+-- two or more outcomes of distinct names; that they are at most seven, the columns say
+pub record AreOutcomes (outcomes : List (List ℕ)) : Type 0 where
   pub some : MIN_OUTCOMES ≤ length outcomes
   pub names : AreNames outcomes
 
+-- where a measure has outcomes, they are such as a schema gives
 abbrev pub IsKind : Kind → Type 0
 IsKind Number = ⊤
-IsKind (Parts scale outcomes) = IsDistribution scale outcomes
+IsKind (Parts _ outcomes) = AreOutcomes outcomes
 
 -- the most views
 abbrev pub MAX_VIEWS : ℕ

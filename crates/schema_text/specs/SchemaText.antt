@@ -8,7 +8,7 @@ use Rattle.cube_base.specs.Name.{is_name}
 use Rattle.cube_base.specs.declared.code.Code.{Code}
 use Rattle.cube_base.specs.declared.code.Code.TheVariants as code
 use Rattle.cube_model.specs.Accepted.{first_that_holds}
-use Rattle.cube_model.specs.Limits.{MAX_COLS, MAX_DEPTH, MAX_DIMS, MAX_NODES, SPACE_LIMIT}
+use Rattle.cube_model.specs.Limits.{MAX_COLS, MAX_DEPTH, MAX_DIMS, MAX_NODES, MAX_SCALE, MIN_SCALE, SPACE_LIMIT}
 use Rattle.cube_model.specs.Tree.{Dimension, Entry, is_numbered, numbers}
 use Rattle.text_lines.specs.LineText.{without_cr, is_skipped, is_long, is_clean, field_at}
 use Rattle.text_lines.specs.Text.{after_lines, fields_of, line_text, lines_of, number_in}
@@ -27,7 +27,7 @@ use Rattle.schema_text.specs.declared.word.PolicyWord.{PolicyWord}
 use Rattle.schema_text.specs.declared.word.PolicyWord.TheVariants as policy_word
 use Rattle.schema_text.specs.declared.word.Version.{Version}
 use Rattle.schema_text.specs.declared.word.Version.TheVariants.{One, Two}
-use Rattle.schema_text.specs.Schema.{MAX_SCALE, MAX_VIEWS, MIN_SCALE, SchemaValue}
+use Rattle.schema_text.specs.Schema.{MAX_VIEWS, SchemaValue}
 
 -- the greatest number of a node
 abbrev pub MAX_NUMBER : ℕ

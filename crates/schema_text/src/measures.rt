@@ -15,14 +15,10 @@ ghost use Rattle.schema_text.specs.SchemaText.{has_wrong_names, is_wrong_name, m
 use crate::fault::LineFault;
 use crate::name::{has_bytes, is_name, is_wrong_name, name_of};
 use cube_base::{Code, MAX_COLS, Memory, Names};
+use cube_model::{MAX_SCALE, MIN_SCALE};
 use fact_records::{Kind, Measure};
 use std::alloc::Global;
 use text_lines::{field_at, field_count, number_in};
-
-/// The least and the greatest scale of a distribution.
-const MIN_SCALE: u64 = 1;
-
-const MAX_SCALE: u64 = 1_000_000;
 
 /// Takes the number measure of a line with two fields behind measures of so many columns.
 pub fn take_number(
@@ -86,7 +82,11 @@ fn read_kind(alloc: Global, line: &[u8]) -> Result<Kind, LineFault>
     ensures accepted { OnOk result (kind_fault (fields_of line.now) ≡ None) }
     ensures refused { IfErr result (IsCause (kind_fault (fields_of line.now))) }
 {
-    let scale = number_in(field_at(line, 2), MIN_SCALE, MAX_SCALE);
+    let scale = number_in(
+        field_at(line, 2),
+        u64::from(MIN_SCALE),
+        u64::from(MAX_SCALE),
+    );
     match (read_outcomes(alloc, line)?, scale) {
         (None, _) => Err(LineFault::Refused(Code::Name)),
         (Some(_), None) => Err(LineFault::Refused(Code::Number)),

@@ -1,7 +1,7 @@
-use Rattle.std.proofs.Common.{◌≡◌, ◌+◌, ◌<◌, [], ◌∷◌, ◌++◌, length, get_or, sym, ap, ◌∙◌, arith, length-append}
+use Rattle.std.proofs.Common.{◌≡◌, ◌+◌, ◌<◌, [], ◌∷◌, ◌++◌, length, take, drop, get_or, set, sym, ap, ◌∙◌, arith, rules, length-append}
 use Rattle.std.specs.List.{insert}
 use Rattle.std.specs.Vec.{vec_len}
-use Rattle.std.proofs.lemmas.List.{get_or_read, length-take-le, length-drop}
+use Rattle.std.proofs.lemmas.List.{append-nil, get_or_read, length-take-le, length-drop}
 use Rattle.fact_records.specs.declared.block.TheConstants.{BLOCK}
 use Rattle.fact_records.specs.declared.blocks.TheConstants.{HALF}
 use Rattle.fact_records.specs.BlockList.{all_facts, block_at}
@@ -41,17 +41,30 @@ invariant_of-self c =
     let many = length-counted c.self.inside.used.items c.self.inside.starts.items c.self.invariant.counted in
     let start = get_or_read c.self.inside.starts.items c.args.block _ (omega (arith, place, many)) c.index.ensures 0 ∙ ap (λ l. get_or l c.args.block 0) c.self.invariant.counted in
     let here : c.index_mut.result.now ≡ block_at c.self.inside.used.items c.args.block = get_or_read used c.args.block _ place c.index_mut.ensures.value [] in
-    let first : length c.move_end.new.self ≡ HALF = ap length c.move_end.ensures.front ∙ length-take-le HALF c.index_mut.result.now (omega (arith, ap length here, full)) in
-    let second : length c.move_end.new.to ≡ HALF = omega (arith, ap length c.move_end.ensures.back, length-drop HALF c.index_mut.result.now, ap length here, full) in
-    let parts : length c.move_end.new.self + length c.move_end.new.to ≡ length (block_at c.self.inside.used.items c.args.block) = omega (arith, first, second, full) in
+    let first : length c.give_end.new.self ≡ HALF = ap length c.give_end.ensures.front ∙ length-take-le HALF c.index_mut.result.now (omega (arith, ap length here, full)) in
+    let none : c.unwrap-end.result ≡ [] = search rules in
+    let back : c.give_end.new.next ≡ drop HALF c.index_mut.result.now = c.give_end.ensures.back ∙ ap (λ l. drop HALF c.index_mut.result.now ++ l) none ∙ append-nil (drop HALF c.index_mut.result.now) in
+    let second : length c.give_end.new.next ≡ HALF = omega (arith, ap length back, length-drop HALF c.index_mut.result.now, ap length here, full) in
+    let parts : length c.give_end.new.self + length c.give_end.new.next ≡ length (block_at c.self.inside.used.items c.args.block) = omega (arith, first, second, full) in
     let popped : c.self.inside.stock.items ≡ c.pop.new.self.items ++ c.unwrap-end.result ∷ [] = rw c.unwrap-end.ensures at c.pop.ensures.items in
     let stocked = stocked-popped c.self.inside.used.len c.insert_in_room.new.items.len c.self.inside.used.cap c.insert_in_room.new.items.cap c.self.inside.stock.cap c.pop.new.self.cap c.self.inside.stock.items c.pop.new.self.items c.unwrap-end.result c.self.invariant.stocked c.insert_in_room.ensures.capacity (omega (arith, c.pop.ensures.capacity)) popped c.insert_in_room.ensures.len in
     record {
       stocked = stocked;
       counted =
           c.insert_in_room-2.ensures.items ∙ ap (λ l. insert l (c.args.block + 1) (c.index.result.now + HALF)) c.self.invariant.counted
-          ∙ sym (starts-split used c.args.block (c.index.result.now + HALF) c.move_end.new.self c.move_end.new.to place parts (omega (arith, start, first)))
+          ∙ sym (starts-split used c.args.block (c.index.result.now + HALF) c.give_end.new.self c.give_end.new.next place parts (omega (arith, start, first)))
           ∙ ap starts_of (sym c.insert_in_room.ensures.items);
-      few = omega (arith, c.self.invariant.few, ap (λ l. length (all_facts l)) c.insert_in_room.ensures.items, facts-halved used c.args.block c.move_end.new.self c.move_end.new.to place parts);
+      few = omega (arith, c.self.invariant.few, ap (λ l. length (all_facts l)) c.insert_in_room.ensures.items, facts-halved used c.args.block c.give_end.new.self c.give_end.new.next place parts);
       fits_starts = omega (arith, c.self.invariant.fits_starts, c.insert_in_room.ensures.len, c.insert_in_room-2.ensures.capacity, ap length popped, length-append c.pop.new.self.items (c.unwrap-end.result ∷ []));
     }
+
+pub returns-clause-used : goal.returns-clause-used
+returns-clause-used c =
+    let used = c.self.inside.used.items in
+    let place : c.args.block < length c.self.inside.used.items = rw (← c.self.view_is) at c.requires.place in
+    let here : c.index_mut.result.now ≡ block_at c.self.inside.used.items c.args.block = get_or_read used c.args.block _ place c.index_mut.ensures.value [] in
+    let none : c.unwrap-end.result ≡ [] = search rules in
+    let back = c.give_end.ensures.back ∙ ap (λ l. drop HALF c.index_mut.result.now ++ l) none ∙ append-nil (drop HALF c.index_mut.result.now) ∙ ap (drop HALF) here in
+    rw (← c.self.view_is)
+    (c.insert_in_room.ensures.items ∙ ap (λ l. insert (set used c.args.block l) (c.args.block + 1) c.give_end.new.next) (c.give_end.ensures.front ∙ ap (take HALF) here)
+    ∙ ap (insert (set used c.args.block (take HALF (block_at used c.args.block))) (c.args.block + 1)) back)
