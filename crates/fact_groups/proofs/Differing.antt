@@ -1,22 +1,24 @@
--- Sums over numbers that differ at some of them, and the rows of facts whose groups differ at some codes.
-use Rattle.std.proofs.Common.{◌≡◌, ℕ, zero, suc, ◌+◌, ◌*◌, ◌<◌, ◌≤◌, Bool, true, false, List, [], ◌∷◌, get_or, length, refl, ap, sym, ◌∙◌, arith}
+-- Sums over numbers that differ at some of them, and the rows and answers of facts whose groups differ at some codes.
+use Rattle.std.proofs.Common.{◌≡◌, ℕ, zero, suc, ◌+◌, ◌*◌, ◌<◌, ◌≤◌, Bool, true, false, List, [], ◌∷◌, get_or, length, refl, ap, sym, ◌∙◌, arith, ℤ, pos, ◌+ℤ◌}
 use Rattle.std.specs.Prelude.{All, filter, ◌&&◌, ◌==◌, if◌then◌else◌}
 use Rattle.std.specs.List.{list_any, range_with_len, sum_by}
 use Rattle.std.specs.List.Sorted.{IsStrictlyIncreasing}
 use Rattle.std.specs.Option.{option_map_or}
 use Rattle.std.proofs.lemmas.Bool.Decides.{nat_tests}
+use Rattle.std.proofs.lemmas.Int.{ints}
 use Rattle.std.proofs.lemmas.List.Sums.{get_or-le-sum_by, sum_by-cons}
 use Rattle.cube_model.specs.declared.edit.Fact.{Fact}
 use Rattle.cube_model.specs.Allocation.{Policy, extended, row_count}
+use Rattle.cube_model.specs.Answer.{count_at, sum_at, total_by}
 use Rattle.cube_model.specs.Ascending.{ascends_from}
 use Rattle.cube_model.specs.Cells.{is_among}
 use Rattle.cube_model.specs.Tree.{Dimension, IsTree}
 use Rattle.cube_model.proofs.Ascending.{ascends_cons, ascends_filter}
 use Rattle.region_algebra.specs.Space.{IsRegion, code_of}
-use Rattle.fact_groups.specs.Groups.{AreGrouped, Group, group_at, groups_at, rows_in}
+use Rattle.fact_groups.specs.Groups.{AreGrouped, Group, HaveSameGroupsBut, count_in, group_at, groups_at, rows_in, sum_in}
 use Rattle.fact_groups.proofs.Ascending.{ascends-from_increasing, once_among, same_members}
-use Rattle.fact_groups.proofs.Groups.{rows-grouped, sum_by-filter_map}
-use Rattle.fact_groups.proofs.Partition.{sum_by-filter}
+use Rattle.fact_groups.proofs.Groups.{count-grouped, count_in-sum, count_over, rows-grouped, sum-grouped, sum_by-filter_map, sum_in-total, sum_over, total_by-filter_map}
+use Rattle.fact_groups.proofs.Partition.{sum_by-filter, total_by-filter}
 use Rattle.fact_groups.proofs.Statistics.{among-filter}
 
 -- numbers below a bound ascend, and are each there
@@ -80,6 +82,28 @@ sums_differ f g least from some all up all_up within same =
       exchange f g some all same,
     )
 
+-- the same of whole numbers
+exchange_totals : (f g : ℕ → ℤ) (some : List ℕ) (all : List ℕ) → ((x : ℕ) → is_among some x ≡ false → f x ≡ g x)
+    → total_by g all +ℤ total_by (λ x. if is_among some x then f x else pos 0) all ≡ total_by f all +ℤ total_by (λ x. if is_among some x then g x else pos 0) all
+exchange_totals f g some [] same = refl
+exchange_totals f g some (x ∷ all) same =
+    let here = either (is_among some x) (f x) (g x) (same x) in
+    let others = exchange_totals f g some all same in
+    omega (arith, ints, here, others)
+  where
+    either : (b : Bool) (m n : ℤ) → (b ≡ false → m ≡ n) → n +ℤ (if b then m else pos 0) ≡ m +ℤ (if b then n else pos 0)
+    either true m n is = omega (arith, ints)
+    either false m n is = let equal = is refl in omega (arith, ints, equal)
+
+pub totals_differ : (f g : ℕ → ℤ) (least from : ℕ) (some all : List ℕ) → ascends_from (λ x. x) least some ≡ true → ascends_from (λ x. x) from all ≡ true → ((x : ℕ) → is_among some x ≡ true → is_among all x ≡ true)
+    → ((x : ℕ) → is_among some x ≡ false → f x ≡ g x) → total_by g all +ℤ total_by f some ≡ total_by f all +ℤ total_by g some
+totals_differ f g least from some all up all_up within same =
+    let left = left-of-all least from some all up all_up within in
+    let first = ap (total_by f) left ∙ total_by-filter (is_among some) f all in
+    let second = ap (total_by g) left ∙ total_by-filter (is_among some) g all in
+    let changed = exchange_totals f g some all same in
+    omega (arith, ints, first, second, changed)
+
 -- a number among others is at most their sum
 among-le : (xs : List ℕ) (x : ℕ) → is_among xs x ≡ true → x ≤ sum_by (λ x. x) xs
 among-le [] x among = absurd (grind arith)
@@ -99,31 +123,81 @@ grouped-below dims facts n trees regions below = record {
       once_among 0 (range_with_len 0 n) (ascends-range 0 n) code ∙ ap (λ (b : Bool). if b then 1 else 0) (among-range 0 n code (omega arith) (omega (arith, below k d within))).1;
 }
 
--- so rows differ by those of the groups that differ
-module _ (policy : Policy) (columns : ℕ) (dims : List Dimension) (facts later : List Fact) (codes : List ℕ) where
-  abbrev rows_at : List Fact → ℕ → ℕ
-  rows_at among code = option_map_or (λ g. g.count * length g.spread.rows) (group_at policy columns dims among code) 0
+-- so what is a sum over the groups of facts differs by the groups that differ
+module _ (policy : Policy) (columns : ℕ) (dims : List Dimension) (facts later : List Fact) (codes : List ℕ)
+    (trees : All IsTree dims) (regions : All (λ f. IsRegion dims f.region) facts) (later_regions : All (λ f. IsRegion dims f.region) later) (up : IsStrictlyIncreasing codes)
+    (same : HaveSameGroupsBut codes policy columns dims facts later) where
+  abbrev groups_of : List Fact → List ℕ → List Group
+  groups_of among some = groups_at policy columns dims among some
 
-  rows-at : (among : List Fact) (some : List ℕ) → rows_in (groups_at policy columns dims among some) ≡ sum_by (rows_at among) some
-  rows-at among some = sum_by-filter_map (λ (g : Group). g.count * length g.spread.rows) (group_at policy columns dims among) some
+  -- numbers below a bound that no code reaches
+  bound : ℕ
+  bound = sum_by (λ f. code_of dims f.region) facts + sum_by (λ f. code_of dims f.region) later + sum_by (λ (x : ℕ). x) codes + 1
 
-  pub rows-differ : All IsTree dims → All (λ f. IsRegion dims f.region) facts → All (λ f. IsRegion dims f.region) later → IsStrictlyIncreasing codes
-      → ((code : ℕ) → is_among codes code ≡ false → group_at policy columns dims later code ≡ group_at policy columns dims facts code)
-      → row_count (extended policy dims later) + rows_in (groups_at policy columns dims facts codes) ≡ row_count (extended policy dims facts) + rows_in (groups_at policy columns dims later codes)
-  rows-differ trees regions later_regions up same =
-      let n = sum_by (λ f. code_of dims f.region) facts + sum_by (λ f. code_of dims f.region) later + sum_by (λ (x : ℕ). x) codes + 1 in
-      let all = range_with_len 0 n in
-      let before = grouped-below dims facts n trees regions (λ k d within. omega (arith, get_or-le-sum_by (λ (f : Fact). code_of dims f.region) facts k d within)) in
-      let now = grouped-below dims later n trees later_regions (λ k d within. omega (arith, get_or-le-sum_by (λ (f : Fact). code_of dims f.region) later k d within)) in
+  abbrev all_codes : List ℕ
+  all_codes = range_with_len 0 bound
+
+  before : AreGrouped dims facts all_codes
+  unfolding bound
+  before = grouped-below dims facts bound trees regions (λ k d within. omega (arith, get_or-le-sum_by (λ (f : Fact). code_of dims f.region) facts k d within))
+
+  now : AreGrouped dims later all_codes
+  unfolding bound
+  now = grouped-below dims later bound trees later_regions (λ k d within. omega (arith, get_or-le-sum_by (λ (f : Fact). code_of dims f.region) later k d within))
+
+  codes_within : (x : ℕ) → is_among codes x ≡ true → is_among all_codes x ≡ true
+  unfolding bound
+  codes_within x among = (among-range 0 bound x (omega arith) (omega (arith, among-le codes x among))).0
+
+  abbrev at_code : {Z : Type 0} → (Group → Z) → Z → List Fact → ℕ → Z
+  at_code value none among code = option_map_or value (group_at policy columns dims among code) none
+
+  sums-apart : (value : Group → ℕ) → sum_by value (groups_of later all_codes) + sum_by value (groups_of facts codes) ≡ sum_by value (groups_of facts all_codes) + sum_by value (groups_of later codes)
+  sums-apart value =
       omega (
         arith,
-        rows-grouped policy columns dims facts all before,
-        rows-grouped policy columns dims later all now,
-        rows-at facts all,
-        rows-at later all,
-        rows-at facts codes,
-        rows-at later codes,
-        sums_differ (rows_at facts) (rows_at later) 0 0 codes all (ascends-from_increasing codes up) (ascends-range 0 n)
-            (λ x among. (among-range 0 n x (omega arith) (omega (arith, among-le codes x among))).0)
-            (λ x other. ap (λ o. option_map_or (λ (g : Group). g.count * length g.spread.rows) o 0) (sym (same x other))),
+        sum_by-filter_map value (group_at policy columns dims facts) all_codes,
+        sum_by-filter_map value (group_at policy columns dims later) all_codes,
+        sum_by-filter_map value (group_at policy columns dims facts) codes,
+        sum_by-filter_map value (group_at policy columns dims later) codes,
+        sums_differ (at_code value 0 facts) (at_code value 0 later) 0 0 codes all_codes (ascends-from_increasing codes up) (ascends-range 0 bound) codes_within
+            (λ x other. ap (λ o. option_map_or value o 0) (sym (same x other))),
       )
+
+  totals-apart : (value : Group → ℤ) → total_by value (groups_of later all_codes) +ℤ total_by value (groups_of facts codes) ≡ total_by value (groups_of facts all_codes) +ℤ total_by value (groups_of later codes)
+  totals-apart value =
+      let all_before = total_by-filter_map value (group_at policy columns dims facts) all_codes in
+      let all_now = total_by-filter_map value (group_at policy columns dims later) all_codes in
+      let some_before = total_by-filter_map value (group_at policy columns dims facts) codes in
+      let some_now = total_by-filter_map value (group_at policy columns dims later) codes in
+      let changed = totals_differ (at_code value (pos 0) facts) (at_code value (pos 0) later) 0 0 codes all_codes (ascends-from_increasing codes up) (ascends-range 0 bound) codes_within
+      (λ x other. ap (λ o. option_map_or value o (pos 0)) (sym (same x other))) in
+      omega (arith, ints, all_before, all_now, some_before, some_now, changed)
+
+  pub rows-differ : row_count (extended policy dims later) + rows_in (groups_of facts codes) ≡ row_count (extended policy dims facts) + rows_in (groups_of later codes)
+  rows-differ =
+      omega (arith, rows-grouped policy columns dims facts all_codes before, rows-grouped policy columns dims later all_codes now, sums-apart (λ g. g.count * length g.spread.rows))
+
+  module _ (cells : List ℕ) (den : ℕ) where
+    pub counts-differ : count_at cells (extended policy dims later) den + count_in cells (groups_of facts codes) den ≡ count_at cells (extended policy dims facts) den + count_in cells (groups_of later codes) den
+    counts-differ =
+        omega (
+          arith,
+          count-grouped policy columns dims facts all_codes before cells den,
+          count-grouped policy columns dims later all_codes now cells den,
+          count_in-sum cells den (groups_of facts all_codes),
+          count_in-sum cells den (groups_of later all_codes),
+          count_in-sum cells den (groups_of facts codes),
+          count_in-sum cells den (groups_of later codes),
+          sums-apart (count_over cells den),
+        )
+
+  module _ (cells : List ℕ) (column den : ℕ) (within : column < columns) where
+    pub columns-differ : sum_at cells (extended policy dims later) column den +ℤ sum_in cells (groups_of facts codes) column den ≡ sum_at cells (extended policy dims facts) column den +ℤ sum_in cells (groups_of later codes) column den
+    columns-differ =
+        let all_before = sum-grouped policy columns dims facts all_codes before cells column den within ∙ sum_in-total cells column den (groups_of facts all_codes) in
+        let all_now = sum-grouped policy columns dims later all_codes now cells column den within ∙ sum_in-total cells column den (groups_of later all_codes) in
+        let some_before = sum_in-total cells column den (groups_of facts codes) in
+        let some_now = sum_in-total cells column den (groups_of later codes) in
+        let changed = totals-apart (sum_over cells column den) in
+        omega (arith, ints, all_before, all_now, some_before, some_now, changed)

@@ -18,7 +18,8 @@ use Rattle.cube_model.specs.Facts.{after, has_id, put, withdraw}
 use Rattle.cube_model.proofs.Ascending.{ascends_filter}
 use Rattle.fact_groups.specs.Edits.{edited_id, given, taken}
 use Rattle.fact_groups.proofs.Ascending.{ascends-append, ascends-from_pairs, ascends-raised, pairs-first, pairs-from_ascends, pairs-rest}
-use Rattle.fact_groups.proofs.Partition.{sum_by-either, sum_by-ones, total_by-either, total_by-filter}
+use Rattle.fact_groups.proofs.Filters.{filter-within}
+use Rattle.fact_groups.proofs.Partition.{sum_by-either, sum_by-ones, total_by-append, total_by-either, total_by-filter}
 
 abbrev pub smaller : ℕ → List Fact → List Fact
 smaller id facts = filter (λ f. nat_lt f.id id) facts
@@ -30,20 +31,10 @@ abbrev pub greater : ℕ → List Fact → List Fact
 greater id facts = filter (λ f. nat_lt id f.id) facts
 
 -- a change puts its fact over the one of its id, as a put does
-filter-within : (p q : Fact → Bool) (facts : List Fact) → ((f : Fact) → p f ≡ true → q f ≡ true) → filter p (filter q facts) ≡ filter p facts
-filter-within p q [] weaker = refl
-filter-within p q (fact ∷ facts) weaker = either (p fact) (q fact) refl refl (filter-within p q facts weaker)
-  where
-    either : (a b : Bool) → p fact ≡ a → q fact ≡ b → filter p (filter q facts) ≡ filter p facts → filter p (filter q (fact ∷ facts)) ≡ filter p (fact ∷ facts)
-    either true true is also rest = rw (also, is) (ap (λ fs. fact ∷ fs) rest)
-    either true false is also rest = absurd (grind (arith, weaker fact is))
-    either false true is also rest = rw (also, is) rest
-    either false false is also rest = rw (also, is) rest
-
 pub put-withdraw : (fact : Fact) (facts : List Fact) → put fact (withdraw fact.id facts) ≡ put fact facts
 put-withdraw fact facts =
-    let below = filter-within (λ f. nat_lt f.id fact.id) (λ f. not (f.id == fact.id)) facts (λ f is. grind (arith, nat_tests)) in
-    let above = filter-within (λ f. nat_lt fact.id f.id) (λ f. not (f.id == fact.id)) facts (λ f is. grind (arith, nat_tests)) in
+    let below = filter-within {X = Fact} (λ f. nat_lt f.id fact.id) (λ f. not (f.id == fact.id)) facts (λ f is. grind (arith, nat_tests)) in
+    let above = filter-within {X = Fact} (λ f. nat_lt fact.id f.id) (λ f. not (f.id == fact.id)) facts (λ f is. grind (arith, nat_tests)) in
     ap (λ fs. fs ++ fact ∷ greater fact.id (withdraw fact.id facts)) below ∙ ap (λ fs. smaller fact.id facts ++ fact ∷ fs) above
 
 -- of facts in order of their ids, those of an id are the one that is found, if one is
@@ -101,10 +92,6 @@ module _ (f : Fact → ℕ) where
 
 -- the same of whole numbers
 module _ (f : Fact → ℤ) where
-  total-append : (xs ys : List Fact) → total_by f (xs ++ ys) ≡ total_by f xs +ℤ total_by f ys
-  total-append [] ys = omega (arith, ints)
-  total-append (x ∷ xs) ys = let others = total-append xs ys in omega (arith, ints, others)
-
   total-three_ways : (id : ℕ) (facts : List Fact) → total_by f (smaller id facts) +ℤ total_by f (same id facts) +ℤ total_by f (greater id facts) ≡ total_by f facts
   total-three_ways id [] = refl
   total-three_ways id (fact ∷ facts) =
@@ -130,7 +117,7 @@ module _ (f : Fact → ℤ) where
 
   total-put : (fact : Fact) (facts : List Fact) → total_by f (put fact facts) +ℤ total_by f (same fact.id facts) ≡ total_by f facts +ℤ f fact
   total-put fact facts =
-      let parts = total-append (smaller fact.id facts) (fact ∷ greater fact.id facts) in
+      let parts = total_by-append f (smaller fact.id facts) (fact ∷ greater fact.id facts) in
       let ways = total-three_ways fact.id facts in
       omega (arith, ints, parts, ways)
 

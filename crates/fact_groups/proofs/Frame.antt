@@ -1,6 +1,6 @@
 -- Regions that hold no cell which weighs otherwise are spread as before.
 use Rattle.std.proofs.Common.{◌≡◌, ℕ, ◌<◌, Bool, true, false, List, [], ◌∷◌, get_or, map, refl, ap, sym, ◌∙◌, arith}
-use Rattle.std.specs.Prelude.{All, AllPairs, filter, nat_lt, ◌==◌, if◌then◌else◌}
+use Rattle.std.specs.Prelude.{All, AllPairs, filter, nat_lt, not, ◌&&◌, ◌==◌, if◌then◌else◌}
 use Rattle.std.specs.List.{list_any, sum_by}
 use Rattle.std.proofs.lemmas.Bool.Decides.{nat_tests}
 use Rattle.std.proofs.lemmas.List.Elements.{All-head, All-tail}
@@ -10,9 +10,9 @@ use Rattle.cube_model.specs.declared.edit.Edit.{Edit}
 use Rattle.cube_model.specs.declared.edit.Fact.{Fact}
 use Rattle.cube_model.specs.Allocation.{Allocation, Policy, spread, spread_evenly, weight_of}
 use Rattle.cube_model.specs.Cells.{cells_of, is_among, is_single}
-use Rattle.cube_model.specs.Facts.{after}
+use Rattle.cube_model.specs.Facts.{after, is_precise}
 use Rattle.cube_model.specs.Tree.{Dimension}
-use Rattle.fact_groups.specs.Changes.{holds_any, is_reweighed, reweighed_cells}
+use Rattle.fact_groups.specs.Changes.{covers_any, holds_any, is_reweighed, reweighed_cells}
 use Rattle.fact_groups.specs.Groups.{spread_at}
 use Rattle.fact_groups.proofs.Statistics.{among-reweighed}
 
@@ -85,3 +85,12 @@ single-spread v cells false single is = cc
 pub spread_at-single : (policy : Policy) (dims : List Dimension) (facts : List Fact) (region : List ℕ) → is_single (cells_of dims region) ≡ true → spread_at policy dims facts region ≡ spread_evenly (cells_of dims region)
 unfolding spread_at
 spread_at-single policy dims facts region single = single-spread (weight_of policy dims facts) (cells_of dims region) true single refl
+
+-- so the region of a fact that covers no cell which weighs otherwise is spread as before
+pub spread_at-uncovered : (policy : Policy) (dims : List Dimension) (edit : Edit) (facts : List Fact) → AllPairs (λ f g. f.id < g.id) facts → (fact : Fact)
+    → covers_any dims (reweighed_cells policy dims edit facts) fact ≡ false → spread_at policy dims (after edit facts) fact.region ≡ spread_at policy dims facts fact.region
+spread_at-uncovered policy dims edit facts up fact none = either (is_precise dims fact) refl none
+  where
+    either : (b : Bool) → is_precise dims fact ≡ b → (not b && holds_any dims fact.region (reweighed_cells policy dims edit facts)) ≡ false → spread_at policy dims (after edit facts) fact.region ≡ spread_at policy dims facts fact.region
+    either true single none = spread_at-single policy dims (after edit facts) fact.region single ∙ sym (spread_at-single policy dims facts fact.region single)
+    either false several none = spread_at-kept policy dims edit facts up fact.region none

@@ -1,6 +1,6 @@
 -- What is added up over facts is what is added up over their groups.
 use Rattle.std.proofs.Common.{◌≡◌, ℕ, zero, suc, ◌+◌, ◌*◌, ◌<◌, Bool, true, false, List, [], ◌∷◌, get_or, length, map, refl, ap, sym, subst, ◌∙◌, arith, ℤ, pos, ◌+ℤ◌, ◌*ℤ◌}
-use Rattle.std.specs.Prelude.{All, Option, Some, None, filter, find, slice_index_or, ◌==◌, if◌then◌else◌}
+use Rattle.std.specs.Prelude.{All, IfSome, Option, Some, None, filter, find, slice_index_or, ◌==◌, if◌then◌else◌}
 use Rattle.std.specs.List.{cons_option, filter_map, list_any, sum_by}
 use Rattle.std.specs.List.Sorted.{IsStrictlyIncreasing}
 use Rattle.std.specs.Option.{option_map, option_map_or}
@@ -24,11 +24,11 @@ use Rattle.fact_groups.proofs.Partition.{shares_over_keys, sum_by-alike, sum_by-
 use Rattle.fact_groups.proofs.Sharing.{allocation-shared, allocation-spread_at}
 
 -- sums over what is made of each item
-sum_by-map : {X Y : Type 0} (g : Y → ℕ) (h : X → Y) (xs : List X) → sum_by g (map h xs) ≡ sum_by (λ x. g (h x)) xs
+pub sum_by-map : {X Y : Type 0} (g : Y → ℕ) (h : X → Y) (xs : List X) → sum_by g (map h xs) ≡ sum_by (λ x. g (h x)) xs
 sum_by-map g h [] = refl
 sum_by-map g h (x ∷ xs) = omega (arith, sum_by-cons g (h x) (map h xs), sum_by-map g h xs, sum_by-cons (λ x. g (h x)) x xs)
 
-total_by-map : {X Y : Type 0} (g : Y → ℤ) (h : X → Y) (xs : List X) → total_by g (map h xs) ≡ total_by (λ x. g (h x)) xs
+pub total_by-map : {X Y : Type 0} (g : Y → ℤ) (h : X → Y) (xs : List X) → total_by g (map h xs) ≡ total_by (λ x. g (h x)) xs
 total_by-map g h [] = refl
 total_by-map g h (x ∷ xs) = ap (λ z. g (h x) +ℤ z) (total_by-map g h xs)
 
@@ -44,9 +44,22 @@ total_by-option : {Y : Type 0} (g : Y → ℤ) (o : Option Y) (ys : List Y) → 
 total_by-option g None ys = omega (arith, ints)
 total_by-option g (Some y) ys = refl
 
-total_by-filter_map : {X Y : Type 0} (g : Y → ℤ) (h : X → Option Y) (xs : List X) → total_by g (filter_map h xs) ≡ total_by (λ x. option_map_or g (h x) (pos 0)) xs
+pub total_by-filter_map : {X Y : Type 0} (g : Y → ℤ) (h : X → Option Y) (xs : List X) → total_by g (filter_map h xs) ≡ total_by (λ x. option_map_or g (h x) (pos 0)) xs
 total_by-filter_map g h [] = refl
 total_by-filter_map g h (x ∷ xs) = total_by-option g (h x) (filter_map h xs) ∙ ap (λ z. option_map_or g (h x) (pos 0) +ℤ z) (total_by-filter_map g h xs)
+
+-- what a group adds to a numerator at a denominator, over cells
+abbrev pub count_over : List ℕ → ℕ → Group → ℕ
+count_over cells den g = if g.spread.den == den then g.count * weight_inside cells g.spread else 0
+
+abbrev pub sum_over : List ℕ → ℕ → ℕ → Group → ℤ
+sum_over cells column den g = if g.spread.den == den then pos (weight_inside cells g.spread) *ℤ slice_index_or g.sums column (pos 0) else pos 0
+
+pub count_in-sum : (cells : List ℕ) (den : ℕ) (groups : List Group) → count_in cells groups den ≡ sum_by (count_over cells den) groups
+count_in-sum cells den groups = sum_by-filter (λ (g : Group). g.spread.den == den) (λ g. g.count * weight_inside cells g.spread) groups
+
+pub sum_in-total : (cells : List ℕ) (column den : ℕ) (groups : List Group) → sum_in cells groups column den ≡ total_by (sum_over cells column den) groups
+sum_in-total cells column den groups = total_by-filter (λ (g : Group). g.spread.den == den) (λ g. pos (weight_inside cells g.spread) *ℤ slice_index_or g.sums column (pos 0)) groups
 
 -- the first of the facts that pass passes, and where none is found none passes
 pub first-passes : (p : Fact → Bool) (facts : List Fact) (fact : Fact) → find p facts ≡ Some fact → p fact ≡ true
@@ -79,13 +92,22 @@ none-passes p (f ∷ facts) none = either (p f) refl none (none-passes p facts)
     either true is none rest = let here : Some f ≡ None = rw is at none in cc
     either false is none rest = rw is (rest (rw is at none))
 
-some-passes : (p : Fact → Bool) (facts : List Fact) (fact : Fact) → find p facts ≡ Some fact → (length (filter p facts) == 0) ≡ false
-some-passes p [] fact found = cc
-some-passes p (f ∷ facts) fact found = either (p f) refl found (some-passes p facts fact)
+-- of facts among which one is found that passes, some pass
+pub kept-some : (p q : Fact → Bool) (facts : List Fact) (fact : Fact) → find q facts ≡ Some fact → p fact ≡ true → (length (filter p facts) == 0) ≡ false
+kept-some p q [] fact found passes = cc
+kept-some p q (f ∷ facts) fact found passes = either (q f) (p f) refl refl found (λ rest. kept-some p q facts fact rest passes)
   where
-    either : (b : Bool) → p f ≡ b → find p (f ∷ facts) ≡ Some fact → (find p facts ≡ Some fact → (length (filter p facts) == 0) ≡ false) → (length (filter p (f ∷ facts)) == 0) ≡ false
-    either true is found rest = rw is (grind (arith, nat_tests))
-    either false is found rest = rw is (rest (rw is at found))
+    either : (a b : Bool) → q f ≡ a → p f ≡ b → find q (f ∷ facts) ≡ Some fact → (find q facts ≡ Some fact → (length (filter p facts) == 0) ≡ false) → (length (filter p (f ∷ facts)) == 0) ≡ false
+    either a true is may found rest = rw may (grind (arith, nat_tests))
+    either true false is may found rest =
+        let here : Some f ≡ Some fact = rw is at found in
+        let its : f ≡ fact = cc in
+        let alike = ap p its in
+        cc
+    either false false is may found rest = rw may (rest (rw is at found))
+
+pub some-passes : (p : Fact → Bool) (facts : List Fact) (fact : Fact) → find p facts ≡ Some fact → (length (filter p facts) == 0) ≡ false
+some-passes p facts fact found = kept-some p p facts fact found (first-passes p facts fact found)
 
 -- a fact that passes is found, or one before it
 some-found : (p : Fact → Bool) (facts : List Fact) (k : ℕ) (d : Fact) → k < length facts → p (get_or facts k d) ≡ true → find p facts ≡ None → ⊥
@@ -136,6 +158,19 @@ module _ (policy : Policy) (columns : ℕ) (dims : List Dimension) (facts : List
       else Some (record { spread = spread_at policy dims facts region; count = length (facts_with dims (code_of dims region) facts); sums = column_sums columns (facts_with dims (code_of dims region) facts) }))
   group_at-region region trees regions named = of_region region (code_of dims region) refl trees regions named (find (has_code dims (code_of dims region)) facts) refl
 
+  -- so the group of a fact's region is there, and is spread as the region is
+  pub group_at-found : (id : ℕ) → All IsTree dims → All (λ f. IsRegion dims f.region) facts
+      → IfSome (find (λ f. f.id == id) facts) (λ f. option_map (λ g. g.spread) (group_at policy columns dims facts (code_of dims f.region)) ≡ Some (spread_at policy dims facts f.region))
+  group_at-found id trees regions = either (find (λ f. f.id == id) facts) refl
+    where
+      either : (found : Option Fact) → find (λ f. f.id == id) facts ≡ found → IfSome found (λ f. option_map (λ g. g.spread) (group_at policy columns dims facts (code_of dims f.region)) ≡ Some (spread_at policy dims facts f.region))
+      either None is = tt
+      either (Some f) is =
+          let code = code_of dims f.region in
+          let here : has_code dims code f ≡ true = grind (arith, nat_tests) in
+          ap (option_map (λ g. g.spread)) (group_at-region f.region trees regions (first-holds (λ f. IsRegion dims f.region) (λ f. f.id == id) facts f regions is))
+          ∙ ap (λ (b : Bool). option_map (λ g. g.spread) (if b then None else Some (with_spread code (spread_at policy dims facts f.region)))) (kept-some (has_code dims code) (λ f. f.id == id) facts f is here)
+
   module _ (codes : List ℕ) (grouped : AreGrouped dims facts codes) where
     -- what is taken of a code's spread is what is taken of a fact's allocation
     pub spread-at : {Z : Type 0} (value : Allocation → Z) (none : Z) (k : ℕ) (d : Fact) → k < length facts → (code : ℕ) → has_code dims code (get_or facts k d) ≡ true
@@ -185,8 +220,8 @@ module _ (policy : Policy) (columns : ℕ) (dims : List Dimension) (facts : List
         sum_by-filter (λ (e : ExtendedFact). e.allocation.den == den) (λ e. weight_inside cells e.allocation) (map extended_fact facts)
         ∙ sum_by-map (λ (e : ExtendedFact). if e.allocation.den == den then weight_inside cells e.allocation else 0) extended_fact facts
         ∙ values-grouped (inside_over cells den)
-        ∙ sum_by-alike (λ (g : Group). g.count * inside_over cells den g.spread) (λ g. if g.spread.den == den then g.count * weight_inside cells g.spread else 0) groups (λ g. scaled-if (g.spread.den == den) g.count (weight_inside cells g.spread))
-        ∙ sym (sum_by-filter (λ (g : Group). g.spread.den == den) (λ g. g.count * weight_inside cells g.spread) groups)
+        ∙ sum_by-alike (λ (g : Group). g.count * inside_over cells den g.spread) (count_over cells den) groups (λ g. scaled-if (g.spread.den == den) g.count (weight_inside cells g.spread))
+        ∙ sym (count_in-sum cells den groups)
 
     -- the same of a column
     shared-if : (b : Bool) (x : ℤ) (w : ℕ) → (if b then pos w *ℤ x else pos 0) ≡ x *ℤ pos (if b then w else 0)
@@ -200,11 +235,8 @@ module _ (policy : Policy) (columns : ℕ) (dims : List Dimension) (facts : List
       abbrev share : ℕ → ℕ
       share code = option_map_or (λ g. inside_over cells den g.spread) (group_at policy columns dims facts code) 0
 
-      abbrev of_group : Group → ℤ
-      of_group g = if g.spread.den == den then pos (weight_inside cells g.spread) *ℤ slice_index_or g.sums column (pos 0) else pos 0
-
       one_sum : column < columns → (code : ℕ) (found : Option Fact) → total_by value (facts_with dims code facts) *ℤ pos (option_map_or (λ g. inside_over cells den g.spread) (option_map (group_from code) found) 0)
-          ≡ option_map_or of_group (option_map (group_from code) found) (pos 0)
+          ≡ option_map_or (sum_over cells column den) (option_map (group_from code) found) (pos 0)
       one_sum within code None = *ℤ-zero (total_by value (facts_with dims code facts))
       one_sum within code (Some f) =
           let a = allocation policy dims facts f in
@@ -224,7 +256,7 @@ module _ (policy : Policy) (columns : ℕ) (dims : List Dimension) (facts : List
           let f = get_or facts k d in
           shared-if ((allocation policy dims facts f).den == den) (value f) (weight_inside cells (allocation policy dims facts f))
           ∙ ap (λ n. value f *ℤ pos n) (spread-at (inside_over cells den) 0 k d in_facts code passes))
-          ∙ total_by-same (λ code. total_by value (facts_with dims code facts) *ℤ pos (share code)) (λ code. option_map_or of_group (group_at policy columns dims facts code) (pos 0)) codes
+          ∙ total_by-same (λ code. total_by value (facts_with dims code facts) *ℤ pos (share code)) (λ code. option_map_or (sum_over cells column den) (group_at policy columns dims facts code) (pos 0)) codes
           (λ j e in_codes. one_sum within (get_or codes j e) (find (has_code dims (get_or codes j e)) facts))
-          ∙ sym (total_by-filter_map of_group (group_at policy columns dims facts) codes)
-          ∙ sym (total_by-filter (λ (g : Group). g.spread.den == den) (λ g. pos (weight_inside cells g.spread) *ℤ slice_index_or g.sums column (pos 0)) (groups_at policy columns dims facts codes))
+          ∙ sym (total_by-filter_map (sum_over cells column den) (group_at policy columns dims facts) codes)
+          ∙ sym (sum_in-total cells column den (groups_at policy columns dims facts codes))

@@ -1,11 +1,14 @@
 pub mod Answering
 pub mod Ascending
+pub mod AsFacts
 pub mod Differing
 pub mod Edits
 pub mod Elsewhere
+pub mod Filters
 pub mod Frame
 pub mod Groups
 pub mod Partition
 pub mod Refreshing
+pub mod Respreading
 pub mod Sharing
 pub mod Statistics

@@ -1,5 +1,5 @@
 -- Where each item is held by exactly one of the keys, sums over items are sums over keys.
-use Rattle.std.proofs.Common.{◌≡◌, ℕ, ◌+◌, ◌*◌, Bool, true, false, List, [], ◌∷◌, get_or, length, refl, ap, sym, ◌∙◌, arith, ℤ, pos, ◌+ℤ◌, ◌*ℤ◌}
+use Rattle.std.proofs.Common.{◌≡◌, ℕ, ◌+◌, ◌*◌, Bool, true, false, List, [], ◌∷◌, ◌++◌, get_or, length, refl, ap, sym, ◌∙◌, arith, ℤ, pos, ◌+ℤ◌, ◌*ℤ◌}
 use Rattle.std.specs.Prelude.{All, filter, if◌then◌else◌}
 use Rattle.std.specs.List.{count_by, sum_by}
 use Rattle.std.proofs.lemmas.Int.{ints}
@@ -27,12 +27,17 @@ pub total_by-filter : {X : Type 0} (p : X → Bool) (f : X → ℤ) (xs : List X
 total_by-filter p f [] = refl
 total_by-filter p f (x ∷ xs) = total_by-either (p x) f x (filter p xs) ∙ ap (λ z. (if p x then f x else pos 0) +ℤ z) (total_by-filter p f xs)
 
+-- sums over two lists in a row
+pub total_by-append : {X : Type 0} (f : X → ℤ) (xs ys : List X) → total_by f (xs ++ ys) ≡ total_by f xs +ℤ total_by f ys
+total_by-append f [] ys = omega (arith, ints)
+total_by-append f (x ∷ xs) ys = let others = total_by-append f xs ys in omega (arith, ints, others)
+
 -- sums of nothing
 sum_by-nothing : {X : Type 0} (xs : List X) → sum_by (λ x. 0) xs ≡ 0
 sum_by-nothing [] = refl
 sum_by-nothing (x ∷ xs) = omega (arith, sum_by-cons (λ x. 0) x xs, sum_by-nothing xs)
 
-total_by-nothing : {X : Type 0} (xs : List X) → total_by (λ x. pos 0) xs ≡ pos 0
+pub total_by-nothing : {X : Type 0} (xs : List X) → total_by (λ x. pos 0) xs ≡ pos 0
 total_by-nothing [] = refl
 total_by-nothing (x ∷ xs) = let others = total_by-nothing xs in omega (arith, ints, others)
 

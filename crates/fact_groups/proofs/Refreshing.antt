@@ -13,17 +13,17 @@ use Rattle.cube_model.specs.Allocation.{Allocation, Policy, allocation}
 use Rattle.cube_model.specs.Ascending.{ascends_from}
 use Rattle.cube_model.specs.Cells.{is_among}
 use Rattle.cube_model.specs.Difference.{is_same, lies_as_before, refreshed}
-use Rattle.cube_model.specs.Facts.{after, is_precise}
+use Rattle.cube_model.specs.Facts.{after}
 use Rattle.cube_model.specs.Tree.{Dimension}
 use Rattle.cube_model.proofs.Ascending.{ascends_filter, ascends_map}
 use Rattle.dim_tree.proofs.Climbing.{both, together}
-use Rattle.fact_groups.specs.Changes.{covers_any, holds_any, reweighed_cells}
+use Rattle.fact_groups.specs.Changes.{covers_any, reweighed_cells}
 use Rattle.fact_groups.specs.Edits.{edited_id, given}
 use Rattle.fact_groups.specs.Groups.{spread_at}
 use Rattle.fact_groups.specs.Refreshed.{is_new_or_moved, is_refreshed, is_spread_anew, is_spread_otherwise}
 use Rattle.fact_groups.proofs.Ascending.{ascends-from_pairs, pairs-first, pairs-rest}
 use Rattle.fact_groups.proofs.Edits.{find-after, pairs-after}
-use Rattle.fact_groups.proofs.Frame.{spread_at-kept, spread_at-single}
+use Rattle.fact_groups.proofs.Frame.{spread_at-uncovered}
 use Rattle.fact_groups.proofs.Sharing.{allocation-spread_at}
 
 -- of facts in order of their ids, the one with an id passes a test where some fact has the id and passes
@@ -34,7 +34,7 @@ or-none : (b c : Bool) → c ≡ false → (b || c) ≡ b
 or-none true c none = refl
 or-none false c none = none
 
-any-found : (id : ℕ) (p : Fact → Bool) (facts : List Fact) → AllPairs (λ f g. f.id < g.id) facts → list_any (λ f. f.id == id && p f) facts ≡ option_map_or p (find (λ f. f.id == id) facts) false
+pub any-found : (id : ℕ) (p : Fact → Bool) (facts : List Fact) → AllPairs (λ f g. f.id < g.id) facts → list_any (λ f. f.id == id && p f) facts ≡ option_map_or p (find (λ f. f.id == id) facts) false
 any-found id p [] up = refl
 any-found id p (fact ∷ facts) up = either (fact.id == id) refl (any-found id p facts (pairs-rest (λ f g. f.id < g.id) fact facts up))
   where
@@ -47,7 +47,7 @@ any-found id p (fact ∷ facts) up = either (fact.id == id) refl (any-found id p
     either false is rest = rw is rest
 
 -- the ids of those that pass
-among-kept : (id : ℕ) (p : Fact → Bool) (facts : List Fact) → is_among (map (λ f. f.id) (filter p facts)) id ≡ list_any (λ f. f.id == id && p f) facts
+pub among-kept : (id : ℕ) (p : Fact → Bool) (facts : List Fact) → is_among (map (λ f. f.id) (filter p facts)) id ≡ list_any (λ f. f.id == id && p f) facts
 among-kept id p [] = refl
 among-kept id p (fact ∷ facts) = either (p fact) (fact.id == id) refl refl (among-kept id p facts)
   where
@@ -84,7 +84,7 @@ pub same_allocation : (a : Allocation) → is_same a a ≡ true
 same_allocation a = together (grind (arith, nat_tests)) ((pointwise_decides row-decides a.rows a.rows).1 refl)
 
 -- the fact that is found has the id
-found-has : (id : ℕ) (facts : List Fact) (fact : Fact) → find (λ f. f.id == id) facts ≡ Some fact → fact.id ≡ id
+pub found-has : (id : ℕ) (facts : List Fact) (fact : Fact) → find (λ f. f.id == id) facts ≡ Some fact → fact.id ≡ id
 found-has id [] fact found = cc
 found-has id (f ∷ facts) fact found = either (f.id == id) refl found (found-has id facts fact)
   where
@@ -114,21 +114,14 @@ module _ (policy : Policy) (dims : List Dimension) (edit : Edit) (facts : List F
           ap (λ a. not (is_same a (allocation policy dims later fact))) (allocation-spread_at policy dims facts f)
           ∙ ap (λ a. not (is_same (spread_at policy dims facts f.region) a)) (allocation-spread_at policy dims later fact)
 
-  -- a region that covers no cell which weighs otherwise is spread as before
-  uncovered : (fact : Fact) → covers_any dims (reweighed_cells policy dims edit facts) fact ≡ false → spread_at policy dims later fact.region ≡ spread_at policy dims facts fact.region
-  uncovered fact none = either (is_precise dims fact) refl none
-    where
-      either : (b : Bool) → is_precise dims fact ≡ b → (not b && holds_any dims fact.region (reweighed_cells policy dims edit facts)) ≡ false → spread_at policy dims later fact.region ≡ spread_at policy dims facts fact.region
-      either true single none = spread_at-single policy dims later fact.region single ∙ sym (spread_at-single policy dims facts fact.region single)
-      either false several none = spread_at-kept policy dims edit facts up fact.region none
-
-  otherwise : (fact : Fact) → is_spread_otherwise policy dims edit facts fact.region fact.region ≡ is_spread_anew policy dims edit facts fact
+  -- a region is spread otherwise where it is spread anew
+  pub otherwise : (fact : Fact) → is_spread_otherwise policy dims edit facts fact.region fact.region ≡ is_spread_anew policy dims edit facts fact
   otherwise fact = either (covers_any dims (reweighed_cells policy dims edit facts) fact) refl
     where
       either : (b : Bool) → covers_any dims (reweighed_cells policy dims edit facts) fact ≡ b
           → is_spread_otherwise policy dims edit facts fact.region fact.region ≡ (b && is_spread_otherwise policy dims edit facts fact.region fact.region)
       either true is = refl
-      either false is = ap (λ a. not (is_same (spread_at policy dims facts fact.region) a)) (uncovered fact is) ∙ ap not (same_allocation (spread_at policy dims facts fact.region))
+      either false is = ap (λ a. not (is_same (spread_at policy dims facts fact.region) a)) (spread_at-uncovered policy dims edit facts up fact is) ∙ ap not (same_allocation (spread_at policy dims facts fact.region))
 
   -- of the facts that the edit does not give
   others : (fact : Fact) → find (λ f. f.id == fact.id) later ≡ Some fact → (edited_id edit == fact.id) ≡ false → is_new_or_moved policy dims edit facts fact ≡ is_spread_anew policy dims edit facts fact

@@ -1,6 +1,7 @@
 -- What an edit does to the statistics and the weights of cells.
 use Rattle.std.proofs.Common.{◌≡◌, ℕ, ◌+◌, ◌<◌, ◌≤◌, Bool, true, false, List, [], ◌∷◌, length, refl, ap, sym, ◌∙◌, arith}
 use Rattle.std.specs.Prelude.{AllPairs, Option, Some, None, filter, not, ◌&&◌, ◌||◌, ◌==◌, if◌then◌else◌}
+use Rattle.std.specs.List.{sum_by}
 use Rattle.std.specs.Option.{option_map_or}
 use Rattle.std.proofs.lemmas.Bool.Decides.{nat_tests}
 use Rattle.cube_model.specs.declared.edit.Edit.{Edit}
@@ -16,6 +17,7 @@ use Rattle.region_algebra.specs.Space.{only_cell}
 use Rattle.fact_groups.specs.Changes.{cell_of, cells_in_order, changed_cells, is_changed, is_reweighed, is_same_stat, reweighed_cells, touched_cells}
 use Rattle.fact_groups.specs.Edits.{given, taken}
 use Rattle.fact_groups.proofs.Edits.{sum-after}
+use Rattle.fact_groups.proofs.Filters.{filter-within, sum_by-filter-le}
 use Rattle.fact_groups.proofs.Partition.{sum_by-filter}
 
 -- the cells in order are those that there are, at most two, and ascend
@@ -109,7 +111,7 @@ among-filter p (c ∷ cells) cell = either (c == cell) (p c) (p cell) refl refl 
     either false true here is passes may rest = rw (passes, is) rest
     either false false here is passes may rest = rw (passes, is) rest
 
-passing-are : (p : ℕ → Bool) (cells : List ℕ) (cell : ℕ) → (is_among cells cell ≡ false → p cell ≡ false) → is_among (filter p cells) cell ≡ p cell
+pub passing-are : (p : ℕ → Bool) (cells : List ℕ) (cell : ℕ) → (is_among cells cell ≡ false → p cell ≡ false) → is_among (filter p cells) cell ≡ p cell
 passing-are p cells cell none = among-filter p cells cell ∙ either (p cell) (is_among cells cell) none
   where
     either : (a b : Bool) → (b ≡ false → a ≡ false) → (a && b) ≡ a
@@ -146,6 +148,32 @@ module _ (policy : Policy) (dims : List Dimension) (edit : Edit) (facts : List F
   pub ascends-reweighed : ascends_from (λ cell. cell) 0 (reweighed_cells policy dims edit facts) ≡ true
   unfolding reweighed_cells
   ascends-reweighed = ascends_filter (λ (cell : ℕ). cell) (is_reweighed policy dims edit facts) 0 (touched_cells dims edit facts) (ascends-touched dims edit facts)
+
+  -- a cell that weighs otherwise has other statistics, so the cells that do are some of those that have
+  reweighed-changed : (cell : ℕ) → is_reweighed policy dims edit facts cell ≡ true → is_changed policy dims edit facts cell ≡ true
+  reweighed-changed cell is = either (is_changed policy dims edit facts cell) refl
+    where
+      either : (b : Bool) → is_changed policy dims edit facts cell ≡ b → is_changed policy dims edit facts cell ≡ true
+      either true changed = changed
+      either false same =
+          let weight : weight_of policy dims (after edit facts) cell ≡ weight_of policy dims facts cell = ap policy.weigh (equal_stats (stat_of policy dims facts cell) (stat_of policy dims (after edit facts) cell) same) in
+          absurd (grind (arith, nat_tests, weight, is))
+
+  pub reweighed-some : reweighed_cells policy dims edit facts ≡ filter (is_reweighed policy dims edit facts) (changed_cells policy dims edit facts)
+  unfolding changed_cells reweighed_cells
+  reweighed-some = sym (filter-within (is_reweighed policy dims edit facts) (is_changed policy dims edit facts) (touched_cells dims edit facts) reweighed-changed)
+
+  pub among-both : (cell : ℕ) → is_among (reweighed_cells policy dims edit facts) cell ≡ true → is_among (changed_cells policy dims edit facts) cell ≡ true
+  among-both cell among =
+      second (is_reweighed policy dims edit facts cell) (is_among (changed_cells policy dims edit facts) cell)
+      (sym (among-filter (is_reweighed policy dims edit facts) (changed_cells policy dims edit facts) cell) ∙ ap (λ cells. is_among cells cell) (sym reweighed-some) ∙ among)
+    where
+      second : (a b : Bool) → (a && b) ≡ true → b ≡ true
+      second true b is = is
+      second false b is = cc
+
+  pub sum-reweighed : (f : ℕ → ℕ) → sum_by f (reweighed_cells policy dims edit facts) ≤ sum_by f (changed_cells policy dims edit facts)
+  sum-reweighed f = omega (arith, ap (sum_by f) reweighed-some, sum_by-filter-le (is_reweighed policy dims edit facts) f (changed_cells policy dims edit facts))
 
   module _ (up : AllPairs (λ f g. f.id < g.id) facts) where
     -- each cell that has other statistics, or another weight, and no other

@@ -1,5 +1,5 @@
 -- Which cells an edit changes.
-use Rattle.std.specs.Prelude.{ℕ, Bool, List, [], ◌∷◌, filter, not, nat_lt, ◌&&◌, ◌==◌, if◌then◌else◌, Option, Some, None}
+use Rattle.std.specs.Prelude.{◌≡◌, ℕ, Bool, true, List, [], ◌∷◌, All, IfSome, filter, not, nat_lt, ◌&&◌, ◌==◌, if◌then◌else◌, Option, Some, None}
 use Rattle.std.specs.List.{list_any}
 use Rattle.std.specs.Option.{option_and_then}
 use Rattle.cube_model.specs.declared.edit.Edit.{Edit}
@@ -9,7 +9,7 @@ use Rattle.cube_model.specs.Allocation.{Policy, stat_of, weight_of}
 use Rattle.cube_model.specs.Cells.{cells_of, is_among}
 use Rattle.cube_model.specs.Facts.{after, is_precise}
 use Rattle.cube_model.specs.Tree.{Dimension}
-use Rattle.region_algebra.specs.Space.{only_cell}
+use Rattle.region_algebra.specs.Space.{code_of, only_cell}
 use Rattle.fact_groups.specs.Edits.{given, taken}
 
 -- the cell of a fact that may be there, if its region is one cell
@@ -53,3 +53,10 @@ holds_any dims region cells = list_any (is_among (cells_of dims region)) cells
 -- an imprecise fact whose region holds one of these cells
 abbrev pub covers_any : List Dimension → List ℕ → Fact → Bool
 covers_any dims cells fact = not (is_precise dims fact) && holds_any dims fact.region cells
+
+-- Among these codes is each at which an edit may change the group: those of the regions of the facts that it takes and gives, and
+-- of each imprecise fact that covers a cell which it reweighs.
+pub record HasCodesOf (policy : Policy) (dims : List Dimension) (edit : Edit) (facts : List Fact) (codes : List ℕ) : Type 0 where
+  pub took : IfSome (taken edit facts) (λ f. is_among codes (code_of dims f.region) ≡ true)
+  pub gave : IfSome (given edit) (λ f. is_among codes (code_of dims f.region) ≡ true)
+  pub covering : All (λ f. covers_any dims (reweighed_cells policy dims edit facts) f ≡ true → is_among codes (code_of dims f.region) ≡ true) facts

@@ -1,12 +1,12 @@
 -- Facts in groups, one for each region that a fact has.
-use Rattle.std.specs.Prelude.{ℕ, suc, ◌*◌, max, Bool, List, [], ◌∷◌, All, filter, length, map, ◌==◌, ℤ, pos, ◌*ℤ◌, slice_index_or, Option, find}
+use Rattle.std.specs.Prelude.{◌≡◌, ℕ, suc, ◌*◌, ◌-◌, max, Bool, false, List, [], ◌∷◌, All, filter, length, map, replicate, ◌==◌, ℤ, pos, ◌*ℤ◌, slice_index_or, Option, find}
 use Rattle.std.specs.Option.{option_map}
 use Rattle.std.specs.List.{filter_map, range_with_len, sum_by}
 use Rattle.cube_model.specs.declared.edit.Fact.{Fact}
 use Rattle.cube_model.specs.declared.term.Term.{Term}
-use Rattle.cube_model.specs.Allocation.{Allocation, Policy, allocation, spread, weight_of}
+use Rattle.cube_model.specs.Allocation.{Allocation, ExtendedFact, Policy, allocation, spread, weight_of}
 use Rattle.cube_model.specs.Answer.{terms_below, total_by, weight_inside}
-use Rattle.cube_model.specs.Cells.{cells_of}
+use Rattle.cube_model.specs.Cells.{cells_of, is_among}
 use Rattle.cube_model.specs.Tree.{Dimension, IsTree}
 use Rattle.region_algebra.specs.Space.{IsRegion, code_of}
 use Rattle.fact_groups.specs.Partition.{IsPartition}
@@ -47,6 +47,11 @@ group_at policy columns dims facts code =
 abbrev pub groups_at : Policy → ℕ → List Dimension → List Fact → List ℕ → List Group
 groups_at policy columns dims facts codes = filter_map (group_at policy columns dims facts) codes
 
+-- the groups of two lists of facts are the same at each code that is not one of these
+abbrev pub HaveSameGroupsBut : List ℕ → Policy → ℕ → List Dimension → List Fact → List Fact → Type 0
+HaveSameGroupsBut codes policy columns dims facts later =
+    (code : ℕ) → is_among codes code ≡ false → group_at policy columns dims later code ≡ group_at policy columns dims facts code
+
 -- the facts are grouped by these codes: their regions are regions of the space, and the code of each is exactly one of these
 pub record AreGrouped (dims : List Dimension) (facts : List Fact) (codes : List ℕ) : Type 0 where
   pub trees : All IsTree dims
@@ -77,3 +82,12 @@ den_limit (g ∷ groups) = max (suc g.spread.den) (den_limit groups)
 -- the answer that groups give inside cells, over a number of columns of values
 unfoldable pub answer_in : ℕ → List ℕ → List Group → List Term
 answer_in columns cells groups = terms_below (count_in cells groups) (λ den. map (λ column. sum_in cells groups column den) (range_with_len 0 columns)) (den_limit groups)
+
+-- a fact of an extended database that is spread so and has these values; its id, of which answers take no notice, is 0
+abbrev pub fact_over : Allocation → List ℤ → ExtendedFact
+fact_over spread values = record { id = 0; values = values; allocation = spread }
+
+-- A group as facts: as many as it has, each spread as the group is. The first has the sums as its values, and the
+-- others have 0 in every column.
+abbrev pub group_facts : Group → List ExtendedFact
+group_facts group = fact_over group.spread group.sums ∷ replicate (group.count - 1) (fact_over group.spread (replicate (length group.sums) (pos 0)))

@@ -1,8 +1,8 @@
 //! Laws of facts in groups. The functions do nothing: each law is the contract.
 ghost use Rattle.std.specs.Prelude.{◌≡◌, ◌+◌, ◌*◌, ◌==◌, ◌<◌, ◌≤◌, ℕ, Bool, List, [], ◌∷◌, true, false, None, Some, map, if◌then◌else◌, All, AllPairs, IfSome, filter, find, is_some, length, ℤ, pos, ◌+ℤ◌, ◌*ℤ◌};
-ghost use Rattle.std.specs.List.{count_by, list_any, sum_by};
+ghost use Rattle.std.specs.List.{count_by, flat_map, list_any, sum_by};
 ghost use Rattle.std.specs.List.Sorted.{IsStrictlyIncreasing};
-ghost use Rattle.std.specs.Option.{option_map_or};
+ghost use Rattle.std.specs.Option.{option_map, option_map_or};
 ghost use Rattle.cube_model.specs.declared.edit.Edit.{Edit};
 ghost use Rattle.cube_model.specs.declared.edit.Fact.{Fact};
 ghost use Rattle.cube_model.specs.Allocation.{Allocation, Policy, allocation, by_count, by_sum, extended, row_count, spread, spread_evenly, stat_of, uniform};
@@ -10,16 +10,16 @@ ghost use Rattle.cube_model.specs.Answer.{answer, count_at, sum_at, total_by};
 ghost use Rattle.cube_model.specs.Ascending.{ascends_from};
 ghost use Rattle.cube_model.specs.Cells.{cells_of, is_among, is_single};
 ghost use Rattle.cube_model.specs.Difference.{is_same, refreshed};
-ghost use Rattle.cube_model.specs.Facts.{after, has_id, lies_at};
+ghost use Rattle.cube_model.specs.Facts.{after, has_id, is_precise, lies_at};
 ghost use Rattle.cube_model.specs.Tree.{Dimension, IsTree};
 ghost use Rattle.region_algebra.specs.Examples.{small_space};
 ghost use Rattle.region_algebra.specs.Space.{IsRegion, code_of};
-ghost use Rattle.fact_groups.specs.Changes.{changed_cells, covers_any, holds_any, is_changed, is_reweighed, reweighed_cells, touched_cells};
+ghost use Rattle.fact_groups.specs.Changes.{HasCodesOf, changed_cells, covers_any, holds_any, is_changed, is_reweighed, reweighed_cells, touched_cells};
 ghost use Rattle.fact_groups.specs.Edits.{edited_id, given, taken};
 ghost use Rattle.fact_groups.specs.Examples.{five_facts, group_of, move_third, put_sixth, put_third, revalue_second, spread_over, three_codes, valued_at, withdraw_fourth};
-ghost use Rattle.fact_groups.specs.Groups.{AreGrouped, answer_in, column_sums, count_in, facts_with, group_at, groups_at, has_code, rows_in, spread_at, sum_in};
+ghost use Rattle.fact_groups.specs.Groups.{AreGrouped, Group, HaveSameGroupsBut, answer_in, column_sums, count_in, fact_over, facts_with, group_at, group_facts, groups_at, has_code, rows_in, spread_at, sum_in};
 ghost use Rattle.fact_groups.specs.Partition.{IsPartition, held_by};
-ghost use Rattle.fact_groups.specs.Refreshed.{is_refreshed};
+ghost use Rattle.fact_groups.specs.Refreshed.{imprecise_ids, is_new_or_moved, is_refreshed, respread_codes};
 
 /// How a fact is spread depends on its region alone, so facts of one region have one allocation between them.
 pub fn equal_regions_have_equal_spreads()
@@ -110,6 +110,17 @@ pub fn edits_change_two_cells_at_most()
     ensures ascending_reweighed { (policy : Policy) (dims : List Dimension) (edit : Edit) (facts : List Fact) → ascends_from (λ cell. cell) 0 (reweighed_cells policy dims edit facts) ≡ true }
 {}
 
+/// The cells that an edit, accepted or not, reweighs are some of those that it changes, in the same order, so no sum over them is
+/// greater.
+pub fn reweighed_cells_are_changed()
+    ensures some { (policy : Policy) (dims : List Dimension) (edit : Edit) (facts : List Fact)
+        → reweighed_cells policy dims edit facts ≡ filter (is_reweighed policy dims edit facts) (changed_cells policy dims edit facts) }
+    ensures among { (policy : Policy) (dims : List Dimension) (edit : Edit) (facts : List Fact) (cell : ℕ)
+        → is_among (reweighed_cells policy dims edit facts) cell ≡ true → is_among (changed_cells policy dims edit facts) cell ≡ true }
+    ensures sums { (f : ℕ → ℕ) (policy : Policy) (dims : List Dimension) (edit : Edit) (facts : List Fact)
+        → sum_by f (reweighed_cells policy dims edit facts) ≤ sum_by f (changed_cells policy dims edit facts) }
+{}
+
 /// A region is spread after an edit, accepted or not, as before it where it holds no cell that the edit reweighs, whatever the
 /// policy; and a region of one cell is spread evenly, whatever the facts. Weights that agree on cells spread alike over them.
 pub fn other_regions_keep_their_spread()
@@ -138,6 +149,8 @@ pub fn groups_stand_for_their_facts()
         → group_at policy columns dims facts (code_of dims region)
         ≡ (if length (facts_with dims (code_of dims region) facts) == 0 then None
         else Some (record { spread = spread_at policy dims facts region; count = length (facts_with dims (code_of dims region) facts); sums = column_sums columns (facts_with dims (code_of dims region) facts) })) }
+    ensures spreads { (policy : Policy) (columns : ℕ) (dims : List Dimension) (facts : List Fact) (id : ℕ) → All IsTree dims → All (λ f. IsRegion dims f.region) facts
+        → IfSome (find (λ f. f.id == id) facts) (λ f. option_map (λ g. g.spread) (group_at policy columns dims facts (code_of dims f.region)) ≡ Some (spread_at policy dims facts f.region)) }
 {}
 
 /// A group of which an edit, accepted or not, takes no fact and to which it gives none has the facts that it had, and stays as it
@@ -151,16 +164,67 @@ pub fn groups_elsewhere_stay()
         → group_at policy columns dims (after edit facts) code ≡ group_at policy columns dims facts code }
 {}
 
+/// An edit, accepted or not, changes no group but at the codes of the regions of the facts that it takes and gives, and of the
+/// imprecise facts that cover a cell which it reweighs.
+pub fn groups_stay_but_at_the_codes_of_an_edit()
+    ensures { (policy : Policy) (columns : ℕ) (dims : List Dimension) (edit : Edit) (facts : List Fact) (codes : List ℕ) → AllPairs (λ f g. f.id < g.id) facts
+        → HasCodesOf policy dims edit facts codes → HaveSameGroupsBut codes policy columns dims facts (after edit facts) }
+{}
+
+/// Where the groups of two lists of facts are the same at all but some codes, those of the codes at which they are the same as well
+/// can be left out.
+pub fn codes_of_equal_groups_can_be_left_out()
+    ensures same { (policy : Policy) (columns : ℕ) (dims : List Dimension) (facts later : List Fact) (codes : List ℕ) (keeps : ℕ → Bool) → HaveSameGroupsBut codes policy columns dims facts later
+        → ((code : ℕ) → keeps code ≡ false → group_at policy columns dims later code ≡ group_at policy columns dims facts code) → HaveSameGroupsBut (filter keeps codes) policy columns dims facts later }
+    ensures ascending { (codes : List ℕ) (keeps : ℕ → Bool) → IsStrictlyIncreasing codes → IsStrictlyIncreasing (filter keeps codes) }
+{}
+
 /// Where the groups of two lists of facts are the same at all but some codes, their numbers of rows differ by the rows of the
 /// groups at these; and so do any two sums over numbers whose terms are the same at all but some of these.
 pub fn rows_differ_by_the_groups_that_differ()
     ensures rows { (policy : Policy) (columns : ℕ) (dims : List Dimension) (facts later : List Fact) (codes : List ℕ) → All IsTree dims
         → All (λ f. IsRegion dims f.region) facts → All (λ f. IsRegion dims f.region) later → IsStrictlyIncreasing codes
-        → ((code : ℕ) → is_among codes code ≡ false → group_at policy columns dims later code ≡ group_at policy columns dims facts code)
+        → HaveSameGroupsBut codes policy columns dims facts later
         → row_count (extended policy dims later) + rows_in (groups_at policy columns dims facts codes) ≡ row_count (extended policy dims facts) + rows_in (groups_at policy columns dims later codes) }
     ensures sums { (f g : ℕ → ℕ) (a b : ℕ) (some all : List ℕ) → ascends_from (λ x. x) a some ≡ true → ascends_from (λ x. x) b all ≡ true
         → ((x : ℕ) → is_among some x ≡ true → is_among all x ≡ true) → ((x : ℕ) → is_among some x ≡ false → f x ≡ g x)
         → sum_by g all + sum_by f some ≡ sum_by f all + sum_by g some }
+{}
+
+/// Where the groups of two lists of facts are the same at all but some codes, the numerators of their answers differ by those of
+/// the groups at these.
+pub fn answers_differ_by_the_groups_that_differ()
+    ensures counts { (policy : Policy) (columns : ℕ) (dims : List Dimension) (facts later : List Fact) (codes : List ℕ) → All IsTree dims
+        → All (λ f. IsRegion dims f.region) facts → All (λ f. IsRegion dims f.region) later → IsStrictlyIncreasing codes → HaveSameGroupsBut codes policy columns dims facts later
+        → (cells : List ℕ) (den : ℕ) → count_at cells (extended policy dims later) den + count_in cells (groups_at policy columns dims facts codes) den
+        ≡ count_at cells (extended policy dims facts) den + count_in cells (groups_at policy columns dims later codes) den }
+    ensures sums { (policy : Policy) (columns : ℕ) (dims : List Dimension) (facts later : List Fact) (codes : List ℕ) → All IsTree dims
+        → All (λ f. IsRegion dims f.region) facts → All (λ f. IsRegion dims f.region) later → IsStrictlyIncreasing codes → HaveSameGroupsBut codes policy columns dims facts later
+        → (cells : List ℕ) (column den : ℕ) → column < columns → sum_at cells (extended policy dims later) column den +ℤ sum_in cells (groups_at policy columns dims facts codes) column den
+        ≡ sum_at cells (extended policy dims facts) column den +ℤ sum_in cells (groups_at policy columns dims later codes) column den }
+{}
+
+/// A group has a fact at least. Such groups answer as so many facts do that are spread alike, of which one has the sums of the
+/// columns as its values and the others have zeros.
+pub fn groups_answer_as_facts()
+    ensures some { (policy : Policy) (columns : ℕ) (dims : List Dimension) (facts : List Fact) (codes : List ℕ) → All (λ g. 1 ≤ g.count) (groups_at policy columns dims facts codes) }
+    ensures counts { (groups : List Group) → All (λ g. 1 ≤ g.count) groups → (cells : List ℕ) (den : ℕ) → count_at cells (flat_map group_facts groups) den ≡ count_in cells groups den }
+    ensures sums { (groups : List Group) → (cells : List ℕ) (column den : ℕ) → sum_at cells (flat_map group_facts groups) column den ≡ sum_in cells groups column den }
+{}
+
+/// Where the groups of two lists of facts are the same at all but some codes, and no fact has more values than there are columns,
+/// the later facts are the earlier ones without the facts of the groups that were at these codes and with those of the groups that
+/// are: inside any cells they add up to as much, at every denominator.
+pub fn facts_follow_by_the_groups_that_differ()
+    ensures counts { (policy : Policy) (columns : ℕ) (dims : List Dimension) (facts later : List Fact) (codes : List ℕ) → All IsTree dims
+        → All (λ f. IsRegion dims f.region) facts → All (λ f. IsRegion dims f.region) later → IsStrictlyIncreasing codes → HaveSameGroupsBut codes policy columns dims facts later
+        → (cells : List ℕ) (den : ℕ) → count_at cells (extended policy dims later) den + count_at cells (flat_map group_facts (groups_at policy columns dims facts codes)) den
+        ≡ count_at cells (extended policy dims facts) den + count_at cells (flat_map group_facts (groups_at policy columns dims later codes)) den }
+    ensures sums { (policy : Policy) (columns : ℕ) (dims : List Dimension) (facts later : List Fact) (codes : List ℕ) → All IsTree dims
+        → All (λ f. IsRegion dims f.region) facts → All (λ f. IsRegion dims f.region) later → IsStrictlyIncreasing codes → HaveSameGroupsBut codes policy columns dims facts later
+        → All (λ f. length f.cols ≤ columns) facts → All (λ f. length f.cols ≤ columns) later
+        → (cells : List ℕ) (column den : ℕ) → sum_at cells (extended policy dims later) column den +ℤ sum_at cells (flat_map group_facts (groups_at policy columns dims facts codes)) column den
+        ≡ sum_at cells (extended policy dims facts) column den +ℤ sum_at cells (flat_map group_facts (groups_at policy columns dims later codes)) column den }
 {}
 
 /// Two allocations are told to be the same exactly where they are equal.
@@ -178,6 +242,26 @@ pub fn edits_refresh_what_covers_reweighed_cells()
         → (least : ℕ) → All (λ f. least ≤ f.id) (after edit facts) → ascends_from (λ id. id) least (refreshed policy dims facts (after edit facts)) ≡ true }
 {}
 
+/// An edit, accepted or not, refreshes the fact that it gives where that is new or lies otherwise than the one of its id did, and
+/// of the others those whose group was there and still is, and is spread otherwise, each of which is imprecise. Such groups are
+/// found at any codes but which the groups stay.
+pub fn edits_refresh_the_groups_that_are_respread()
+    ensures edited { (policy : Policy) (dims : List Dimension) (edit : Edit) (facts : List Fact) → AllPairs (λ f g. f.id < g.id) facts
+        → is_among (refreshed policy dims facts (after edit facts)) (edited_id edit) ≡ option_map_or (is_new_or_moved policy dims edit facts) (given edit) false }
+    ensures others { (policy : Policy) (columns : ℕ) (dims : List Dimension) (edit : Edit) (facts : List Fact) (codes : List ℕ) → AllPairs (λ f g. f.id < g.id) facts → All IsTree dims
+        → All (λ f. IsRegion dims f.region) facts → All (λ f. IsRegion dims f.region) (after edit facts) → HaveSameGroupsBut codes policy columns dims facts (after edit facts)
+        → (id : ℕ) → (edited_id edit == id) ≡ false → is_among (refreshed policy dims facts (after edit facts)) id
+        ≡ option_map_or (λ f. is_among (respread_codes policy columns dims edit facts codes) (code_of dims f.region)) (find (λ f. f.id == id) facts) false }
+    ensures imprecise { (policy : Policy) (columns : ℕ) (dims : List Dimension) (edit : Edit) (facts : List Fact) (codes : List ℕ) → AllPairs (λ f g. f.id < g.id) facts → All IsTree dims
+        → All (λ f. IsRegion dims f.region) facts → All (λ f. IsRegion dims f.region) (after edit facts) → HaveSameGroupsBut codes policy columns dims facts (after edit facts)
+        → (id : ℕ) → (edited_id edit == id) ≡ false → is_among (refreshed policy dims facts (after edit facts)) id ≡ true → IfSome (find (λ f. f.id == id) facts) (λ f. is_precise dims f ≡ false) }
+    ensures ids { (policy : Policy) (columns : ℕ) (dims : List Dimension) (edit : Edit) (facts : List Fact) (codes : List ℕ) → AllPairs (λ f g. f.id < g.id) facts → All IsTree dims
+        → All (λ f. IsRegion dims f.region) facts → All (λ f. IsRegion dims f.region) (after edit facts) → HaveSameGroupsBut codes policy columns dims facts (after edit facts)
+        → (id : ℕ) → is_among (refreshed policy dims facts (after edit facts)) id
+        ≡ (if edited_id edit == id then option_map_or (is_new_or_moved policy dims edit facts) (given edit) false
+        else is_among (imprecise_ids dims facts (respread_codes policy columns dims edit facts codes)) id) }
+{}
+
 /// Two lists of numbers that ascend and have the same members are one.
 pub fn ascending_lists_are_told_by_their_members()
     ensures { (a b : ℕ) (xs ys : List ℕ) → ascends_from (λ x. x) a xs ≡ true → ascends_from (λ x. x) b ys ≡ true → ((n : ℕ) → is_among xs n ≡ is_among ys n) → xs ≡ ys }
@@ -185,7 +269,8 @@ pub fn ascending_lists_are_told_by_their_members()
 
 /// Groups and edits that were worked out by hand. Two facts that share a region are one group, with the rows of one of them. A
 /// move touches two cells, in order of their codes, whichever the fact came from; a new value touches the fact's own, which is
-/// reweighed where the values weigh; an imprecise fact touches none.
+/// reweighed where the values weigh; an imprecise fact touches none. A group stands for as many facts as it has, of which one has the
+/// sums. The group that is respread by a move is that of the imprecise facts over the cell which the fact leaves.
 pub fn worked_groups()
     ensures groups { groups_at by_count 1 small_space five_facts three_codes
         ≡ group_of (spread_over 3 ((0, 2) ∷ (2, 1) ∷ [])) 2 610 ∷ group_of (spread_over 1 ((0, 1) ∷ [])) 2 400 ∷ group_of (spread_over 1 ((2, 1) ∷ [])) 1 50 ∷ [] }
@@ -207,5 +292,8 @@ pub fn worked_groups()
     ensures reweighed_by_its_value { reweighed_cells (by_sum 1) small_space revalue_second five_facts ≡ 0 ∷ [] }
     ensures refreshed { refreshed by_count small_space five_facts (after move_third five_facts) ≡ 3 ∷ 4 ∷ 5 ∷ [] }
     ensures covering { map (covers_any small_space (2 ∷ [])) five_facts ≡ false ∷ false ∷ false ∷ true ∷ true ∷ [] }
+    ensures as_facts { flat_map group_facts (groups_at by_count 1 small_space five_facts (7 ∷ [])) ≡ fact_over (spread_over 1 ((0, 1) ∷ [])) (pos 400 ∷ []) ∷ fact_over (spread_over 1 ((0, 1) ∷ [])) (pos 0 ∷ []) ∷ [] }
+    ensures respread { respread_codes by_count 1 small_space move_third five_facts (4 ∷ 8 ∷ 10 ∷ []) ≡ 4 ∷ [] }
+    ensures respread_ids { imprecise_ids small_space five_facts (4 ∷ 7 ∷ []) ≡ 4 ∷ 5 ∷ [] }
     ensures found { map (is_refreshed by_count small_space move_third five_facts) (after move_third five_facts) ≡ false ∷ false ∷ true ∷ true ∷ true ∷ [] }
 {}

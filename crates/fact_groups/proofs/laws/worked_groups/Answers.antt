@@ -30,5 +30,8 @@ returns c = record {
   reweighed_by_its_value = refl;
   refreshed = refl;
   covering = refl;
+  as_facts = refl;
+  respread = refl;
+  respread_ids = refl;
   found = refl;
 }
