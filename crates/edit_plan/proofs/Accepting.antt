@@ -63,13 +63,13 @@ judged policy shape dims edit facts none =
     (past.0, grind (arith, nat_tests, few.0))
 
 -- the fact that an edit gives is a valid one
-given-valid : (shape : ShapeValue) (dims : List Dimension) (edit : Edit) (facts : List Fact) → IsEditOver dims edit → IsAllowed shape dims edit facts → IfSome (given edit) (IsValid shape dims)
+pub given-valid : (shape : ShapeValue) (dims : List Dimension) (edit : Edit) (facts : List Fact) → IsEditOver dims edit → IsAllowed shape dims edit facts → IfSome (given edit) (IsValid shape dims)
 given-valid shape dims (Put fact) facts over can = record { accepted = record { placed = over; values = can.cols }; size = can.region }
 given-valid shape dims (Change fact) facts over can = record { accepted = record { placed = over; values = can.cols }; size = can.region }
 given-valid shape dims (Withdraw id) facts over can = tt
 
 -- a fact of an id that is there is found
-found-there : (id : ℕ) (facts : List Fact) → has_id id facts ≡ is_some (find (λ f. f.id == id) facts)
+pub found-there : (id : ℕ) (facts : List Fact) → has_id id facts ≡ is_some (find (λ f. f.id == id) facts)
 found-there id [] = refl
 found-there id (fact ∷ facts) = either (fact.id == id) refl (found-there id facts)
   where

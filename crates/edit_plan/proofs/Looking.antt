@@ -84,7 +84,7 @@ module _ {P : Type 0} (weigh : P → CellStat → ℕ) (state seen : StateValue 
       ∙ ap (λ s. allocation_of id (rows_in weigh s)) same
 
   module _ (fact : Bor Fact) (code : ℕ) (there : Option (Bor Group)) (some : found ≡ Some fact) (at : code ≡ code_of seen.dims fact.now.region)
-      (kept : IsState here seen.shape seen.dims seen.facts seen.kept) (trees : All IsTree seen.dims) (has : option_copied there ≡ value_at seen.kept.groups code) where
+      (kept : IsState here seen.shape seen.dims seen.cuts seen.facts seen.kept) (trees : All IsTree seen.dims) (has : option_copied there ≡ value_at seen.kept.groups code) where
     its : find (λ f. f.id == id) seen.facts ≡ Some fact.now
     its = sym is ∙ ap option_copied some
 

@@ -1,27 +1,26 @@
 -- What an edit moves, as a state is seen.
-use Rattle.std.proofs.Common.{◌≡◌, ℕ, ◌+◌, ◌≤◌, true, List, ap, sym, ◌∙◌, subst, arith}
-use Rattle.std.specs.Prelude.{All, IfSome, ◌==◌, Option, Some, None}
+use Rattle.std.proofs.Common.{◌≡◌, ℕ, ◌+◌, ◌≤◌, List, ap, sym, ◌∙◌, subst, arith}
+use Rattle.std.specs.Prelude.{All, IfSome, ◌&&◌, ◌==◌, Option, Some, None}
+use Rattle.std.specs.List.{list_any}
 use Rattle.cube_model.specs.declared.edit.Edit.{Edit}
 use Rattle.cube_model.specs.declared.edit.Fact.{Fact}
 use Rattle.cube_model.specs.declared.statistic.CellStat.{CellStat}
-use Rattle.cube_model.specs.Ascending.{ascends_from}
 use Rattle.cube_model.specs.Cells.{is_among}
 use Rattle.cube_model.specs.Tree.{Dimension, IsTree}
 use Rattle.alloc_rows.specs.Changed.{Change}
 use Rattle.cell_weight.specs.Stats.{stat_at}
 use Rattle.fact_groups.specs.Edits.{edited_id, given, taken}
+use Rattle.fact_groups.specs.Groups.{has_code}
 use Rattle.fact_groups.proofs.Groups.{first-holds}
-use Rattle.fact_records.specs.FactList.{IsAscending}
 use Rattle.fact_records.specs.Shape.{ShapeValue, adds_of}
 use Rattle.fact_records.specs.Valid.{AreValid, IsFactOf, IsValid}
-use Rattle.region_index.specs.Content.{AreIdsAt}
-use Rattle.region_index.specs.Indexed.{ids_that_cover}
+use Rattle.region_index.specs.Content.{held_codes}
+use Rattle.region_index.specs.Indexed.{covers}
 use Rattle.region_index.specs.Over.{codes_over}
-use Rattle.region_index.proofs.Indexing.{ids-cover}
-use Rattle.edit_plan.specs.Covering.{are_found, ids_covering, steps_for}
+use Rattle.region_index.proofs.HeldCodes.{held_codes-cover}
+use Rattle.edit_plan.specs.Covering.{is_over_one, probes_over}
 use Rattle.edit_plan.specs.State.{IsState, StateValue, policy_in}
 use Rattle.edit_plan.specs.Touched.{Lying, added_at, changes_of, lying_of, number_at, touched}
-use Rattle.edit_plan.proofs.Covering.{facts-ascend, ids-found}
 use Rattle.edit_plan.proofs.Looking.{valid-regions}
 use Rattle.edit_plan.proofs.Touching.{added-taken, changes-touched, number-taken}
 
@@ -31,7 +30,7 @@ taken-valid shape dims edit facts None valid is = tt
 taken-valid shape dims edit facts (Some fact) valid is =
     (first-holds (IsValid shape dims) (λ f. f.id == edited_id edit) facts fact valid.each (sym is)).accepted
 
-module _ {P : Type 0} (weigh : P → CellStat → ℕ) (state seen : StateValue P) (same : seen ≡ state) (kept : IsState (policy_in weigh seen) seen.shape seen.dims seen.facts seen.kept)
+module _ {P : Type 0} (weigh : P → CellStat → ℕ) (state seen : StateValue P) (same : seen ≡ state) (kept : IsState (policy_in weigh seen) seen.shape seen.dims seen.cuts seen.facts seen.kept)
     (edit : Edit) (took : Option Fact) (lost : Lying) (took_is : took ≡ taken edit seen.facts) (lost_is : lost ≡ lying_of seen.dims (adds_of seen.shape) took) where
   its : lost ≡ lying_of seen.dims (adds_of seen.shape) (taken edit seen.facts)
   its = lost_is ∙ ap (lying_of seen.dims (adds_of seen.shape)) took_is
@@ -66,13 +65,13 @@ module _ {P : Type 0} (weigh : P → CellStat → ℕ) (state seen : StateValue 
 
 module _ {P : Type 0} (state seen : StateValue P) (same : seen ≡ state) where
   -- what the index gives over a cell
-  pub covering-seen : (weigh : P → CellStat → ℕ) → IsState (policy_in weigh seen) seen.shape seen.dims seen.facts seen.kept → (cell : ℕ) (ids : List ℕ) → All IsTree seen.dims
-      → AreIdsAt seen.kept.index (codes_over seen.dims cell) ids → ids ≡ ids_that_cover seen.dims cell seen.facts
-  covering-seen weigh kept cell ids trees are =
-      ids-cover seen.dims seen.facts seen.kept.index cell ids trees (valid-regions seen.shape seen.dims seen.facts kept.valid) (facts-ascend seen.facts kept.valid.ascending) kept.index are
+  pub held-seen : (weigh : P → CellStat → ℕ) → IsState (policy_in weigh seen) seen.shape seen.dims seen.cuts seen.facts seen.kept → (cell : ℕ) (codes : List ℕ) → All IsTree seen.dims
+      → codes ≡ held_codes seen.kept.index (codes_over seen.dims cell) → (code : ℕ) → is_among codes code ≡ list_any (λ f. covers seen.dims cell f && has_code seen.dims code f) seen.facts
+  held-seen weigh kept cell codes trees are code =
+      ap (λ cs. is_among cs code) are ∙ held_codes-cover seen.dims seen.facts seen.kept.index cell code trees (valid-regions seen.shape seen.dims seen.facts kept.valid) kept.index
 
-  pub bound-seen : (changes : List Change) (m n : ℕ) → n ≤ m + steps_for seen.dims changes seen.facts → n ≤ m + steps_for state.dims changes state.facts
-  bound-seen changes m n le = subst (λ (s : StateValue P). n ≤ m + steps_for s.dims changes s.facts) same le
+  pub bound-seen : (changes : List Change) (m n : ℕ) → n ≤ m + probes_over seen.dims changes → n ≤ m + probes_over state.dims changes
+  bound-seen changes m n le = subst (λ (s : StateValue P). n ≤ m + probes_over s.dims changes) same le
 
-  pub ids-seen : (changes : List Change) (ids : List ℕ) → IsAscending seen.facts → ascends_from (λ id. id) 0 ids ≡ true → ((id : ℕ) → is_among ids id ≡ are_found state.dims changes state.facts id) → ids ≡ ids_covering state.dims changes state.facts
-  ids-seen changes ids up ascends found = ids-found state.dims changes state.facts ids (facts-ascend state.facts (subst (λ (s : StateValue P). IsAscending s.facts) same up)) ascends found
+  pub over-seen : (changes : List Change) (codes : List ℕ) → ((code : ℕ) → is_among codes code ≡ is_over_one seen.dims changes seen.facts code) → (code : ℕ) → is_among codes code ≡ is_over_one state.dims changes state.facts code
+  over-seen changes codes are code = are code ∙ ap (λ (s : StateValue P). is_over_one s.dims changes s.facts code) same

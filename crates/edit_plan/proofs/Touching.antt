@@ -26,7 +26,7 @@ use Rattle.fact_records.specs.Accepted.{cols_refusal}
 use Rattle.fact_records.specs.Shape.{IsShape, ShapeValue, adds_of, policy_over, weight_measure}
 use Rattle.fact_records.specs.Valid.{AreValid, IsValid}
 use Rattle.edit_plan.specs.Touched.{Lying, added_at, change_at, changes_of, lying_of, number_at, stat_moved, touched}
-use Rattle.edit_plan.proofs.Adding.{weight-adds, weight-small}
+use Rattle.fact_records.proofs.Adding.{weight-adds, weight-small}
 
 -- a fact lies where its one cell is, if there is one
 single-among : (cells : List ℕ) (cell : ℕ) → (is_single cells && is_among cells cell) ≡ option_map_or (λ k. k == cell) (only_cell cells) false

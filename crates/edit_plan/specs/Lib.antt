@@ -1,6 +1,11 @@
+pub mod Answering
 pub mod Bound
 pub mod Covering
+pub mod GroupAfter
 pub mod Moves
 pub mod Plan
+pub mod Refreshing
+pub mod Regrouped
 pub mod State
 pub mod Touched
+pub mod ViewChanges

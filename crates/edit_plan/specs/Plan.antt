@@ -25,7 +25,13 @@ use Rattle.fact_records.specs.Valid.{IsEditOver}
 use Rattle.region_index.specs.Changes.{IsStagedFor, Staging, ids_after}
 use Rattle.region_index.specs.Content.{Content, ids_at}
 use Rattle.region_index.specs.Indexed.{is_indexed_at}
-use Rattle.edit_plan.specs.State.{StateValue, judge_in, policy_in, rows_after, withdrawn}
+use Rattle.group_sum.specs.Terms.{TermList}
+use Rattle.view_store.specs.declared.change.ViewChange.{ViewChange}
+use Rattle.view_store.specs.Changes.{HaveRoomFor}
+use Rattle.view_store.specs.Changes.{given as given_by, taken as taken_by, IsStagedFor as AreStagedFor}
+use Rattle.view_store.specs.Facts.{FollowBy}
+use Rattle.view_store.specs.Views.{ViewMaps}
+use Rattle.edit_plan.specs.State.{StateValue, judge_in, policy_in, rows_after, rows_in, withdrawn}
 use Rattle.edit_plan.specs.declared.fault.PlanFault.{PlanFault}
 use Rattle.edit_plan.specs.declared.fault.PlanFault.TheVariants as plan_fault
 
@@ -46,14 +52,19 @@ difference policy dims edit facts = record {
   rows = map kept_rows (filter (λ e. is_among (refreshed policy dims facts (after edit facts)) e.id) (extended policy dims (after edit facts)));
 }
 
--- a plan: its edit, the ids that it refreshes, its batch, and what it will set
+-- what a plan will set of what is kept beside the facts
+pub record SetsValue : Type 0 where
+  pub stats : List (ℕ × CellStat)
+  pub index : Staging
+  pub groups : Entries Group
+  pub views : List (Entries TermList)
+
+-- a plan: its edit, the ids that it refreshes, its batch, what it will set, and the number of rows then
 pub record PlanValue : Type 0 where
   pub edit : Edit
   pub refreshed : List ℕ
   pub batch : Batch
-  pub stats : List (ℕ × CellStat)
-  pub index : Staging
-  pub groups : Entries Group
+  pub sets : SetsValue
   pub rows : ℕ
 
 -- With these statistics set, those kept are the ones of the facts; and there is a place for each.
@@ -74,21 +85,33 @@ pub record SetGroups (policy : Policy) (columns : ℕ) (dims : List Dimension) (
   pub placed : have_places places entries ≡ true
   pub made : (code : ℕ) → unwrap_or (entry_of entries code) (value_at places code) ≡ group_at policy columns dims facts code
 
+-- and of the views: what is staged was staged for these changes, with which the facts' rows are those after
+pub record SetViews (dims : List Dimension) (before after : List ExtendedFact) (maps : ViewMaps) (stage : List (Entries TermList)) : Type 0 where
+  pub room : HaveRoomFor maps stage
+  pub changes : List ViewChange
+  pub staged : AreStagedFor dims changes maps stage
+  pub follow : FollowBy before (taken_by changes) (given_by changes) after
+
 -- there is room for the fact that an edit gives
 abbrev pub has_room : Edit → List Fact → ℕ → Bool
 has_room (Put fact) facts spare = has_id fact.id facts || nat_lt 0 spare
 has_room (Change fact) facts spare = has_id fact.id facts || nat_lt 0 spare
 has_room (Withdraw id) facts spare = true
 
+-- What will be set makes what is kept that of the facts after an edit.
+pub record AreSetsFor {P : Type 0} (weigh : P → CellStat → ℕ) (state : StateValue P) (edit : Edit) (sets : SetsValue) : Type 0 where
+  pub room : has_room edit state.facts state.kept.spare ≡ true
+  pub stats : SetStats (policy_in weigh state) state.dims (after edit state.facts) state.kept.stats sets.stats
+  pub index : SetIndex state.dims (after edit state.facts) state.kept.index sets.index
+  pub groups : SetGroups (policy_in weigh state) (width_of_all state.shape.measures) state.dims (after edit state.facts) state.kept.groups sets.groups
+  pub views : SetViews state.dims (rows_in weigh state) (rows_after weigh state edit) state.kept.views sets.views
+
 -- A plan fits a state: its edit is one of the space and is accepted; what it sets is what the edit makes of the state; and there is
 -- room for that.
 pub record IsPlanFor {P : Type 0} (weigh : P → CellStat → ℕ) (state : StateValue P) (plan : PlanValue) : Type 0 where
   pub over : IsEditOver state.dims plan.edit
   pub accepted : judge_in weigh state plan.edit ≡ None
-  pub room : has_room plan.edit state.facts state.kept.spare ≡ true
-  pub stats : SetStats (policy_in weigh state) state.dims (after plan.edit state.facts) state.kept.stats plan.stats
-  pub index : SetIndex state.dims (after plan.edit state.facts) state.kept.index plan.index
-  pub groups : SetGroups (policy_in weigh state) (width_of_all state.shape.measures) state.dims (after plan.edit state.facts) state.kept.groups plan.groups
+  pub sets : AreSetsFor weigh state plan.edit plan.sets
   pub rows : plan.rows ≡ row_count (rows_after weigh state plan.edit)
 
 -- Why an edit is not planned. Where it is refused for the number of rows, that number is told, else the code. Want of memory is said only where the fact is not refused.

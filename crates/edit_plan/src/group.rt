@@ -1,6 +1,6 @@
 //! The facts of one region.
 use alloc_rows::Alloc;
-use cube_base::PlainList;
+use cube_base::Cols;
 use std::marker::Model;
 
 /// What is kept of the facts of one region, which have one allocation between them. Contracts see how they are spread, how many
@@ -9,7 +9,7 @@ use std::marker::Model;
 pub struct Group {
     pub(crate) spread: Alloc,
     pub(crate) members: u64,
-    pub(crate) sums: PlainList<i64>,
+    pub(crate) sums: Cols,
 }
 
 impl Model for Group {

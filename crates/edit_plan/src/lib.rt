@@ -2,18 +2,29 @@
 //! a plan is installed without memory.
 #![tactic(auto)]
 
+mod answering;
 mod edited;
 mod fault;
 mod group;
+mod group_after;
 mod moves;
 mod moving;
-mod plan;
+mod planning;
+mod prepared;
+mod refreshing;
 mod regroup;
+mod regrouped;
+mod regrouping;
+mod room;
+mod sets;
 mod state;
+mod storing;
 mod touched;
+mod viewing;
 
 pub use fault::PlanFault;
 pub use group::Group;
-pub use plan::Plan;
+pub use planning::plan;
+pub use prepared::Plan;
 pub use state::State;
 pub use touched::Change;

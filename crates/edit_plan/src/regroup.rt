@@ -1,5 +1,5 @@
 //! The groups of facts after an edit: of the regions whose groups may differ, each made anew from the one before.
-ghost use Rattle.std.specs.Prelude.{◌≡◌, ◌<◌, ◌≤◌, All, IfOk, IfSome, length};
+ghost use Rattle.std.specs.Prelude.{◌≡◌, ◌<◌, ◌≤◌, true, false, All, IfOk, IfSome, length};
 ghost use Rattle.std.specs.List.{list_any};
 ghost use Rattle.std.specs.Option.{option_copied};
 ghost use Rattle.alloc_rows.specs.Changed.{changes_among};
@@ -23,7 +23,12 @@ use std::alloc::Global;
 
 impl<P: WeightPolicy + Drop> State<P> {
     /// How a region is spread after an edit. Where it has a group, that is spread as the region is before it.
-    fn spread_after(&self, moves: &Moves, r: Region, group: Option<&Group>) -> Result<Alloc, Memory>
+    pub(crate) fn spread_after(
+        &self,
+        moves: &Moves,
+        r: Region,
+        group: Option<&Group>,
+    ) -> Result<Alloc, Memory>
         requires moves { AreMoves (policy_in P.weigh self.now) self.now.shape self.now.dims self.now.facts moves.now }
         requires region { IsRegion self.now.dims r }
         requires few { length (cells_of self.now.dims r) ≤ MAX_CELLS }
@@ -33,9 +38,7 @@ impl<P: WeightPolicy + Drop> State<P> {
         // What a shape says of its measures, and a list of facts of its order.
         let _ = self.shape.columns();
         let before = self.spread_before(r, group)?;
-        if self.space.cell_count(r) == 1
-            || !holds_any(&self.space, r, moves.reweighing.as_slice())
-        {
+        if self.is_kept(moves, r) {
             return Ok(before);
         }
         let changed = changes_inside(self.alloc, &self.space, r, moves.touched.as_slice())?;
@@ -48,6 +51,16 @@ impl<P: WeightPolicy + Drop> State<P> {
             r,
             &changed,
         )
+    }
+
+    /// Whether a region is spread after an edit as before, since it is one cell or none of its cells weighs otherwise.
+    pub(crate) fn is_kept(&self, moves: &Moves, r: Region) -> bool
+        requires moves { AreMoves (policy_in P.weigh self.now) self.now.shape self.now.dims self.now.facts moves.now }
+        requires region { IsRegion self.now.dims r }
+        ensures kept { result ≡ true → spread_at (policy_in P.weigh self.now) self.now.dims self.now.facts r ≡ spread_at (policy_in P.weigh self.now) self.now.dims (after moves.now.edit self.now.facts) r }
+        ensures several { result ≡ false → 1 < length (cells_of self.now.dims r) }
+    {
+        self.space.cell_count(r) == 1 || !holds_any(&self.space, r, moves.reweighing.as_slice())
     }
 
     /// How a region is spread before it.

@@ -1,5 +1,5 @@
 //! The state of a cube.
-ghost use Rattle.std.specs.Prelude.{◌≡◌, ◌+◌, ◌≤◌, [], true, IfOk, IfSome, length};
+ghost use Rattle.std.specs.Prelude.{◌≡◌, ◌+◌, ◌≤◌, [], true, All, IfOk, IfSome, length, map};
 ghost use Rattle.std.specs.Option.{option_copied};
 ghost use Rattle.cube_model.specs.Allocation.{allocation_of, row_count};
 ghost use Rattle.cube_model.specs.Cells.{AreRows};
@@ -9,18 +9,20 @@ ghost use Rattle.fact_records.specs.Valid.{AreValid};
 ghost use Rattle.edit_plan.specs.Plan.{IsPlanFor, has_room};
 ghost use Rattle.edit_plan.specs.State.{IsAfter, rows_in};
 
+use crate::sets::Sets;
 use crate::{Group, Plan};
 use alloc_rows::Alloc;
 use cell_weight::{StatIndex, WeightPolicy};
 use cube_base::Memory;
 use cube_model::Edit;
 use fact_records::{FactList, Shape};
-use region_algebra::Space;
+use region_algebra::{Space, ViewDef};
 use region_index::{RegionIndex, Steps};
 use staged_map::Staged;
 use std::alloc::Global;
 use std::marker::Model;
 use std::sync::ledger::Ledger;
+use view_store::Views;
 
 /// A policy, a space, measures, and facts with all that is kept of them: the statistics of cells, the imprecise facts by region,
 /// for each region that facts have how they are spread, and the number of rows. Contracts see the policy, the dimensions,
@@ -40,11 +42,13 @@ pub struct State<P: WeightPolicy + Drop> {
     pub(crate) index: RegionIndex,
     // For each region that a fact has, by its code, the facts there.
     pub(crate) groups: Staged<Group>,
+    pub(crate) views: Views,
     // The number of rows of all facts.
     pub(crate) rows: u64,
 }
 
 impl<P: WeightPolicy + Drop> Model for State<P> {
+    ghost use Rattle.std.specs.Prelude.{map};
     ghost use Rattle.edit_plan.specs.State.{StateValue, IsState};
     ghost use Rattle.fact_records.specs.Shape.{policy_over};
 
@@ -54,22 +58,33 @@ impl<P: WeightPolicy + Drop> Model for State<P> {
       policy = s.policy;
       dims = s.space;
       shape = s.shape;
+      cuts = map (λ view. view.depths) s.views.views;
       facts = s.facts.facts;
-      kept = record { spare = s.facts.spare; stats = s.stats; index = s.index; groups = s.groups; rows = s.rows };
+      kept = record { spare = s.facts.spare; stats = s.stats; index = s.index; groups = s.groups; views = s.views; rows = s.rows };
     } };
 
-    ghost invariant = { λ s. IsState (policy_over (P.weigh s.policy) s.shape) s.shape s.space s.facts.facts
-        (record { spare = s.facts.spare; stats = s.stats; index = s.index; groups = s.groups; rows = s.rows }) };
+    ghost invariant = { λ s. IsState (policy_over (P.weigh s.policy) s.shape) s.shape s.space (map (λ view. view.depths) s.views.views) s.facts.facts
+        (record { spare = s.facts.spare; stats = s.stats; index = s.index; groups = s.groups; views = s.views; rows = s.rows }) };
 }
 
 impl<P: WeightPolicy + Drop> State<P> {
-    /// A state without facts. The one error is want of memory.
-    pub fn new(alloc: Global, space: Space, shape: Shape, policy: P) -> Result<Self, Memory>
+    /// A state without facts, with these views, each of which has a depth for each dimension of the space. The one error is want of
+    /// memory.
+    pub fn new(
+        alloc: Global,
+        space: Space,
+        shape: Shape,
+        policy: P,
+        defs: &[ViewDef],
+    ) -> Result<Self, Memory>
+        requires { All (λ def. length def.depths ≡ length space) defs.now }
         ensures policy { IfOk result (λ state. state.policy ≡ policy) }
         ensures dims { IfOk result (λ state. state.dims ≡ space) }
         ensures shape { IfOk result (λ state. state.shape ≡ shape) }
+        ensures cuts { IfOk result (λ state. state.cuts ≡ map (λ def. def.depths) defs.now) }
         ensures facts { IfOk result (λ state. state.facts ≡ []) }
     {
+        let views = Views::new(alloc, defs, shape.columns())?;
         Ok(State {
             alloc,
             space,
@@ -79,6 +94,7 @@ impl<P: WeightPolicy + Drop> State<P> {
             stats: StatIndex::new(alloc),
             index: RegionIndex::new(alloc),
             groups: Staged::new(alloc),
+            views,
             rows: 0,
         })
     }
@@ -106,6 +122,14 @@ impl<P: WeightPolicy + Drop> State<P> {
         &self.facts
     }
 
+    /// The number of rows of all facts. It takes no memory.
+    pub fn row_count(&self) -> u64
+        ensures rows { result ≡ row_count (rows_in P.weigh self.now) }
+        ensures few { result ≤ MAX_ROWS }
+    {
+        self.rows
+    }
+
     /// The allocation of the fact of an id: None exactly where there is none. It is one step, and takes no memory.
     pub fn lookup<L: Ledger>(&self, id: u64, steps: &mut Steps<L>) -> Option<&Alloc>
         ensures rows { option_copied result ≡ allocation_of id (rows_in P.weigh self.now) }
@@ -127,17 +151,23 @@ impl<P: WeightPolicy + Drop> State<P> {
     {
         let Plan {
             edit,
+            alloc: _,
             refreshed: _,
             batch: _,
+            sets,
+            rows,
+        } = plan;
+        let Sets {
             stats,
             index,
             groups,
-            rows,
-        } = plan;
+            views,
+        } = sets;
         apply(&mut self.facts, edit);
         self.stats.install(stats.as_slice());
         self.index.install(index);
         self.groups.put_all(groups.into_vec());
+        self.views.install(views);
         self.rows = rows;
     }
 }

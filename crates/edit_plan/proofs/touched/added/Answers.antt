@@ -1,6 +1,6 @@
 -- The value of the measure by whose sum cells weigh is among the accepted values.
 use Rattle.std.proofs.Common.{◌∙◌}
-use Rattle.edit_plan.proofs.Adding.{weight-adds, weight-small, weight-within}
+use Rattle.fact_records.proofs.Adding.{weight-adds, weight-small, weight-within}
 use Rattle.edit_plan.proofs.touched.added.Goals as goal
 
 pub distance_at-requires : goal.distance_at-requires

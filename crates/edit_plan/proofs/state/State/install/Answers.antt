@@ -1,11 +1,23 @@
 -- What the plan sets is what its edit makes of the state.
-use Rattle.std.proofs.Common.{refl}
+use Rattle.std.proofs.Common.{refl, subst}
+use Rattle.staged_map.specs.Staged.{PutsAll}
+use Rattle.cell_weight.specs.Stats.{Installs}
 use Rattle.edit_plan.proofs.Installing.{after-installed, installed}
 use Rattle.edit_plan.proofs.state.State.install.Goals as goal
 
 pub invariant_of-self : goal.invariant_of-self
 invariant_of-self g c =
-    installed _ _ _ _ c.self.view_is c.plan.view_is g.P.WeightPolicy.weigh _ _ _ _ c.requires c.self.invariant c.apply.ensures c.as_slice.ensures c.into_vec.ensures c.install.ensures c.install-2.ensures c.put_all.ensures refl
+    installed g.P.WeightPolicy.weigh _ _ _ _ _ c.self.view_is c.plan.view_is c.sets.view_is c.requires c.self.invariant _ _
+    (record {
+      edited = c.apply.ensures;
+      stats = subst (Installs c.self.inside.stats c.install.new.self) c.as_slice.ensures c.install.ensures;
+      index = c.install-2.ensures;
+      groups = subst (PutsAll c.self.inside.groups c.put_all.new.self) c.into_vec.ensures c.put_all.ensures;
+      views = λ changes. c.install-3.ensures.after c.self.inside.space changes;
+      rows = refl;
+    })
 
 pub returns : goal.returns
-returns g c = after-installed _ _ _ _ c.self.view_is c.plan.view_is _ refl refl refl c.apply.ensures
+returns g c =
+    after-installed g.P.WeightPolicy.weigh _ _ _ _ _ c.self.view_is c.plan.view_is c.sets.view_is c.requires c.self.invariant _ refl refl refl refl c.apply.ensures
+    (λ changes. c.install-3.ensures.after c.self.inside.space changes)

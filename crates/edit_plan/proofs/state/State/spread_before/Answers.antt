@@ -6,7 +6,7 @@ use Rattle.cube_model.specs.Cells.{cells_of}
 use Rattle.cell_weight.specs.Stats.{stat_at}
 use Rattle.fact_groups.specs.Groups.{spread_at}
 use Rattle.edit_plan.specs.State.{policy_in}
-use Rattle.edit_plan.proofs.Regrouping.{before-seen, few-before}
+use Rattle.edit_plan.proofs.RegionSpreads.{before-seen, few-before}
 use Rattle.edit_plan.proofs.state.State.spread_before.Goals as goal
 
 pub allocate_at-requires-clause-counted : goal.allocate_at-requires-clause-counted

@@ -1,0 +1,73 @@
+-- What a state hands out as the ids that an edit refreshes.
+use Rattle.std.proofs.Common.{◌≡◌, ℕ, ◌+◌, ◌≤◌, List, ◌++◌, map, ap, ◌∙◌, subst, arith}
+use Rattle.std.specs.Prelude.{All, Option}
+use Rattle.std.specs.List.Sorted.{IsNonDecreasingBy, IsPermutation}
+use Rattle.std.specs.Option.{option_to_list}
+use Rattle.cube_model.specs.declared.edit.Fact.{Fact}
+use Rattle.cube_model.specs.declared.statistic.CellStat.{CellStat}
+use Rattle.cube_model.specs.Difference.{refreshed}
+use Rattle.cube_model.specs.Facts.{after}
+use Rattle.cube_model.specs.Tree.{IsTree}
+use Rattle.region_algebra.specs.Space.{IsRegion}
+use Rattle.fact_groups.specs.Edits.{edited_id}
+use Rattle.fact_records.specs.Shape.{width_of_all}
+use Rattle.fact_records.specs.Valid.{AreValid}
+use Rattle.edit_plan.specs.declared.moves.Moves.{Moves}
+use Rattle.edit_plan.specs.declared.regrouped.Regrouped.{Regrouped}
+use Rattle.edit_plan.specs.Bound.{covering_pairs}
+use Rattle.edit_plan.specs.Moves.{AreMoves}
+use Rattle.edit_plan.specs.Refreshing.{AreOfFacts, IsRegrouped, ids_at, others_at, own_pair}
+use Rattle.edit_plan.specs.Regrouped.{spread_anew}
+use Rattle.edit_plan.specs.State.{StateValue, policy_in}
+use Rattle.edit_plan.proofs.Accepting.{AreValid-after, allowed}
+use Rattle.edit_plan.proofs.HandedOut.{handed-out}
+use Rattle.edit_plan.proofs.Looking.{valid-regions}
+use Rattle.edit_plan.proofs.RefreshedPairs.{codes-sorted, ids-sorted}
+
+module _ {P : Type 0} (weigh : P → CellStat → ℕ) (state seen : StateValue P) (same : seen ≡ state) (valid : AreValid state.shape state.dims state.facts) (moves : Moves)
+    (are : AreMoves (policy_in weigh state) state.shape state.dims state.facts moves) where
+  abbrev later : List Fact
+  later = after moves.edit state.facts
+
+  pub regions : All (λ f. IsRegion state.dims f.region) state.facts
+  regions = valid-regions state.shape state.dims state.facts valid
+
+  pub later-valid : AreValid state.shape state.dims later
+  later-valid = AreValid-after state.shape state.dims moves.edit state.facts are.over (allowed state.shape state.dims moves.edit state.facts are.accepted) valid
+
+  pub later-regions : All (λ f. IsRegion state.dims f.region) later
+  later-regions = valid-regions state.shape state.dims later later-valid
+
+  trees-seen : All IsTree seen.dims → All IsTree state.dims
+  trees-seen trees = subst (λ (s : StateValue P). All IsTree s.dims) same trees
+
+  module _ (regrouped : Regrouped) (is : IsRegrouped (policy_in weigh state) (width_of_all state.shape.measures) state.dims moves.edit state.facts regrouped) (trees : All IsTree seen.dims) where
+    -- the ids that are handed out are few
+    pub handed-seen : (codes : List ℕ) (before now : ℕ) → codes ≡ regrouped.spread_anew → now ≤ before + ids_at state.dims state.facts codes → now ≤ before + covering_pairs (policy_in weigh state) state.dims moves.edit state.facts
+    handed-seen codes before now codes_are few =
+        omega (
+          arith,
+          few,
+          ap (ids_at state.dims state.facts) (codes_are ∙ is.anew),
+          handed-out (policy_in weigh state) (width_of_all state.shape.measures) state.dims moves.edit state.facts valid.ascending (trees-seen trees) regions later-regions is.codes is.hold,
+        )
+
+    module _ (id : ℕ) (codes : List ℕ) (others pairs sorted : List (ℕ × ℕ)) (own : Option (ℕ × ℕ)) (id_is : id ≡ edited_id moves.edit) (codes_are : codes ≡ regrouped.spread_anew)
+        (others_are : others ≡ others_at state.dims state.facts id codes)
+        (own_is : own ≡ own_pair (policy_in weigh state) state.dims moves.edit state.facts)
+        (pairs_are : pairs ≡ others ++ option_to_list own)
+        (moved : IsPermutation pairs sorted) where
+      all_are : pairs ≡ others_at state.dims state.facts (edited_id moves.edit) (spread_anew (policy_in weigh state) (width_of_all state.shape.measures) state.dims moves.edit state.facts is.codes)
+          ++ option_to_list (own_pair (policy_in weigh state) state.dims moves.edit state.facts)
+      all_are =
+          pairs_are
+          ∙ ap (λ o. others ++ option_to_list o) own_is
+          ∙ ap (λ ps. ps ++ option_to_list (own_pair (policy_in weigh state) state.dims moves.edit state.facts))
+          (others_are ∙ ap (λ i. others_at state.dims state.facts i codes) id_is ∙ ap (others_at state.dims state.facts (edited_id moves.edit)) (codes_are ∙ is.anew))
+
+      pub ids-seen : IsNonDecreasingBy (λ pair. pair.0) sorted → map (λ pair. pair.0) sorted ≡ refreshed (policy_in weigh state) state.dims state.facts later
+      ids-seen rises =
+          ids-sorted (policy_in weigh state) state.dims moves.edit state.facts valid.ascending (width_of_all state.shape.measures) is.codes is.hold sorted (subst (λ (ps : List (ℕ × ℕ)). IsPermutation ps sorted) all_are moved) (trees-seen trees) regions later-regions rises
+
+      pub codes-seen : AreOfFacts state.dims later sorted
+      codes-seen = codes-sorted (policy_in weigh state) state.dims moves.edit state.facts valid.ascending (width_of_all state.shape.measures) is.codes is.hold sorted (subst (λ (ps : List (ℕ × ℕ)). IsPermutation ps sorted) all_are moved)

@@ -1,0 +1,170 @@
+//! An edit, planned.
+ghost use Rattle.std.specs.Prelude.{◌≡◌, ◌+◌, ◌≤◌, true, All, None, IfErr, IfOk, OnOk, map};
+ghost use Rattle.cube_model.specs.Allocation.{row_count};
+ghost use Rattle.cube_model.specs.Ascending.{ascends_from};
+ghost use Rattle.cube_model.specs.Tree.{IsTree};
+ghost use Rattle.fact_records.specs.Shape.{width_of_all};
+ghost use Rattle.fact_records.specs.Valid.{AreValid, IsEditOver};
+ghost use Rattle.edit_plan.specs.Bound.{covering_pairs, step_bound};
+ghost use Rattle.edit_plan.specs.Covering.{probes_over};
+ghost use Rattle.edit_plan.specs.Moves.{AreMoves};
+ghost use Rattle.edit_plan.specs.Plan.{AreSetsFor, IsFaultOf, IsPlanFor, difference};
+ghost use Rattle.edit_plan.specs.Refreshing.{IsRegrouped};
+ghost use Rattle.edit_plan.specs.State.{HaveSameContent, judge_in, policy_in, refreshed_in, rows_after};
+
+use crate::moves::Moves;
+use crate::regrouped::Regrouped;
+use crate::sets::Sets;
+use crate::{Plan, PlanFault, State};
+use cell_weight::WeightPolicy;
+use cube_base::{Ids, Memory};
+use cube_model::{Edit, MAX_ROWS};
+use fact_keeper::Batch;
+use fact_records::judge_fact;
+use region_index::Steps;
+use std::alloc::Global;
+use std::sync::ledger::Ledger;
+
+/// Judges an edit and prepares it, so that it can be installed without memory. The id must be from 1 to 2^63 - 1 and the region of
+/// the fact, if it has one, a region of the space. The content stays in every case. The first of these that holds refuses the edit:
+/// `Code` with `Value` or `Parts`, the values of the fact are none of the measures; `Exists`, a put's id is there; `Missing`, the id of
+/// a change or a withdrawal is not; `Region`, the region has more than 2^20 cells; `Facts`, a put finds 2^20 facts; and `Rows`, the
+/// facts after the edit have more than 2^21 rows, with their number. `Memory` is want of memory: no code that is judged before the
+/// rows refuses the edit.
+///
+/// A step is one look at a region of the index, or one id that it hands out. With P the product over the dimensions of the largest
+/// depth and one, and f the number of pairs of a cell whose statistics the edit changes and an imprecise fact before it that covers
+/// the cell, there are at most 2P + 2f + 2.
+pub fn plan<P: WeightPolicy + Drop, L: Ledger>(
+    alloc: Global,
+    state: &mut State<P>,
+    edit: &Edit,
+    steps: &mut Steps<L>,
+) -> Result<Plan, PlanFault>
+    requires { IsEditOver state.old.dims edit.now }
+    ensures same { HaveSameContent state.old state.new }
+    ensures edit { IfOk result (λ plan. plan.edit ≡ edit.now) }
+    ensures fits { IfOk result (IsPlanFor P.weigh state.new) }
+    ensures refreshed { IfOk result (λ plan. plan.refreshed ≡ refreshed_in P.weigh state.old edit.now) }
+    ensures ascending { IfOk result (λ plan. ascends_from (λ id. id) 1 plan.refreshed ≡ true) }
+    ensures batch { IfOk result (λ plan. plan.batch ≡ difference (policy_in P.weigh state.old) state.old.dims edit.now state.old.facts) }
+    ensures accepted { OnOk result (judge_in P.weigh state.old edit.now ≡ None) }
+    ensures fault { IfErr result (IsFaultOf P.weigh state.old edit.now) }
+    ensures steps { steps.new ≤ steps.old + step_bound P.weigh state.old edit.now }
+{
+    let moves = state.judged(edit)?;
+    let regrouped = state.regroup_few(&moves, steps)?;
+    Ok(plan_of(alloc, state, &moves, regrouped, steps)?)
+}
+
+/// The plan of an edit that nothing refuses.
+fn plan_of<P: WeightPolicy + Drop, L: Ledger>(
+    alloc: Global,
+    state: &mut State<P>,
+    moves: &Moves,
+    regrouped: Regrouped,
+    steps: &mut Steps<L>,
+) -> Result<Plan, Memory>
+    requires moves { AreMoves (policy_in P.weigh state.old) state.old.shape state.old.dims state.old.facts moves.now }
+    requires regrouped { IsRegrouped (policy_in P.weigh state.old) (width_of_all state.old.shape.measures) state.old.dims moves.now.edit state.old.facts regrouped }
+    ensures same { HaveSameContent state.old state.new }
+    ensures edit { IfOk result (λ plan. plan.edit ≡ moves.now.edit) }
+    ensures refreshed { IfOk result (λ plan. plan.refreshed ≡ refreshed_in P.weigh state.old moves.now.edit) }
+    ensures batch { IfOk result (λ plan. plan.batch ≡ difference (policy_in P.weigh state.old) state.old.dims moves.now.edit state.old.facts) }
+    ensures sets { IfOk result (λ plan. AreSetsFor P.weigh state.new moves.now.edit plan.sets) }
+    ensures rows { IfOk result (λ plan. plan.rows ≡ regrouped.rows) }
+    ensures steps { steps.new ≤ steps.old + covering_pairs (policy_in P.weigh state.old) state.old.dims moves.now.edit state.old.facts }
+{
+    let rows = regrouped.rows;
+    let (refreshed, batch) = state.kept_changes(alloc, moves, &regrouped, steps)?;
+    let sets = state.stage_all(moves, regrouped)?;
+    Ok(Plan {
+        alloc,
+        edit: moves.edit,
+        refreshed,
+        batch,
+        sets,
+        rows,
+    })
+}
+
+impl<P: WeightPolicy + Drop> State<P> {
+    /// What an edit moves that is not refused before its rows are made.
+    fn judged(&self, edit: &Edit) -> Result<Moves, PlanFault>
+        requires { IsEditOver self.now.dims edit.now }
+        ensures moves { IfOk result (AreMoves (policy_in P.weigh self.now) self.now.shape self.now.dims self.now.facts) }
+        ensures edit { IfOk result (λ moves. moves.edit ≡ edit.now) }
+        ensures trees { All IsTree self.now.dims }
+        ensures valid { AreValid self.now.shape self.now.dims self.now.facts }
+        ensures fault { IfErr result (IsFaultOf P.weigh self.now edit.now) }
+    {
+        // What a space says of its dimensions.
+        let _ = self.space.dims();
+        if let Err(code) = judge_fact(&self.shape, &self.space, edit, &self.facts) {
+            return Err(PlanFault::Code(code));
+        }
+        Ok(self.moves(edit)?)
+    }
+
+    /// The groups that an edit changes, which leaves no more than 2^21 rows.
+    fn regroup_few<L: Ledger>(
+        &self,
+        moves: &Moves,
+        steps: &mut Steps<L>,
+    ) -> Result<Regrouped, PlanFault>
+        requires { AreMoves (policy_in P.weigh self.now) self.now.shape self.now.dims self.now.facts moves.now }
+        ensures regrouped { IfOk result (IsRegrouped (policy_in P.weigh self.now) (width_of_all self.now.shape.measures) self.now.dims moves.now.edit self.now.facts) }
+        ensures rows { IfOk result (λ regrouped. regrouped.rows ≡ row_count (rows_after P.weigh self.now moves.now.edit)) }
+        ensures accepted { OnOk result (judge_in P.weigh self.now moves.now.edit ≡ None) }
+        ensures fault { IfErr result (IsFaultOf P.weigh self.now moves.now.edit) }
+        ensures steps { steps.new ≤ steps.old + probes_over self.now.dims moves.now.reweighing }
+    {
+        let codes = self.codes(moves, steps)?;
+        let regrouped = self.regroup(moves, codes.as_slice())?;
+        if regrouped.rows > MAX_ROWS {
+            return Err(PlanFault::Rows {
+                would: regrouped.rows,
+            });
+        }
+        Ok(regrouped)
+    }
+
+    /// The ids that an edit refreshes, and what it changes in a store.
+    fn kept_changes<L: Ledger>(
+        &self,
+        alloc: Global,
+        moves: &Moves,
+        regrouped: &Regrouped,
+        steps: &mut Steps<L>,
+    ) -> Result<(Ids, Batch), Memory>
+        requires moves { AreMoves (policy_in P.weigh self.now) self.now.shape self.now.dims self.now.facts moves.now }
+        requires regrouped { IsRegrouped (policy_in P.weigh self.now) (width_of_all self.now.shape.measures) self.now.dims moves.now.edit self.now.facts regrouped.now }
+        ensures ids { IfOk result (λ made. made.0 ≡ refreshed_in P.weigh self.now moves.now.edit) }
+        ensures batch { IfOk result (λ made. made.1 ≡ difference (policy_in P.weigh self.now) self.now.dims moves.now.edit self.now.facts) }
+        ensures steps { steps.new ≤ steps.old + covering_pairs (policy_in P.weigh self.now) self.now.dims moves.now.edit self.now.facts }
+    {
+        let pairs = self.refreshed(moves, regrouped, steps)?;
+        let ids = ids_of(alloc, &pairs)?;
+        let batch = self.batch(moves, regrouped, &pairs)?;
+        Ok((ids, batch))
+    }
+
+    /// Makes room for what an edit sets, views too, and all that is to be set. The content stays.
+    fn stage_all(&mut self, moves: &Moves, regrouped: Regrouped) -> Result<Sets, Memory>
+        requires moves { AreMoves (policy_in P.weigh self.old) self.old.shape self.old.dims self.old.facts moves.now }
+        requires regrouped { IsRegrouped (policy_in P.weigh self.old) (width_of_all self.old.shape.measures) self.old.dims moves.now.edit self.old.facts regrouped }
+        ensures same { HaveSameContent self.old self.new }
+        ensures sets { IfOk result (AreSetsFor P.weigh self.new moves.now.edit) }
+    {
+        let changes = self.view_changes(moves, &regrouped)?;
+        self.make_room(moves, regrouped, &changes)
+    }
+}
+
+/// The ids of pairs of an id and a code.
+fn ids_of(alloc: Global, pairs: &[(u64, u64)]) -> Result<Ids, Memory>
+    ensures { IfOk result (λ ids. ids ≡ map (λ pair. pair.0) pairs.now) }
+{
+    let ids: Vec<u64> = pairs.iter().map(|pair| pair.0).collect(alloc)?;
+    Ok(Ids::from(ids))
+}
