@@ -1,18 +1,18 @@
 -- The numerators of a measure's outcomes, in an answer over facts whose values are accepted.
-use Rattle.std.proofs.Common.{get_or, ◌≡◌, ℕ, zero, suc, ◌+◌, ◌-◌, ◌*◌, ◌<◌, ◌≤◌, Bool, true, false, List, [], ◌∷◌, length, map, take, drop, subst, refl, sym, ap, ◌∙◌, arith, add-one, ℤ, pos, ◌+ℤ◌, ◌*ℤ◌, None}
-use Rattle.std.specs.Prelude.{All, fold, if◌then◌else◌, not, slice_index_or, sum_by, ◌==◌}
+use Rattle.std.proofs.Common.{get_or, ◌≡◌, ℕ, zero, suc, ◌+◌, ◌-◌, ◌*◌, ◌<◌, ◌≤◌, true, false, List, [], ◌∷◌, length, map, take, drop, subst, refl, sym, ap, ◌∙◌, arith, add-one, ℤ, pos, ◌+ℤ◌, ◌*ℤ◌, None}
+use Rattle.std.specs.Prelude.{All, fold, not, slice_index_or, sum_by, ◌==◌}
 use Rattle.std.specs.List.{range_with_len}
 use Rattle.std.proofs.lemmas.Bool.{or_parts}
 use Rattle.std.proofs.lemmas.Bool.Decides.{nat_tests}
 use Rattle.std.proofs.lemmas.Int.{ints}
-use Rattle.std.proofs.lemmas.List.Elements.{All-append, All-cons, All-filter, All-nil}
+use Rattle.std.proofs.lemmas.List.Elements.{All-filter}
 use Rattle.std.proofs.lemmas.List.FromFn.{get_or-map-range_with_len, get_or-range_with_len, length-range_with_len}
 use Rattle.std.proofs.lemmas.List.Sums.{sum_by-cons}
 use Rattle.std.proofs.Math.IntN.{*ℤ_comm, +ℤ_assoc}
 use Rattle.std.proofs.Math.Seq.{drop-cons}
 use Rattle.cube_model.specs.declared.term.Term.{Term}
 use Rattle.cube_model.specs.Allocation.{ExtendedFact}
-use Rattle.cube_model.specs.Answer.{answer, bound_of, count_at, over, sum_at, terms_below, total_by, weight_inside}
+use Rattle.cube_model.specs.Answer.{answer, bound_of, count_at, over, sum_at, total_by, weight_inside}
 use Rattle.cube_model.specs.Cells.{cells_of}
 use Rattle.cube_model.specs.Tree.{Dimension}
 use Rattle.exact_fraction.proofs.TotalLaws.{total_by-same, total_by-times, total_by-total_by}
@@ -24,7 +24,8 @@ use Rattle.fact_records.specs.Outcomes.{AddsUp, AllAddUp, IsScaled, columns_of, 
 use Rattle.fact_records.specs.Shape.{AreMeasures, IsWithin, ShapeValue, values_of, width_of, width_of_all}
 use Rattle.fact_records.specs.Values.{has_negative, sums_to}
 use Rattle.fact_records.proofs.Columns.{AreMeasures-within}
-use Rattle.cube_core.proofs.SmallValues.{none_of, not_refused}
+use Rattle.fact_records.proofs.SmallValues.{none_of, not_refused}
+use Rattle.cube_core.proofs.TermsBelow.{terms_below-each}
 
 -- a value of a fact by its column
 abbrev value_in : List ℤ → ℕ → ℤ
@@ -115,16 +116,6 @@ module _ (cells : List ℕ) (rows : List ExtendedFact) (columns den : ℕ) where
       subst (IsScaled m.kind term.count) (sym total)
       (rows-scaled m.kind (columns_of m) weight inside (All-filter (λ (e : ExtendedFact). e.allocation.den == den) (λ (e : ExtendedFact). IsScaled m.kind 1 (total_by (value_in e.values) (columns_of m))) rows each))
 
--- what holds of the term of each denominator holds of the terms
-terms_below-each : (P : Term → Type 0) (count : ℕ → ℕ) (sums : ℕ → List ℤ) → ((den : ℕ) → P (record { den = den; count = count den; sums = sums den })) → (bound : ℕ) → All P (terms_below count sums bound)
-terms_below-each P count sums each zero = All-nil P
-terms_below-each P count sums each (suc den) =
-    All-append P (terms_below count sums den) (if count den == 0 then [] else record { den = den; count = count den; sums = sums den } ∷ []) (terms_below-each P count sums each den) (one (count den == 0) (record { den = den; count = count den; sums = sums den }) (each den))
-  where
-    one : (none : Bool) (t : Term) → P t → All P (if none then [] else t ∷ [])
-    one true t holds = All-nil P
-    one false t holds = All-cons P t [] holds (All-nil P)
-
 -- at each term of an answer over rows of accepted values, the outcomes of every measure add up to the scale times the count
 pub answer_adds_up : (shape : ShapeValue) (dims : List Dimension) (rows : List ExtendedFact) (region : List ℕ) → AreMeasures shape.measures → All (λ e. cols_refusal shape e.values ≡ None) rows
     → AllAddUp shape.measures (answer (width_of_all shape.measures) dims rows region)
@@ -135,4 +126,4 @@ answer_adds_up shape dims rows region are accepted = λ i d lt.
     let cells = cells_of dims region in
     let within = AreMeasures-within columns shape.measures are refl i d lt in
     let each : All (λ e. IsScaled m.kind 1 (total_by (value_in e.values) (columns_of m))) rows = λ k e in_rows. accepted-total shape (get_or rows k e).values are (accepted k e in_rows) i d lt in
-    terms_below-each (AddsUp m) (count_at cells rows) (λ den. map (λ column. sum_at cells rows column den) (range_with_len 0 columns)) (λ den. term_adds_up cells rows columns den m within each) (bound_of rows)
+    terms_below-each (AddsUp m) (count_at cells rows) (λ den. map (λ column. sum_at cells rows column den) (range_with_len 0 columns)) (λ den some. term_adds_up cells rows columns den m within each) (bound_of rows)

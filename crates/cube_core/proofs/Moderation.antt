@@ -1,161 +1,166 @@
--- What is added up fact by fact stays within bounds.
-use Rattle.std.proofs.Common.{◌≡◌, ℕ, zero, suc, ◌+◌, ◌*◌, ◌<◌, ◌≤◌, true, false, List, [], ◌∷◌, length, map, refl, inl, inr, arith, ℤ, pos, ◌+ℤ◌, ◌*ℤ◌, length-append}
-use Rattle.std.specs.Prelude.{All, if◌then◌else◌, nat_abs, nat_lt, slice_index_or, ◌==◌}
-use Rattle.std.specs.List.{range_with_len}
-use Rattle.std.proofs.lemmas.Bool.{cases_eq}
+-- What facts of small values, spread over few cells, add up to stays within bounds.
+use Rattle.std.proofs.Common.{◌≡◌, ℕ, suc, ◌+◌, ◌*◌, ◌<◌, ◌≤◌, Bool, true, false, List, [], ◌∷◌, get_or, length, map, refl, ap, sym, subst, arith, inl, inr, ℤ, pos, ◌+ℤ◌, ◌*ℤ◌, None}
+use Rattle.std.specs.Prelude.{All, if◌then◌else◌, nat_abs, slice_index_or, ◌==◌}
+use Rattle.std.specs.List.{range_with_len, sum_by}
+use Rattle.std.proofs.lemmas.Bool.{cases_lt}
 use Rattle.std.proofs.lemmas.Bool.Decides.{nat_tests}
 use Rattle.std.proofs.lemmas.Int.{ints, unsigned_abs-mul}
-use Rattle.std.proofs.lemmas.List.{get_or_default}
-use Rattle.std.proofs.lemmas.List.Elements.{All-from_get_or}
+use Rattle.std.proofs.lemmas.List.{get_or_past, length-map}
+use Rattle.std.proofs.lemmas.List.Elements.{All-from_get_or, All-head, All-map, All-tail}
+use Rattle.std.proofs.lemmas.List.FromFn.{get_or-map-range_with_len, length-map-range_with_len}
+use Rattle.std.proofs.lemmas.List.Sums.{sum_by-cons}
 use Rattle.std.proofs.Math.Nat.{mul-le-mul_left, mul-le-mul_right}
-use Rattle.cube_model.specs.declared.term.Term.{Term}
-use Rattle.cube_model.specs.Allocation.{ExtendedFact}
-use Rattle.cube_model.specs.Answer.{answer, bound_of, count_at, count_of, numerator_of, sum_at, terms_below}
+use Rattle.cube_model.specs.declared.edit.Fact.{Fact}
+use Rattle.cube_model.specs.declared.statistic.CellStat.{CellStat}
+use Rattle.cube_model.specs.Allocation.{ExtendedFact, allocation, extended}
+use Rattle.cube_model.specs.Answer.{answer, bound_of, count_at, over, sum_at, total_by, weight_inside}
 use Rattle.cube_model.specs.Cells.{cells_of}
 use Rattle.cube_model.specs.Limits.{DEN_LIMIT, MAX_FACTS, MAX_VALUE}
-use Rattle.cube_model.specs.Tree.{Dimension}
+use Rattle.cube_model.specs.Tree.{Dimension, IsTree}
+use Rattle.cell_weight.specs.Stats.{IsStat}
+use Rattle.alloc_rows.specs.Alloc.{IsAllocation}
 use Rattle.exact_fraction.specs.Moderate.{IsModerate, IsModerateTerm}
-use Rattle.group_sum.specs.Place.{no_term, term_at}
-use Rattle.group_sum.specs.Terms.{AddsShare, Fits, TermList, are_terms_from, is_term}
-use Rattle.group_sum.proofs.Adding.{StandsFor, stands_at}
-use Rattle.group_sum.proofs.Ascending.{is_term_at}
+use Rattle.fact_groups.proofs.Sharing.{allocation-spread_at}
+use Rattle.fact_records.specs.Accepted.{cols_refusal}
+use Rattle.fact_records.specs.Shape.{IsShape, ShapeValue, policy_over, width_of_all}
+use Rattle.fact_records.specs.Valid.{AreValid}
+use Rattle.fact_records.proofs.SmallValues.{count-accepted, small-accepted}
+use Rattle.edit_plan.proofs.Modest.{inside-le}
+use Rattle.edit_plan.proofs.SmallGroups.{spread-allocates}
 use Rattle.cube_core.specs.Cube.{IsBounded}
-use Rattle.cube_core.proofs.AddingUp.{count_at-cons}
-
--- Of so many facts: no count passes their number times its denominator, no sum MAX_VALUE times its count, and nothing
--- has a denominator from DEN_LIMIT on.
-pub record AreModest (facts columns : ℕ) (terms : List Term) : Type 0 where
-  pub counts : (d : ℕ) → count_of terms d ≤ facts * d
-  pub sums : (d k : ℕ) → k < columns → nat_abs (numerator_of terms d (k + 1)) ≤ MAX_VALUE * count_of terms d
-  pub limit : (d : ℕ) → DEN_LIMIT ≤ d → count_of terms d ≡ 0
-
-pub modest-none : (columns : ℕ) → AreModest 0 columns []
-modest-none columns = record {
-  counts = λ d. omega arith;
-  sums = λ d k within. omega arith;
-  limit = λ d le. refl;
-}
+use Rattle.cube_core.proofs.Rows.{extended-among, few_cells}
+use Rattle.cube_core.proofs.TermsBelow.{length-answer, terms_below-each}
 
 -- values that a fact may have
 pub record AreSmallValues (columns : ℕ) (values : List ℤ) : Type 0 where
   pub count : length values ≡ columns
-  pub small : (k : ℕ) → k < columns → nat_abs (slice_index_or values k (pos 0)) ≤ MAX_VALUE
+  pub small : All (λ value. nat_abs value ≤ MAX_VALUE) values
 
--- the product of a weight and a value
-product-small : (weight : ℕ) (value : ℤ) → nat_abs value ≤ MAX_VALUE → nat_abs (pos weight *ℤ value) ≤ MAX_VALUE * weight
-product-small weight value small = omega (arith, unsigned_abs-mul (pos weight) value, mul-le-mul_left weight small)
+pub small_values : (shape : ShapeValue) (values : List ℤ) → IsShape shape → cols_refusal shape values ≡ None → AreSmallValues (width_of_all shape.measures) values
+small_values shape values is accepted = record { count = count-accepted shape values accepted; small = small-accepted shape values accepted is.measures }
 
-sum-small : (sum product : ℤ) (m n : ℕ) → nat_abs sum ≤ MAX_VALUE * m → nat_abs product ≤ MAX_VALUE * n → nat_abs (sum +ℤ product) ≤ MAX_VALUE * (m + n)
-sum-small sum product m n first second = omega (arith, ints)
+-- a fact with small values whose rows are an allocation
+pub record IsSmall (e : ExtendedFact) : Type 0 where
+  pub spread : IsAllocation e.allocation
+  pub values : All (λ value. nat_abs value ≤ MAX_VALUE) e.values
 
--- a share of a fact more
-module _ (facts columns : ℕ) (old : TermList) (modest : AreModest facts columns old.terms) (den weight : ℕ) (values : List ℤ)
-    (within : weight ≤ den) (limit : den < DEN_LIMIT) (small : AreSmallValues columns values) where
-  -- fits
-  pub fits_next : facts < MAX_FACTS → Fits old.terms den weight values
-  fits_next few =
-      let count : count_of old.terms den + weight ≤ (facts + 1) * den = omega (arith, modest.counts den) in
-      let bound : (facts + 1) * den ≤ MAX_FACTS * den = mul-le-mul_right den (omega arith) in
+-- also where there is no value
+small-at : (values : List ℤ) (k : ℕ) → All (λ value. nat_abs value ≤ MAX_VALUE) values → nat_abs (slice_index_or values k (pos 0)) ≤ MAX_VALUE
+small-at values k each = elim (cases_lt k (length values)) [
+  | inl within ↦ each k (pos 0) within
+  | inr past ↦ omega (arith, ints, ap nat_abs (get_or_past values k (pos 0) past))
+]
+
+module _ (cells : List ℕ) (den : ℕ) where
+  abbrev weight : ExtendedFact → ℕ
+  weight e = weight_inside cells e.allocation
+
+  abbrev product : ℕ → ExtendedFact → ℤ
+  product k e = pos (weight e) *ℤ slice_index_or e.values k (pos 0)
+
+  -- no count passes the number of the facts times its denominator
+  count-le : (rows : List ExtendedFact) → All IsSmall rows → count_at cells rows den ≤ length rows * den
+  count-le [] each = omega arith
+  count-le (e ∷ rows) each = by (e.allocation.den == den) refl (count-le rows (All-tail IsSmall e rows each))
+    where
+      is : IsSmall e
+      is = All-head IsSmall e rows each
+
+      by : (b : Bool) → (e.allocation.den == den) ≡ b → count_at cells rows den ≤ length rows * den → sum_by weight (if b then e ∷ over den rows else over den rows) ≤ suc (length rows) * den
+      by true same rest =
+          let its : e.allocation.den ≡ den = grind (arith, nat_tests, same) in
+          omega (arith, its, sum_by-cons weight e (over den rows), inside-le cells e.allocation is.spread, rest)
+      by false other rest = omega (arith, rest)
+
+  -- no sum passes MAX_VALUE times its count
+  sum-le : (k : ℕ) (rows : List ExtendedFact) → All IsSmall rows → nat_abs (sum_at cells rows k den) ≤ MAX_VALUE * count_at cells rows den
+  sum-le k [] each = omega arith
+  sum-le k (e ∷ rows) each = by (e.allocation.den == den) (sum-le k rows (All-tail IsSmall e rows each))
+    where
+      one : nat_abs (product k e) ≤ MAX_VALUE * weight e
+      one =
+          let most : weight e * nat_abs (slice_index_or e.values k (pos 0)) ≤ weight e * MAX_VALUE = mul-le-mul_left (weight e) (small-at e.values k (All-head IsSmall e rows each).values) in
+          omega (arith, unsigned_abs-mul (pos (weight e)) (slice_index_or e.values k (pos 0)), most)
+
+      added : (a b : ℤ) (m n all : ℕ) → nat_abs a ≤ MAX_VALUE * m → nat_abs b ≤ MAX_VALUE * n → all ≡ m + n → nat_abs (a +ℤ b) ≤ MAX_VALUE * all
+      added a b m n all first second sum = omega (arith, ints, first, second, sum)
+
+      by : (b : Bool) → nat_abs (sum_at cells rows k den) ≤ MAX_VALUE * count_at cells rows den
+          → nat_abs (total_by (product k) (if b then e ∷ over den rows else over den rows)) ≤ MAX_VALUE * sum_by weight (if b then e ∷ over den rows else over den rows)
+      by true rest = added (product k e) (sum_at cells rows k den) (weight e) (count_at cells rows den) (sum_by weight (e ∷ over den rows)) one rest (sum_by-cons weight e (over den rows))
+      by false rest = rest
+
+  -- and nothing has a denominator from DEN_LIMIT on
+  den-below : (rows : List ExtendedFact) → All IsSmall rows → (count_at cells rows den == 0) ≡ false → den < DEN_LIMIT
+  den-below [] each some = absurd (grind (arith, nat_tests, some))
+  den-below (e ∷ rows) each some = by (e.allocation.den == den) refl (den-below rows (All-tail IsSmall e rows each)) some
+    where
+      by : (b : Bool) → (e.allocation.den == den) ≡ b → ((count_at cells rows den == 0) ≡ false → den < DEN_LIMIT)
+          → (sum_by weight (if b then e ∷ over den rows else over den rows) == 0) ≡ false → den < DEN_LIMIT
+      by true same rest some =
+          let its : e.allocation.den ≡ den = grind (arith, nat_tests, same) in
+          omega (arith, its, (All-head IsSmall e rows each).spread.limit)
+      by false other rest some = rest some
+
+-- answers over few such facts
+module _ (columns : ℕ) (dims : List Dimension) (rows : List ExtendedFact) (small : All IsSmall rows) (few : length rows ≤ MAX_FACTS) (region : List ℕ) where
+  abbrev cells : List ℕ
+  cells = cells_of dims region
+
+  abbrev sums_of : ℕ → List ℤ
+  sums_of den = map (λ column. sum_at cells rows column den) (range_with_len 0 columns)
+
+  -- have moderate terms
+  term_is : (den : ℕ) → IsModerateTerm (record { den = den; count = count_at cells rows den; sums = sums_of den })
+  term_is den = record {
+    count = omega (arith, count-le cells den rows small, mul-le-mul_right den few);
+    sums =
+        All-from_get_or (λ sum. nat_abs sum ≤ MAX_VALUE * count_at cells rows den) (sums_of den) (pos 0)
+        (λ k within.
+        let inside : k < columns = omega (arith, within, length-map-range_with_len (λ column. sum_at cells rows column den) 0 columns) in
+        rw (get_or-map-range_with_len (λ column. sum_at cells rows column den) 0 columns k k (pos 0) inside (omega arith)) (sum-le cells den k rows small));
+  }
+
+  pub answer-moderate : IsModerate (answer columns dims rows region)
+  unfolding answer
+  answer-moderate = record {
+    few = omega (arith, few, length-answer columns dims rows region);
+    each = terms_below-each IsModerateTerm (count_at cells rows) sums_of (λ den some. term_is den) (bound_of rows);
+  }
+
+  -- and bounded ones
+  pub answer-bounded : All IsBounded (answer columns dims rows region)
+  unfolding answer
+  answer-bounded =
+      terms_below-each IsBounded (count_at cells rows) sums_of
+      (λ den some.
+      let below = den-below cells den rows small some in
+      let is = term_is den in
       record {
-        count = omega arith;
-        sums = λ k lt.
-            let inside : k < columns = omega (arith, small.count) in
-            let product = product-small weight (slice_index_or values k (pos 0)) (small.small k inside) in
-            let sum = sum-small (numerator_of old.terms den (k + 1)) (pos weight *ℤ slice_index_or values k (pos 0)) (count_of old.terms den) weight (modest.sums den k inside) product in
-            let most : MAX_VALUE * (count_of old.terms den + weight) ≤ MAX_VALUE * (MAX_FACTS * den) = mul-le-mul_left MAX_VALUE (omega arith) in
-            omega arith;
-      }
+        den = below;
+        count = omega (arith, is.count, below);
+        sums = λ k d within. omega (arith, is.sums k d within, is.count, below);
+      })
+      (bound_of rows)
 
-  -- and leaves all within bounds
-  module _ (new : TermList) (adds : AddsShare old new den weight values) where
-    count_next : (d : ℕ) → count_of new.terms d ≤ (facts + 1) * d
-    count_next d = elim (cases_eq d den) [
-      | inl same ↦ grind (arith, nat_tests, modest.counts d, adds.counts d)
-      | inr other ↦ grind (arith, nat_tests, modest.counts d, adds.counts d)
-    ]
+-- the facts that a cube may have are few and such
+module _ (weigh : CellStat → ℕ) (bound : (s : CellStat) → IsStat s → weigh s ≤ 1 + s.count * MAX_VALUE) (shape : ShapeValue) (dims : List Dimension) (facts : List Fact)
+    (is : IsShape shape) (trees : All IsTree dims) (valid : AreValid shape dims facts) where
+  abbrev row : Fact → ExtendedFact
+  row f = record { id = f.id; values = f.cols; allocation = allocation (policy_over weigh shape) dims facts f }
 
-    sum_next : (d k : ℕ) → k < columns → nat_abs (numerator_of new.terms d (k + 1)) ≤ MAX_VALUE * count_of new.terms d
-    sum_next d k inside =
-        let lt : k < length values = omega (arith, small.count) in
-        let before = modest.sums d k inside in
-        elim (cases_eq d den) [
-          | inl same ↦
-              let test : (d == den) ≡ true = grind (arith, nat_tests) in
-              let product = product-small weight (slice_index_or values k (pos 0)) (small.small k inside) in
-              rw (adds.sums d k lt, adds.counts d, test) (sum-small (numerator_of old.terms d (k + 1)) (pos weight *ℤ slice_index_or values k (pos 0)) (count_of old.terms d) weight before product)
-          | inr other ↦
-              let test : (d == den) ≡ false = grind (arith, nat_tests) in
-              rw (adds.sums d k lt, adds.counts d, test) (sum-small (numerator_of old.terms d (k + 1)) (pos 0) (count_of old.terms d) 0 before (omega arith))
-        ]
+  pub small-rows : All IsSmall (extended (policy_over weigh shape) dims facts)
+  small-rows =
+      rw (extended-among (policy_over weigh shape) dims facts) (All-map IsSmall row facts
+      (λ k d lt.
+      let f = get_or facts k d in
+      let one = valid.each k d lt in
+      record {
+        spread =
+            subst IsAllocation (sym (allocation-spread_at (policy_over weigh shape) dims facts f))
+            (spread-allocates weigh bound shape dims facts is trees valid f.region one.accepted.placed.region (few_cells dims f.region one.size));
+        values = (small_values shape f.cols is one.accepted.values).small;
+      }))
 
-    pub modest-next : AreModest (facts + 1) columns new.terms
-    modest-next = record {
-      counts = count_next;
-      sums = sum_next;
-      limit = λ d le. grind (arith, nat_tests, modest.limit d le, adds.counts d);
-    }
-
--- one fact more has at most one term more
-module _ (old new : ℕ → ℕ) (sums : ℕ → List ℤ) (den : ℕ) (same : (d : ℕ) → (den == d) ≡ false → new d ≡ old d) where
-  length-more : (bound : ℕ) → length (terms_below new sums bound) ≤ length (terms_below old sums bound) + (if nat_lt den bound then 1 else 0)
-  length-more zero = omega arith
-  length-more (suc d) =
-      let before = length-more d in
-      let now_len = length-append (terms_below new sums d) (if new d == 0 then [] else record { den = d; count = new d; sums = sums d } ∷ []) in
-      let old_len = length-append (terms_below old sums d) (if old d == 0 then [] else record { den = d; count = old d; sums = sums d } ∷ []) in
-      elim (cases_eq den d) [
-        | inl here ↦ grind (arith, nat_tests, before, now_len, old_len)
-        | inr other ↦ grind (arith, nat_tests, before, now_len, old_len, same d)
-      ]
-
-length-none : (sums : ℕ → List ℤ) (bound : ℕ) → length (terms_below (λ d. 0) sums bound) ≡ 0
-length-none sums zero = refl
-length-none sums (suc d) = omega (arith, length-none sums d, length-append (terms_below (λ d. 0) sums d) [])
-
-length-terms_below : (cells : List ℕ) (rows : List ExtendedFact) (sums : ℕ → List ℤ) (bound : ℕ) → length (terms_below (count_at cells rows) sums bound) ≤ length rows
-length-terms_below cells [] sums bound = omega (arith, length-none sums bound)
-length-terms_below cells (e ∷ rows) sums bound =
-    let rest = length-terms_below cells rows sums bound in
-    let same : (d : ℕ) → (e.allocation.den == d) ≡ false → count_at cells (e ∷ rows) d ≡ count_at cells rows d = λ d other. grind (arith, nat_tests, count_at-cons cells e rows d) in
-    let more = length-more (count_at cells rows) (count_at cells (e ∷ rows)) sums e.allocation.den same bound in
-    grind (arith, nat_tests)
-
-pub length-answer : (columns : ℕ) (dims : List Dimension) (rows : List ExtendedFact) (region : List ℕ) → length (answer columns dims rows region) ≤ length rows
-unfolding answer
-length-answer columns dims rows region =
-    length-terms_below (cells_of dims region) rows (λ den. map (λ column. sum_at (cells_of dims region) rows column den) (range_with_len 0 columns)) (bound_of rows)
-
--- modest terms are moderate and bounded
-module _ (facts columns : ℕ) (terms : List Term) (are : are_terms_from (columns + 1) 1 terms ≡ true) (modest : AreModest facts columns terms) (few : facts ≤ MAX_FACTS) where
-  module _ (i : ℕ) (lt : i < length terms) where
-    stands : StandsFor terms columns (term_at terms i)
-    stands = stands_at (columns + 1) terms are columns i refl (term_at terms i) lt (get_or_default terms i no_term (term_at terms i) lt)
-
-    whole : is_term (columns + 1) (term_at terms i) ≡ true
-    whole = is_term_at (columns + 1) 1 terms are i lt
-
-    sums_at : All (λ sum. nat_abs sum ≤ MAX_VALUE * (term_at terms i).count) (term_at terms i).sums
-    sums_at = All-from_get_or (λ sum. nat_abs sum ≤ MAX_VALUE * (term_at terms i).count) (term_at terms i).sums (pos 0)
-        (λ k within. rw (← stands.sums k, ← stands.count) (modest.sums (term_at terms i).den k (omega (arith, stands.columns))))
-
-    count_at_most : (term_at terms i).count ≤ MAX_FACTS * (term_at terms i).den
-    count_at_most = omega (arith, stands.count, modest.counts (term_at terms i).den, mul-le-mul_right (term_at terms i).den few)
-
-    moderate_at : IsModerateTerm (term_at terms i)
-    moderate_at = record { count = count_at_most; sums = sums_at }
-
-    den_at : (term_at terms i).den < DEN_LIMIT
-    den_at = grind (arith, nat_tests, whole, stands.count, modest.limit (term_at terms i).den)
-
-    bounded_at : IsBounded (term_at terms i)
-    bounded_at = record {
-      den = den_at;
-      count = omega (arith, count_at_most, den_at);
-      sums = λ k d within. omega (arith, sums_at k d within, count_at_most, den_at);
-    }
-
-  pub are_moderate : length terms ≤ MAX_FACTS → IsModerate terms
-  are_moderate short = record { few = short; each = All-from_get_or IsModerateTerm terms no_term moderate_at }
-
-  pub are_bounded : All IsBounded terms
-  are_bounded = All-from_get_or IsBounded terms no_term bounded_at
+  pub few-rows : length (extended (policy_over weigh shape) dims facts) ≤ MAX_FACTS
+  few-rows = rw (extended-among (policy_over weigh shape) dims facts) (omega (arith, valid.few, length-map facts row))

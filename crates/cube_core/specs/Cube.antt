@@ -1,19 +1,25 @@
 -- What a cube is and keeps, and what its calls say. What a cube's policy makes cells weigh is an argument of each: its trait says it.
-use Rattle.std.specs.Prelude.{◌≡◌, ◌≢◌, ℕ, ◌<◌, ◌≤◌, List, All, nat_abs, Option, Some, None}
-use Rattle.std.specs.Ordering.{nat_cmp}
-use Rattle.std.specs.BTreeMap.{BTreeMap, get}
+use Rattle.std.specs.Prelude.{◌≡◌, ◌≢◌, ℕ, ◌<◌, List, All, map, nat_abs, Option, Some, None, Result, Err}
 use Rattle.cube_base.specs.declared.code.Code.{Code}
 use Rattle.cube_base.specs.declared.code.Code.TheVariants as code
+use Rattle.cube_base.specs.Outside.{Rose}
 use Rattle.cube_model.specs.declared.edit.Fact.{Fact}
 use Rattle.cube_model.specs.declared.edit.Edit.{Edit}
-use Rattle.cube_model.specs.declared.edit.Edit.TheVariants.{Put, Change, Withdraw}
 use Rattle.cube_model.specs.declared.statistic.CellStat.{CellStat}
 use Rattle.cube_model.specs.declared.term.Term.{Term}
-use Rattle.cube_model.specs.Allocation.{Allocation, ExtendedFact, allocation_of, extended, row_count}
+use Rattle.cube_model.specs.Allocation.{ExtendedFact, extended, row_count}
 use Rattle.cube_model.specs.Answer.{answer}
 use Rattle.cube_model.specs.Difference.{refreshed}
 use Rattle.cube_model.specs.Facts.{after}
-use Rattle.cube_model.specs.Limits.{DEN_LIMIT, MAX_ROWS, WIDE}
+use Rattle.cube_model.specs.Limits.{DEN_LIMIT, WIDE}
+use Rattle.edit_plan.specs.Bound.{step_limit}
+use Rattle.edit_plan.specs.Plan.{difference}
+use Rattle.edit_plan.specs.State.{StateValue}
+use Rattle.edit_plan.specs.declared.fault.PlanFault.{PlanFault}
+use Rattle.edit_plan.specs.declared.fault.PlanFault.TheVariants as plan_fault
+use Rattle.fact_keeper.specs.declared.content.Batch.{Batch}
+use Rattle.fact_keeper.specs.declared.keeper.KeepError.{KeepError}
+use Rattle.fact_keeper.specs.declared.keeper.KeepError.TheVariants as keep_error
 use Rattle.fact_records.specs.Judge.{fact_refusal, judge}
 use Rattle.fact_records.specs.Shape.{width_of_all}
 use Rattle.fact_records.specs.Valid.{AreValid}
@@ -55,27 +61,41 @@ judge_in weigh cube edit = judge (policy_in (weigh cube.policy) cube.schema) (sh
 abbrev pub refreshed_in : {P : Type 0} → (P → CellStat → ℕ) → CubeValue P → Edit → List ℕ
 refreshed_in weigh cube edit = refreshed (policy_in (weigh cube.policy) cube.schema) cube.schema.dims cube.facts (after edit cube.facts)
 
--- the allocations by id are those of these rows
-pub record AreAllocationsOf (rows : List ExtendedFact) (kept : BTreeMap ℕ Allocation) : Type 0 where
-  pub each : (id : ℕ) → get nat_cmp kept id ≡ allocation_of id rows
+-- A state is one of a schema: its space, measures and views are the schema's.
+pub record IsStateOf {P : Type 0} (schema : SchemaValue) (state : StateValue P) : Type 0 where
+  pub dims_are : state.dims ≡ schema.dims
+  pub shape_is : state.shape ≡ shape_of schema
+  pub cuts_are : state.cuts ≡ map (λ view. view.depths) schema.views
 
--- What a cube keeps: its facts are valid, its allocations are those made anew from its facts, and these have not too many rows.
-pub record IsCube (weigh : CellStat → ℕ) (schema : SchemaValue) (facts : List Fact) (kept : BTreeMap ℕ Allocation) : Type 0 where
-  pub valid : AreFactsOf schema facts
-  pub rows : AreAllocationsOf (rows_over weigh schema facts) kept
-  pub few_rows : row_count (rows_over weigh schema facts) ≤ MAX_ROWS
+-- what an edit of a cube changes of what is kept
+abbrev pub difference_in : {P : Type 0} → (P → CellStat → ℕ) → CubeValue P → Edit → Batch
+difference_in weigh cube edit = difference (policy_in (weigh cube.policy) cube.schema) cube.schema.dims edit cube.facts
+
+-- the most steps of an edit of a cube
+abbrev pub step_bound_in : {P : Type 0} → (P → CellStat → ℕ) → CubeValue P → Edit → ℕ
+step_bound_in weigh cube edit = step_limit (policy_in (weigh cube.policy) cube.schema) cube.schema.dims edit cube.facts
 
 -- Why an edit of a cube fails. Where it is refused for the number of rows, that number is told, else the code. Want of memory is said only where the fact is not refused.
 abbrev pub IsFaultOf : {P : Type 0} → (P → CellStat → ℕ) → CubeValue P → Edit → EditFault → Type 0
 IsFaultOf weigh cube edit (edit_fault.Code refusal) = (judge_in weigh cube edit ≡ Some refusal) × (refusal ≢ code.Rows)
 IsFaultOf weigh cube edit (edit_fault.Rows would) = (judge_in weigh cube edit ≡ Some code.Rows) × (would ≡ row_count (rows_in weigh (edited edit cube)))
+IsFaultOf weigh cube edit edit_fault.KeepFault = judge_in weigh cube edit ≡ None
 IsFaultOf weigh cube edit edit_fault.Memory = fact_refusal (shape_of cube.schema) cube.schema.dims edit cube.facts ≡ None
 
--- the id of a withdrawal
-abbrev pub withdrawn : Edit → Option ℕ
-withdrawn (Put fact) = None
-withdrawn (Change fact) = None
-withdrawn (Withdraw id) = Some id
+-- what refuses an edit where it is planned, and where it is kept
+abbrev pub fault_of_plan : PlanFault → EditFault
+fault_of_plan (plan_fault.Code code) = edit_fault.Code code
+fault_of_plan (plan_fault.Rows would) = edit_fault.Rows would
+fault_of_plan plan_fault.Memory = edit_fault.Memory
+
+abbrev pub fault_of_keeper : KeepError → EditFault
+fault_of_keeper keep_error.Failed = edit_fault.KeepFault
+fault_of_keeper keep_error.Memory = edit_fault.Memory
+
+-- A keeper's count of faults rises where the edit answers a fault of it, or stands at its last value; with every other answer it stays.
+abbrev pub CountsEditFault : {R : Type 0} → ℕ → ℕ → Result R EditFault → Type 0
+CountsEditFault old new (Err edit_fault.KeepFault) = Rose old new
+CountsEditFault old new _ = new ≡ old
 
 -- a term of an answer: its denominator is one that an allocation may have, and every numerator is below the limit of terms in absolute value
 pub record IsBounded (t : Term) : Type 0 where

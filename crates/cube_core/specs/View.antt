@@ -1,31 +1,14 @@
 -- A view of facts: what they add up to in the regions where its cuts meet.
-use Rattle.std.specs.Prelude.{ℕ, ◌+◌, List, [], ◌∷◌, length, map, filter, nat_lt, slice_get}
-use Rattle.std.specs.List.{flat_map}
+use Rattle.std.specs.Prelude.{ℕ, ◌+◌, List, [], slice_get}
 use Rattle.std.specs.Option.{option_map_or}
 use Rattle.cube_model.specs.declared.edit.Fact.{Fact}
 use Rattle.cube_model.specs.declared.statistic.CellStat.{CellStat}
 use Rattle.cube_model.specs.Answer.{answer}
-use Rattle.cube_model.specs.Cut.{cut}
-use Rattle.cube_model.specs.Tree.{Dimension}
 use Rattle.fact_records.specs.Shape.{width_of_all}
 use Rattle.group_sum.specs.Terms.{TermList}
 use Rattle.schema_text.specs.Schema.{SchemaValue}
+use Rattle.view_store.specs.Cuts.{cut_regions, entries_of}
 use Rattle.cube_core.specs.Cube.{CubeValue, rows_over}
-
--- nodes before each of these regions
-abbrev pub regions_behind : List ℕ → List (List ℕ) → List (List ℕ)
-regions_behind nodes regions = flat_map (λ node. map (λ region. node ∷ region) regions) nodes
-
--- the product of the cuts at depths, the first dimension slowest
-abbrev pub cut_regions : List Dimension → List ℕ → List (List ℕ)
-cut_regions [] [] = [] ∷ []
-cut_regions [] (depth ∷ depths) = []
-cut_regions (dim ∷ dims) [] = []
-cut_regions (dim ∷ dims) (depth ∷ depths) = regions_behind (cut dim depth) (cut_regions dims depths)
-
--- regions with their terms, without those that have none
-abbrev pub entries_of : (List ℕ → TermList) → List (List ℕ) → List (List ℕ × TermList)
-entries_of terms_of regions = filter (λ entry. nat_lt 0 (length entry.1.terms)) (map (λ region. (region, terms_of region)) regions)
 
 -- what facts add up to in a region
 abbrev pub terms_over : (CellStat → ℕ) → SchemaValue → List Fact → List ℕ → TermList

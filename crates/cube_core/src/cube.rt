@@ -1,42 +1,42 @@
 //! The cube.
-ghost use Rattle.std.specs.Prelude.{◌≡◌, ◌+◌, ◌<◌, ◌≤◌, [], None, true, All, length, IfErr, IfOk, IfSome, OnErr, OnOk};
+ghost use Rattle.std.specs.Prelude.{◌≡◌, ◌+◌, ◌++◌, ◌∷◌, ◌<◌, ◌≤◌, [], None, true, All, length, option_map, IfErr, IfOk, IfSome, IsTrue, OnErr, OnOk};
 ghost use Rattle.std.specs.Option.{option_copied};
-ghost use Rattle.std.specs.Result.{result_err};
 ghost use Rattle.alloc_rows.specs.Alloc.{IsAllocation};
 ghost use Rattle.cube_model.specs.Allocation.{allocation_of, row_count};
 ghost use Rattle.cube_model.specs.Ascending.{ascends_from};
 ghost use Rattle.cube_model.specs.Cells.{AreRows};
 ghost use Rattle.cube_model.specs.Limits.{MAX_ROWS};
+ghost use Rattle.edit_plan.specs.State.{rows_in as state_rows_in, withdrawn};
 ghost use Rattle.exact_fraction.specs.Moderate.{IsModerate};
-ghost use Rattle.fact_records.specs.Judge.{fact_refusal};
+ghost use Rattle.fact_keeper.specs.Batch.{apply_batch};
 ghost use Rattle.fact_records.specs.Outcomes.{AllAddUp};
 ghost use Rattle.fact_records.specs.Shape.{width_of_all};
 ghost use Rattle.fact_records.specs.Valid.{IsEditOver};
 ghost use Rattle.region_algebra.specs.Space.{IsRegion};
-ghost use Rattle.schema_text.specs.Schema.{shape_of, view_named};
+ghost use Rattle.schema_text.specs.Schema.{view_named};
 ghost use Rattle.world_law.specs.Additive.{AddUpOverChildren};
 ghost use Rattle.world_law.specs.Placed.{fault_of};
-ghost use Rattle.cube_core.specs.Cube.{AreFactsOf, IsBounded, IsFaultOf, answer_in, edited, judge_in, refreshed_in, rows_in, withdrawn};
+ghost use Rattle.cube_core.specs.Cube.{AreFactsOf, CountsEditFault, IsBounded, IsFaultOf, answer_in, difference_in, edited, judge_in, refreshed_in, rows_in, step_bound_in};
 ghost use Rattle.cube_core.specs.Expected.{AreExpected};
 ghost use Rattle.cube_core.specs.View.{view_in};
 ghost use Rattle.cube_core.specs.WorldSums.{IsWorldFault, placed_in, world_sum_in};
 
 use crate::EditFault;
-use crate::edits::after;
 use crate::place::{PlacedList, place};
-use crate::refreshed::refreshed;
-use crate::spreads::spread_all;
-use crate::views::{ViewList, append_entries};
-use alloc_rows::{Alloc, inside};
+use alloc_rows::Alloc;
 use cell_weight::WeightPolicy;
-use cube_base::{Code, Ids, Memory};
-use cube_model::{MAX_DIMS, Region};
-use fact_records::{Edit, FactList, judge_fact};
+use cube_base::{Ids, Memory};
+use cube_model::{Edit, Region};
+use edit_plan::{State, plan};
+use fact_keeper::Keeper;
+use fact_records::FactList;
 use group_sum::Terms;
+use region_index::Steps;
 use schema_text::Schema;
 use std::alloc::Global;
-use std::collections::BTreeMap;
-use std::marker::Model;
+use std::marker::{Brand, Model};
+use std::sync::ledger::{Blank, Ledger};
+use view_store::ViewList;
 use world_law::{WorldFault, WorldSum, enumerate};
 
 /// What an accepted edit did.
@@ -48,8 +48,8 @@ pub struct Receipt {
     pub removed: Option<u64>,
 }
 
-/// A schema, a policy, and facts with the allocation of each. Contracts see the policy, the schema and the list of the
-/// facts; the allocations are those that the facts have. At each edit all of them are made anew.
+/// A schema with the state of a cube over it: a policy, and facts with all that is kept of them, so that an edit costs what it touches.
+/// Contracts see the policy, the schema and the list of the facts; all else is what the facts make it.
 ///
 /// There are at most 2^20 facts, with at most 2^21 rows together. Each has an id of its own from 1 to 2^63 - 1, values that
 /// the measures allow, and a region of the space with at most 2^20 cells.
@@ -57,20 +57,17 @@ pub struct Receipt {
 pub struct Cube<P: WeightPolicy + Drop> {
     alloc: Global,
     schema: Schema,
-    policy: P,
-    facts: FactList,
-    // The allocation of each fact, by its id.
-    allocations: BTreeMap<u64, Alloc>,
+    state: State<P>,
 }
 
 impl<P: WeightPolicy + Drop> Model for Cube<P> {
-    ghost use Rattle.cube_core.specs.Cube.{CubeValue, IsCube};
+    ghost use Rattle.cube_core.specs.Cube.{CubeValue, IsStateOf};
 
     ghost Value = { CubeValue P };
 
-    ghost view = { λ c. record { policy = c.policy; schema = c.schema; facts = c.facts.facts } };
+    ghost view = { λ c. record { policy = c.state.policy; schema = c.schema; facts = c.state.facts } };
 
-    ghost invariant = { λ c. IsCube (P.weigh c.policy) c.schema c.facts.facts c.allocations };
+    ghost invariant = { λ c. IsStateOf c.schema c.state };
 }
 
 impl<P: WeightPolicy + Drop> Cube<P> {
@@ -80,12 +77,13 @@ impl<P: WeightPolicy + Drop> Cube<P> {
         ensures policy { IfOk result (λ cube. cube.policy ≡ policy) }
         ensures facts { IfOk result (λ cube. cube.facts ≡ []) }
     {
+        let space = schema.space().copy()?;
+        let shape = schema.shape().copy()?;
+        let state = State::new(alloc, space, shape, policy, schema.views())?;
         Ok(Cube {
             alloc,
             schema,
-            policy,
-            facts: FactList::new(alloc),
-            allocations: BTreeMap::new(alloc),
+            state,
         })
     }
 
@@ -102,7 +100,15 @@ impl<P: WeightPolicy + Drop> Cube<P> {
         ensures valid { AreFactsOf self.now.schema self.now.facts }
         ensures few_rows { row_count (rows_in P.weigh self.now) ≤ MAX_ROWS }
     {
-        &self.facts
+        self.state.facts()
+    }
+
+    /// The number of rows of all facts. It takes no memory.
+    pub fn row_count(&self) -> u64
+        ensures rows { result ≡ row_count (rows_in P.weigh self.now) }
+        ensures few { result ≤ MAX_ROWS }
+    {
+        self.state.row_count()
     }
 
     /// The allocation of the fact of an id: None exactly where there is none. It takes no memory.
@@ -110,43 +116,58 @@ impl<P: WeightPolicy + Drop> Cube<P> {
         ensures rows { option_copied result ≡ allocation_of id (rows_in P.weigh self.now) }
         ensures cells { IfSome (option_copied result) (λ a. AreRows self.now.schema.dims a.rows) }
     {
-        self.allocations.get(&id)
+        look_up::<Brand, P>(&self.state, id, Blank::new(1))
     }
 
     /// Does an edit, of which the id must be from 1 to 2^63 - 1 and the region of the fact, if it has one, a region of the
-    /// space. The first of these that holds refuses it, and the cube is as it was: `Code` with `Value` or `Parts`, the values
-    /// of the fact are none of the measures; `Exists`, a put's id is there; `Missing`, the id of a change or a withdrawal is
-    /// not; `Region`, the region has more than 2^20 cells; `Facts`, a put finds 2^20 facts; and `Rows`, the facts after the
-    /// edit have more than 2^21 rows, with their number. `Memory` is want of memory, and the cube is as it was then too: no
-    /// code that is judged before the rows refuses the edit.
-    pub fn edit(&mut self, edit: &Edit) -> Result<Receipt, EditFault>
-        requires { IsEditOver self.old.schema.dims edit.now }
+    /// space: plans it, commits what it changes to the keeper, which must be open, as one batch, and then sets what was planned. The
+    /// first of these that holds refuses it: `Code` with `Value` or `Parts`, the values of the fact are none of the measures;
+    /// `Exists`, a put's id is there; `Missing`, the id of a change or a withdrawal is not; `Region`, the region has more than 2^20
+    /// cells; `Facts`, a put finds 2^20 facts; and `Rows`, the facts after the edit have more than 2^21 rows, with their number.
+    /// `KeepFault` comes at a fault of the keeper alone, which it counts, and where nothing refuses the edit. `Memory` is want of
+    /// memory: no code that is judged before the rows refuses the edit. On every error the cube, and what the keeper holds, are as
+    /// they were.
+    ///
+    /// A step is one look at a region of the index, or one id that it hands out. With P the product over the dimensions of the largest
+    /// depth and one, and f the number of pairs of a cell whose statistics the edit changes and an imprecise fact before it
+    /// that covers the cell, there are at most 2P + 2f + 2, on an error too.
+    pub fn edit<K: Keeper, L: Ledger>(
+        &mut self,
+        edit: &Edit,
+        keeper: &mut K,
+        steps: &mut Steps<L>,
+    ) -> Result<Receipt, EditFault>
+        requires over { IsEditOver self.old.schema.dims edit.now }
+        requires open { IsTrue (K.is_open keeper.old) }
         ensures facts { OnOk result (self.new ≡ edited edit.now self.old) }
         ensures accepted { OnOk result (judge_in P.weigh self.old edit.now ≡ None) }
         ensures refreshed { IfOk result (λ receipt. receipt.refreshed ≡ refreshed_in P.weigh self.old edit.now) }
         ensures ascending { IfOk result (λ receipt. ascends_from (λ id. id) 1 receipt.refreshed ≡ true) }
         ensures removed { IfOk result (λ receipt. receipt.removed ≡ withdrawn edit.now) }
+        ensures content { OnOk result (K.content keeper.new ≡ option_map (apply_batch (difference_in P.weigh self.old edit.now)) (K.content keeper.old)) }
+        ensures journal { OnOk result (K.journal keeper.new ≡ option_map (λ batches. batches ++ difference_in P.weigh self.old edit.now ∷ []) (K.journal keeper.old)) }
+        ensures stays_open { IsTrue (K.is_open keeper.new) }
+        ensures count { CountsEditFault (K.faults keeper.old) (K.faults keeper.new) result }
         ensures fault { IfErr result (IsFaultOf P.weigh self.old edit.now) }
         ensures same { OnErr result (self.new ≡ self.old) }
+        ensures same_content { OnErr result (K.content keeper.new ≡ K.content keeper.old) }
+        ensures same_journal { OnErr result (K.journal keeper.new ≡ K.journal keeper.old) }
+        ensures steps { steps.new ≤ steps.old + step_bound_in P.weigh self.old edit.now }
     {
-        if let Err(code) = judge(&self.schema, edit, &self.facts) {
-            return Err(EditFault::Code(code));
-        }
-        let facts = after(self.alloc, &self.facts, edit)?;
-        let allocations = spread_all(self.alloc, &self.schema, &self.policy, &facts)?;
-        let refreshed = refreshed(self.alloc, &self.allocations, &facts, &allocations)?;
-        self.facts = facts;
-        self.allocations = allocations;
-        Ok(Receipt {
-            refreshed,
-            removed: withdrawn(edit),
-        })
+        let mut plan = plan(self.alloc, &mut self.state, edit, steps)?;
+        keeper.commit(plan.batch())?;
+        let receipt = Receipt {
+            refreshed: plan.take_refreshed(),
+            removed: plan.removed(),
+        };
+        self.state.install(plan);
+        Ok(receipt)
     }
 
     /// What the facts add up to inside `r`, which must be a region of the space: for each denominator among the
     /// allocations, ascending, the sums over the facts of each column times the weight inside, the count first; where the
-    /// count is 0 there is no term. At each term the sums of a distribution's outcomes add up to its scale times the count. It
-    /// walks over all facts. The one error is want of memory.
+    /// count is 0 there is no term. At each term the sums of a distribution's outcomes add up to its scale times the count. The
+    /// first view that serves the region is asked, and where none does each region that has facts. The one error is want of memory.
     ///
     /// These are the exact expectations over all worlds of the facts, in each of which every fact stands in one cell of its
     /// allocation; and where a node of the region has children, the answers at the regions with each child in its place merge
@@ -161,17 +182,10 @@ impl<P: WeightPolicy + Drop> Cube<P> {
         ensures expectations { IfOk result (λ terms. AreExpected (width_of_all self.now.schema.measures) self.now.schema.dims r (rows_in P.weigh self.now) terms.terms) }
         ensures children { IfOk result (λ terms. AddUpOverChildren (width_of_all self.now.schema.measures) self.now.schema.dims r (rows_in P.weigh self.now) terms.terms) }
     {
-        let space = self.schema.space();
-        let mut terms = Terms::empty(self.alloc, self.schema.shape().columns());
-        for fact in self.facts.iter() {
-            let Some(a) = self.allocations.get(&fact.id) else {
-                unreachable!()
-            };
-            let den = a.den();
-            let weight = inside(a, space, r);
-            terms.add_term(den, weight, fact.cols)?;
-        }
-        Ok(terms)
+        // What a schema says of itself, and a state of its facts.
+        let _ = self.schema.space();
+        let _ = self.state.facts();
+        self.state.answer(r)
     }
 
     /// The place of the view of a name: None exactly where no view has it. It takes no memory.
@@ -183,17 +197,14 @@ impl<P: WeightPolicy + Drop> Cube<P> {
     }
 
     /// The view at a place, of which there must be one: each region of the product of its cuts in which the facts have terms,
-    /// with these, the first dimension slowest and the nodes of each dimension in their order. It asks for the answer at each
-    /// region of the product. The one error is want of memory.
+    /// with these, the first dimension slowest and the nodes of each dimension in their order. It is a copy of what is kept. The one
+    /// error is want of memory.
     pub fn view_list(&self, view: u32) -> Result<ViewList, Memory>
         requires { view < length self.now.schema.views }
         ensures entries { IfOk result (λ entries. entries ≡ view_in P.weigh self.now view) }
         ensures regions { IfOk result (All (λ entry. IsRegion self.now.schema.dims entry.0)) }
     {
-        let depths = &self.schema().views()[view as usize].depths;
-        let mut entries = Vec::new(self.alloc);
-        append_entries(self, depths.as_slice(), [0; MAX_DIMS], 0, &mut entries)?;
-        Ok(ViewList::from(entries))
+        self.state.view_list(view)
     }
 
     /// The facts with their allocations, in order of their ids, as worlds are made of them: the ids are left out. The one
@@ -203,8 +214,8 @@ impl<P: WeightPolicy + Drop> Cube<P> {
         ensures allocations { IfOk result (All (λ p. IsAllocation (record { den = p.den; rows = p.rows }))) }
     {
         let mut placed = PlacedList::new(self.alloc);
-        for fact in self.facts.iter() {
-            let Some(a) = self.allocations.get(&fact.id) else {
+        for fact in self.facts().iter() {
+            let Some(a) = self.rows(fact.id) else {
                 unreachable!()
             };
             placed.push(place(self.alloc, fact, a)?)?;
@@ -223,6 +234,8 @@ impl<P: WeightPolicy + Drop> Cube<P> {
         ensures accepted { OnOk result (fault_of (placed_in P.weigh self.now) ≡ None) }
         ensures refused { IfErr result (IsWorldFault (placed_in P.weigh self.now)) }
     {
+        // What a cube says of its facts.
+        let _ = self.facts();
         let placed = self.placed()?;
         let space = self.schema.space();
         let columns = self.schema.shape().columns();
@@ -230,20 +243,18 @@ impl<P: WeightPolicy + Drop> Cube<P> {
     }
 }
 
-/// Judges an edit by its fact, which takes no memory.
-fn judge(schema: &Schema, edit: &Edit, facts: &FactList) -> Result<(), Code>
-    requires { IsEditOver schema.now.dims edit.now }
-    ensures { result_err result ≡ fact_refusal (shape_of schema.now) schema.now.dims edit.now facts.now.facts }
+/// The allocation of the fact of an id, whose step is not counted.
+fn look_up<L: Ledger, P: WeightPolicy + Drop>(
+    state: &State<P>,
+    id: u64,
+    blank: Blank,
+) -> Option<&Alloc>
+    requires name { blank.name ≡ L.name }
+    requires parts { blank.parts ≡ L.parts }
+    requires some { 0 < L.parts }
+    ensures rows { option_copied result ≡ allocation_of id (state_rows_in P.weigh state.now) }
+    ensures cells { IfSome (option_copied result) (λ a. AreRows state.now.dims a.rows) }
 {
-    judge_fact(schema.shape(), schema.space(), edit, facts)
-}
-
-/// The id of a withdrawal.
-fn withdrawn(edit: &Edit) -> Option<u64>
-    ensures { result ≡ withdrawn edit.now }
-{
-    match edit {
-        Edit::Put(_) | Edit::Change(_) => None,
-        Edit::Withdraw(id) => Some(*id),
-    }
+    let mut steps = Steps::<L>::new(blank);
+    state.lookup(id, &mut steps)
 }

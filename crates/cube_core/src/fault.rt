@@ -1,5 +1,7 @@
 //! Why an edit fails.
 use cube_base::{Code, Memory};
+use edit_plan::PlanFault;
+use fact_keeper::KeepError;
 use thiserror::Error;
 
 /// Why an edit is not done. The cube is as it was.
@@ -11,6 +13,9 @@ pub enum EditFault {
     /// It is refused since the facts after it would have more than 2^21 rows: so many.
     #[error("there would be {would} rows")]
     Rows { would: u64 },
+    /// The keeper had a fault, and counts it. No rule refuses the edit.
+    #[error("the store failed")]
+    KeepFault,
     /// Want of memory. The edit is refused by no code that is judged before its rows are made.
     #[error("no memory")]
     Memory,
@@ -24,5 +29,34 @@ impl From<Memory> for EditFault {
 
     fn from(_: Memory) -> Self {
         EditFault::Memory
+    }
+}
+
+impl From<PlanFault> for EditFault {
+    ghost use Rattle.std.specs.Prelude.{◌≡◌};
+    ghost use Rattle.cube_core.specs.Cube.{fault_of_plan};
+
+    ghost from_gives = { λ planned fault. fault ≡ fault_of_plan planned };
+
+    fn from(fault: PlanFault) -> Self {
+        match fault {
+            PlanFault::Code(code) => EditFault::Code(code),
+            PlanFault::Rows { would } => EditFault::Rows { would },
+            PlanFault::Memory => EditFault::Memory,
+        }
+    }
+}
+
+impl From<KeepError> for EditFault {
+    ghost use Rattle.std.specs.Prelude.{◌≡◌};
+    ghost use Rattle.cube_core.specs.Cube.{fault_of_keeper};
+
+    ghost from_gives = { λ kept fault. fault ≡ fault_of_keeper kept };
+
+    fn from(fault: KeepError) -> Self {
+        match fault {
+            KeepError::Failed => EditFault::KeepFault,
+            KeepError::Memory => EditFault::Memory,
+        }
     }
 }

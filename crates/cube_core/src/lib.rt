@@ -2,18 +2,13 @@
 #![tactic(auto)]
 
 mod cube;
-mod edits;
 mod fault;
 mod laws;
 mod place;
-mod refreshed;
-mod spreads;
-mod statistics;
-mod views;
 
 pub use cube::{Cube, Receipt};
 pub use fault::EditFault;
 pub use laws::{worked_cube, worked_sums};
 pub use place::PlacedList;
-pub use views::ViewList;
+pub use view_store::ViewList;
 pub use world_law::{Placed, WorldFault, WorldSum};

@@ -1,54 +1,35 @@
-use Rattle.std.proofs.Common.{refl, ◌∙◌, subst, sym}
-use Rattle.region_algebra.specs.Space.{IsRegion}
-use Rattle.schema_text.specs.Schema.{shape_of}
-use Rattle.cube_core.proofs.Walking.{end_answer, end_bounded, end_children, end_distributed, end_expected, end_moderate, next, next_fits, next_rows, next_there, start}
+-- The terms are those of an answer over the facts.
+use Rattle.std.specs.Prelude.{All}
+use Rattle.exact_fraction.specs.Moderate.{IsModerate}
+use Rattle.fact_records.specs.Outcomes.{AllAddUp}
+use Rattle.fact_records.specs.Shape.{width_of_all}
+use Rattle.world_law.specs.Additive.{AddUpOverChildren}
+use Rattle.cube_core.specs.Cube.{IsBounded, rows_in}
+use Rattle.cube_core.specs.Expected.{AreExpected}
+use Rattle.cube_core.proofs.Told.{answered}
 use Rattle.cube_core.proofs.cube.Cube.answer.Goals as goal
 
--- at first all facts are left
-pub loop-fact-init : goal.loop-fact-init
-loop-fact-init g c =
-    start c.args.r c.self.invariant c.space-space.ensures.schema c.shape.ensures.shape c.columns.ensures.columns c.empty-terms.ensures
-    (c.into_iter-fact-iterator.ensures.into_iter_gives ∙ c.iter-fact-items.ensures)
-
--- each has an allocation, with rows of cells
-pub unreachable-requires : goal.unreachable-requires
-unreachable-requires g c = next_there c.loop-fact.invariant c.in-Some.ensures.steps c.in_default.ensures.value
-
-pub inside-weight-requires-clause-cells : goal.inside-weight-requires-clause-cells
-inside-weight-requires-clause-cells g c = next_rows c.loop-fact.invariant c.in-Some.ensures.steps c.in-Some-get.ensures.value c.space-space.ensures.dims
-
--- its share fits
-pub add_term-requires-clause-within : goal.add_term-requires-clause-within
-add_term-requires-clause-within g c =
-    next_fits c.loop-fact.invariant c.in-Some.ensures.steps c.in-Some-get.ensures.value c.den-den.ensures.kept c.den-den.ensures.den c.space-space.ensures.dims c.inside-weight.ensures.sum c.inside-weight.ensures.most
-    c.self.invariant.valid.few
-
--- and then a fact less is left
-pub loop-fact-preserved : goal.loop-fact-preserved
-loop-fact-preserved g c =
-    next c.loop-fact.invariant c.in-Some.ensures.steps c.in-Some-get.ensures.value c.den-den.ensures.kept c.den-den.ensures.den c.space-space.ensures.dims c.inside-weight.ensures.sum c.inside-weight.ensures.most
-    c.in_ok-add_term.ensures.terms c.in_ok-add_term.ensures.ok
-
--- at the end none is
-pub returns-clause-terms : goal.returns-clause-terms
-returns-clause-terms g c = rw (← c.self.view_is) (end_answer c.loop-fact.invariant c.in-None.ensures.steps.0)
+pub returns-clause-moderate : goal.returns-clause-moderate
+returns-clause-moderate g c =
+    answered g.P.WeightPolicy.weigh c.self.inside.schema c.self.inside.state c.self.invariant c.args.self.now c.self.view_is (g.met.P.WeightPolicy.bound c.self.inside.state.policy) c.space.ensures.schema c.facts.ensures.valid
+    c.args.r c.requires c.answer.result c.answer.ensures (λ terms. IsModerate terms.terms) (λ list is. is.moderate)
 
 pub returns-clause-distributions : goal.returns-clause-distributions
 returns-clause-distributions g c =
-    rw (← c.self.view_is) (end_distributed c.loop-fact.invariant c.in-None.ensures.steps.0 (shape_of c.self.inside.schema) refl c.space-space.ensures.schema.shape.measures c.self.invariant.valid.each)
-
-pub returns-clause-moderate : goal.returns-clause-moderate
-returns-clause-moderate g c = end_moderate c.loop-fact.invariant c.in-None.ensures.steps.0 c.self.invariant.valid.few
+    answered g.P.WeightPolicy.weigh c.self.inside.schema c.self.inside.state c.self.invariant c.args.self.now c.self.view_is (g.met.P.WeightPolicy.bound c.self.inside.state.policy) c.space.ensures.schema c.facts.ensures.valid
+    c.args.r c.requires c.answer.result c.answer.ensures (λ terms. AllAddUp c.args.self.now.schema.measures terms.terms) (λ list is. is.distributions)
 
 pub returns-clause-bounded : goal.returns-clause-bounded
-returns-clause-bounded g c = end_bounded c.loop-fact.invariant c.in-None.ensures.steps.0 c.self.invariant.valid.few
+returns-clause-bounded g c =
+    answered g.P.WeightPolicy.weigh c.self.inside.schema c.self.inside.state c.self.invariant c.args.self.now c.self.view_is (g.met.P.WeightPolicy.bound c.self.inside.state.policy) c.space.ensures.schema c.facts.ensures.valid
+    c.args.r c.requires c.answer.result c.answer.ensures (λ terms. All IsBounded terms.terms) (λ list is. is.bounded)
 
--- the answer is expected, and that of the regions with each child
 pub returns-clause-expectations : goal.returns-clause-expectations
 returns-clause-expectations g c =
-    rw (← c.self.view_is) (end_expected c.loop-fact.invariant c.in-None.ensures.steps.0 (shape_of c.self.inside.schema) c.space-space.ensures.schema.trees c.self.invariant.valid.each)
+    answered g.P.WeightPolicy.weigh c.self.inside.schema c.self.inside.state c.self.invariant c.args.self.now c.self.view_is (g.met.P.WeightPolicy.bound c.self.inside.state.policy) c.space.ensures.schema c.facts.ensures.valid
+    c.args.r c.requires c.answer.result c.answer.ensures (λ terms. AreExpected (width_of_all c.args.self.now.schema.measures) c.args.self.now.schema.dims c.args.r (rows_in g.P.WeightPolicy.weigh c.args.self.now) terms.terms) (λ list is. is.expectations)
 
 pub returns-clause-children : goal.returns-clause-children
 returns-clause-children g c =
-    let named = subst (λ v. IsRegion v.schema.dims c.args.r) (sym c.self.view_is) c.requires in
-    rw (← c.self.view_is) (end_children c.loop-fact.invariant c.in-None.ensures.steps.0 c.space-space.ensures.schema.trees named)
+    answered g.P.WeightPolicy.weigh c.self.inside.schema c.self.inside.state c.self.invariant c.args.self.now c.self.view_is (g.met.P.WeightPolicy.bound c.self.inside.state.policy) c.space.ensures.schema c.facts.ensures.valid
+    c.args.r c.requires c.answer.result c.answer.ensures (λ terms. AddUpOverChildren (width_of_all c.args.self.now.schema.measures) c.args.self.now.schema.dims c.args.r (rows_in g.P.WeightPolicy.weigh c.args.self.now) terms.terms) (λ list is. is.children)

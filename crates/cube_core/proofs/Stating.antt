@@ -1,0 +1,36 @@
+-- What a state says of its facts, in the words of the schema whose state it is.
+use Rattle.std.proofs.Common.{◌≡◌, ℕ, ◌+◌, List, ap, ◌∙◌, subst}
+use Rattle.cube_model.specs.declared.edit.Edit.{Edit}
+use Rattle.cube_model.specs.declared.statistic.CellStat.{CellStat}
+use Rattle.cube_model.specs.Allocation.{Policy, extended}
+use Rattle.cube_model.specs.Answer.{answer}
+use Rattle.cube_model.specs.Tree.{Dimension}
+use Rattle.fact_records.specs.Shape.{ShapeValue, policy_over, width_of_all}
+use Rattle.fact_records.specs.Valid.{AreValid}
+use Rattle.edit_plan.specs.Plan.{difference}
+use Rattle.edit_plan.specs.State.{StateValue}
+use Rattle.edit_plan.specs.State.{policy_in as state_policy_in, terms_in as state_terms_in}
+use Rattle.schema_text.specs.Schema.{SchemaValue, policy_in, shape_of}
+use Rattle.cube_core.specs.Cube.{AreFactsOf, CubeValue, IsStateOf, answer_in, difference_in}
+
+-- the cube of a schema and a state
+abbrev pub cube_of : {P : Type 0} → SchemaValue → StateValue P → CubeValue P
+cube_of schema state = record { policy = state.policy; schema = schema; facts = state.facts }
+
+module _ {P : Type 0} (weigh : P → CellStat → ℕ) (schema : SchemaValue) (state : StateValue P) (of : IsStateOf schema state) where
+  abbrev policy : Policy
+  policy = policy_in (weigh state.policy) schema
+
+  -- what is made of a policy, the measures and the dimensions
+  all-same : {X : Type 0} (f : Policy → ShapeValue → List Dimension → X) → f (state_policy_in weigh state) state.shape state.dims ≡ f policy (shape_of schema) schema.dims
+  all-same f =
+      ap (λ (p : Policy). f p state.shape state.dims) (ap (policy_over (weigh state.policy)) of.shape_is) ∙ ap (λ shape. f policy shape state.dims) of.shape_is ∙ ap (λ dims. f policy (shape_of schema) dims) of.dims_are
+
+  pub terms-same : (region : List ℕ) → state_terms_in weigh state region ≡ record { columns = width_of_all schema.measures + 1; terms = answer_in weigh (cube_of schema state) region }
+  terms-same region = all-same (λ (p : Policy) shape dims. record { columns = width_of_all shape.measures + 1; terms = answer (width_of_all shape.measures) dims (extended p dims state.facts) region })
+
+  pub difference-same : (edit : Edit) → difference (state_policy_in weigh state) state.dims edit state.facts ≡ difference_in weigh (cube_of schema state) edit
+  difference-same edit = all-same (λ (p : Policy) (shape : ShapeValue) dims. difference p dims edit state.facts)
+
+  pub valid-same : AreValid state.shape state.dims state.facts → AreFactsOf schema state.facts
+  valid-same valid = subst (λ dims. AreValid (shape_of schema) dims state.facts) of.dims_are (subst (λ shape. AreValid shape state.dims state.facts) of.shape_is valid)
