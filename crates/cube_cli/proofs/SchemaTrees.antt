@@ -145,7 +145,7 @@ read_from-trees draft k (line ∷ lines) read has e =
 HasTrees-blank : HasTrees blank_draft
 HasTrees-blank = record {
   known = record {
-    measures = record { distinct = λ i j d before within. absurd (omega arith); some = All-nil _; most = omega arith; order = tt };
+    measures = record { distinct = λ i j d before within. absurd (omega arith); some = All-nil _; most = omega arith; order = tt; scales = All-nil _ };
     kinds = All-nil _;
     measure_names = All-nil _;
     names = record { each = All-nil _; distinct = λ i j d before within. absurd (omega arith) };

@@ -1,9 +1,9 @@
 -- The dimensions of a run are trees, and its facts lie at regions of them; so its answers are exact expectations.
 use Rattle.std.proofs.Common.{◌≡◌, ℕ, ◌≤◌, List, length, [], ◌∷◌, take, refl, Option, Some, None, Result, Ok, Err}
-use Rattle.std.specs.Prelude.{All, IfSome, not, ◌==◌}
+use Rattle.std.specs.Prelude.{All, IfSome}
 use Rattle.std.specs.Option.{option_map_or}
 use Rattle.std.specs.Result.{result_ok}
-use Rattle.std.proofs.lemmas.List.Elements.{All-filter, All-nil}
+use Rattle.std.proofs.lemmas.List.Elements.{All-nil}
 use Rattle.cube_base.specs.declared.code.Code.{Code}
 use Rattle.cube_model.specs.declared.edit.Edit.{Edit}
 use Rattle.cube_model.specs.declared.edit.Edit.TheVariants.{Put, Change, Withdraw}
@@ -11,7 +11,7 @@ use Rattle.cube_model.specs.declared.edit.Fact.{Fact}
 use Rattle.cube_model.specs.declared.statistic.CellStat.{CellStat}
 use Rattle.cube_model.specs.Allocation.{ExtendedFact}
 use Rattle.cube_model.specs.Answer.{answer}
-use Rattle.cube_model.specs.Facts.{after, withdraw}
+use Rattle.cube_model.specs.Facts.{after}
 use Rattle.cube_model.specs.Tree.{Dimension, IsTree}
 use Rattle.fact_records.specs.Judge.{judge}
 use Rattle.fact_records.specs.Shape.{width_of_all}
@@ -29,7 +29,8 @@ use Rattle.world_law.proofs.Additive.{add_up_over_children}
 use Rattle.world_law.proofs.Shares.{shared-extended}
 use Rattle.cube_core.specs.Expected.{AreExpected}
 use Rattle.cube_core.proofs.Expecting.{are_expected}
-use Rattle.cube_core.proofs.Keeping.{All-put}
+use Rattle.fact_groups.specs.Edits.{given}
+use Rattle.fact_groups.proofs.Edits.{All-after}
 use Rattle.cube_cli.specs.End.{script_of}
 use Rattle.cube_cli.specs.Expectations.{AddsUpAfterEachLine, AfterEachLine, AtEachRegion, ExpectsAfterEachLine, Saying, state_after}
 use Rattle.cube_cli.specs.Run.{State, accepted, edited, empty_state, replied, rows_at, run, schema_at, step, step_from, step_of}
@@ -40,11 +41,11 @@ record IsSound (state : State) : Type 0 where
   trees : All IsTree state.dims
   named : All (λ f. IsRegion state.dims f.region) state.facts
 
--- what holds of each fact, and of the one that an edit puts there, holds of each after the edit
-All-after : (P : Fact → Type 0) (edit : Edit) (facts : List Fact) → OnFact P (line.Edit edit) → All P facts → All P (after edit facts)
-All-after P (Put fact) facts here each = All-put P fact facts here each
-All-after P (Change fact) facts here each = All-put P fact (withdraw fact.id facts) here (All-filter (λ f. not (f.id == fact.id)) P facts each)
-All-after P (Withdraw id) facts here each = All-filter (λ f. not (f.id == id)) P facts each
+-- what a line says of the fact of its edit holds of the one that the edit gives
+on_given : (P : Fact → Type 0) (edit : Edit) → OnFact P (line.Edit edit) → IfSome (given edit) P
+on_given P (Put fact) here = here
+on_given P (Change fact) here = here
+on_given P (Withdraw id) here = tt
 
 module _ (weigh : CellStat → ℕ) (schema : SchemaValue) where
   edited-sound : (state : State) (edit : Edit) → IsSound state → OnFact (λ fact. IsRegion state.dims fact.region) (line.Edit edit) → IsSound (edited weigh schema state edit).state
@@ -52,7 +53,7 @@ module _ (weigh : CellStat → ℕ) (schema : SchemaValue) where
     where
       judged : (refusal : Option Code) → IsSound (option_map_or (λ refusal. replied state (reply.Error refusal)) refusal (accepted weigh schema state (after edit state.facts))).state
       judged (Some refusal) = sound
-      judged None = record { trees = sound.trees; named = All-after (λ f. IsRegion state.dims f.region) edit state.facts here sound.named }
+      judged None = record { trees = sound.trees; named = All-after (λ f. IsRegion state.dims f.region) edit state.facts sound.named (on_given (λ f. IsRegion state.dims f.region) edit here) }
 
   said-sound : (state : State) (said : Line) → IsSound state → OnFact (λ fact. IsRegion state.dims fact.region) said → IsSound (step_of weigh schema state said).state
   said-sound state (line.Edit edit) sound here = edited-sound state edit sound here

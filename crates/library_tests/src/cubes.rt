@@ -1,5 +1,5 @@
 //! Edits of a cube and its answers, and the texts of faults.
-ghost use Rattle.std.specs.Prelude.{IfOk};
+ghost use Rattle.std.specs.Prelude.{◌≡◌, ◌<◌, IfOk};
 ghost use Rattle.fact_records.specs.Valid.{IsEditOver};
 
 use crate::fixtures::schema_of;
@@ -7,8 +7,12 @@ use cell_weight::BySum;
 use cube_base::{Code, Cols};
 use cube_core::{Cube, EditFault};
 use cube_model::{Edit, Fact, MAX_ID, MIN_ID};
+use fact_keeper::NoKeeper;
 use region_algebra::Space;
+use region_index::Steps;
 use std::alloc::Global;
+use std::marker::Brand;
+use std::sync::ledger::{Blank, Ledger};
 use std::test::Fail;
 
 /// Three places in a state, where cells weigh by the sums of repairs.
@@ -68,9 +72,12 @@ fn edit_of(space: &Space, step: &Step) -> Result<Edit, Fail>
 }
 
 /// Whether an edit is done, and one fact alone is new or lies otherwise.
-fn is_done(cube: &mut Cube<BySum>, step: &Step) -> Result<bool, Fail> {
+fn is_done<L: Ledger>(cube: &mut Cube<BySum>, step: &Step, blank: Blank) -> Result<bool, Fail>
+    requires { (blank.name ≡ L.name) × (blank.parts ≡ L.parts) × (0 < L.parts) }
+{
     let edit = edit_of(cube.schema().space(), step)?;
-    match cube.edit(&edit) {
+    let mut steps = Steps::<L>::new(blank);
+    match cube.edit(&edit, &mut NoKeeper::new(), &mut steps) {
         Ok(receipt) => Ok(receipt.refreshed.as_slice() == [step.4].as_slice()),
         Err(_) => Ok(false),
     }
@@ -78,7 +85,7 @@ fn is_done(cube: &mut Cube<BySum>, step: &Step) -> Result<bool, Fail> {
 
 fn are_done(cube: &mut Cube<BySum>, steps: &[Step]) -> Result<bool, Fail> {
     for step in steps {
-        if !is_done(cube, step)? {
+        if !is_done::<Brand>(cube, step, Blank::new(1))? {
             return Ok(false);
         }
     }
@@ -114,12 +121,13 @@ fn edits_are_done(rt: HostRuntime) -> Result<(), Fail> {
     Ok(())
 }
 
-const FAULTS: [(EditFault, &str); 3] = [
+const FAULTS: [(EditFault, &str); 4] = [
     (EditFault::Code(Code::Exists), "refused: exists"),
     (
         EditFault::Rows { would: 2_097_153 },
         "there would be 2097153 rows",
     ),
+    (EditFault::KeepFault, "the store failed"),
     (EditFault::Memory, "no memory"),
 ];
 

@@ -1,5 +1,6 @@
 //! What a sum and a quotient print.
-use exact_fraction::{MAX_SCALE, Terms, one, ratio};
+use cube_model::MAX_SCALE;
+use exact_fraction::{Terms, one, ratio};
 use std::alloc::Global;
 use std::test::Fail;
 
