@@ -76,6 +76,28 @@ fn ids_over<L: Ledger>(
     Ok(index.covering(space, cell, &mut steps)?)
 }
 
+/// The ids at each code over the cell of these nodes, ascending.
+fn ids_by_codes<L: Ledger>(
+    alloc: Global,
+    index: &RegionIndex,
+    space: &Space,
+    nodes: &[u32],
+    blank: Blank,
+) -> Result<Vec<u64>, Fail>
+    requires { (blank.name ≡ L.name) × (blank.parts ≡ L.parts) × (0 < L.parts) }
+{
+    let mut steps = Steps::<L>::new(blank);
+    let region = space.region(nodes).ok_or("no region")?;
+    let cell = space.cell_code(region).ok_or("no cell")?;
+    let codes = index.held_codes_over(space, cell, &mut steps)?;
+    let mut ids = Vec::new(alloc);
+    for code in codes.as_slice() {
+        ids.extend_from_slice(index.ids(*code))?;
+    }
+    ids.sort_unstable();
+    Ok(ids)
+}
+
 fn are_covered(alloc: Global, rows: &[Row]) -> Result<bool, Fail> {
     let space = space_of(alloc, &[&CITIES, &CARS])?;
     let index = index_of(alloc, &space)?;
@@ -87,8 +109,25 @@ fn are_covered(alloc: Global, rows: &[Row]) -> Result<bool, Fail> {
     Ok(true)
 }
 
+fn are_at_codes(alloc: Global, rows: &[Row]) -> Result<bool, Fail> {
+    let space = space_of(alloc, &[&CITIES, &CARS])?;
+    let index = index_of(alloc, &space)?;
+    for (nodes, ids) in rows {
+        if ids_by_codes::<Brand>(alloc, &index, &space, nodes, Blank::new(1))?.as_slice() != *ids {
+            return Ok(false);
+        }
+    }
+    Ok(true)
+}
+
 #[test]
 fn facts_over_a_cell_are_found(rt: HostRuntime) -> Result<(), Fail> {
     assert!(rt; are_covered(rt.alloc(), &COVERED)?);
+    Ok(())
+}
+
+#[test]
+fn facts_stand_at_the_codes_over_a_cell(rt: HostRuntime) -> Result<(), Fail> {
+    assert!(rt; are_at_codes(rt.alloc(), &COVERED)?);
     Ok(())
 }
