@@ -10,7 +10,7 @@
 # - the most memory, as it is read again and again, and, from 10,000 facts on, what that is for each fact and for each row above
 #   a cube without facts.
 # The replies to the inserts are checked against bench/plain_model.py for the smallest cube, and counted for the others. With `large`
-# the cube of 100,000 precise facts is built too, which takes over an hour: at each edit all facts are allocated anew.
+# the cube of 100,000 precise facts is built too.
 set -euo pipefail
 
 runs=${1:-3}
