@@ -3,7 +3,7 @@ use Rattle.std.proofs.Common.{◌≡◌, ℕ, inl, inr, zero, suc, ◌+◌, ◌-
 use Rattle.std.specs.Prelude.{All}
 use Rattle.std.specs.List.{insert, remove, slice_get}
 use Rattle.std.proofs.lemmas.Bool.{cases_eq, cases_lt}
-use Rattle.std.proofs.lemmas.List.{get_or_default, get_or_read}
+use Rattle.std.proofs.lemmas.List.{get_or-drop, get_or_default, get_or_read, length-drop, take_at}
 use Rattle.std.proofs.lemmas.Option.{slice_get-get_or, slice_get_past, slice_get_read}
 use Rattle.cube_model.specs.declared.edit.Fact.{Fact}
 use Rattle.fact_records.specs.BlockList.{AllFilled, all_facts, block_at, place_in_all}
@@ -25,6 +25,17 @@ pub mapped_from-past : (f : ℕ → ℕ) (xs : List ℕ) (place : ℕ) → lengt
 mapped_from-past f [] place past = refl
 mapped_from-past f (x ∷ xs) zero past = absurd (omega arith)
 mapped_from-past f (x ∷ xs) (suc place) past = ap (λ l. x ∷ l) (mapped_from-past f xs place (omega arith))
+
+length-mapped_from : (f : ℕ → ℕ) (place : ℕ) (xs : List ℕ) → length (mapped_from f place xs) ≡ length xs
+length-mapped_from f place [] = refl
+length-mapped_from f zero (x ∷ xs) = ap suc (length-mapped_from f zero xs)
+length-mapped_from f (suc place) (x ∷ xs) = ap suc (length-mapped_from f place xs)
+
+-- as the list of a vector that was written to
+pub mapped_from-within : (f : ℕ → ℕ) (place count : ℕ) (xs old new : List ℕ) → old ≡ xs → length xs ≡ count → new ≡ mapped_from f place old → take count (new ++ drop (length new) xs) ≡ mapped_from f place xs
+mapped_from-within f place count xs old new same whole is =
+    let mapped : new ≡ mapped_from f place xs = is ∙ ap (mapped_from f place) same in
+    take_at new (drop (length new) xs) count (ap length mapped ∙ length-mapped_from f place xs ∙ whole) ∙ mapped
 
 -- what rises does not fall
 pub rising_non_decreasing : (starts : List ℕ) → IsRising starts → (i j : ℕ) → i ≤ j → j < length starts → get_or starts i 0 ≤ get_or starts j 0
@@ -133,6 +144,12 @@ module _ (used : List (List Fact)) where
   -- each has room for one fact more where the facts have
   pub starts-room : (most : ℕ) → length (all_facts used) + 1 < most → All (λ start. start + 1 < most) (starts_of used)
   starts-room most few k d within = omega (arith, starts-most k (omega (arith, length-starts)), get_or_default (starts_of used) k d 0 within)
+
+  -- there is a fact before each behind a block that has one
+  pub starts-some : (i : ℕ) → i < length used → 1 ≤ length (block_at used i) → All (λ start. 1 ≤ start) (drop (i + 1) (starts_of used))
+  starts-some i within some k d lt =
+      let inside : i + 1 + k < length used = omega (arith, length-drop (i + 1) (starts_of used), length-starts) in
+      omega (arith, get_or-drop (i + 1) (starts_of used) k d, get_or_default (starts_of used) (i + 1 + k) d 0 (omega (arith, length-starts)), starts-at (i + 1 + k) inside, place-more used i within, place-rises used (i + 1) (i + 1 + k) (omega arith))
 
   -- what is before the last block and in it is all
   pub starts-last : (last : ℕ) → last + 1 ≡ length used → get_or (starts_of used) last 0 + length (block_at used last) ≡ length (all_facts used)

@@ -9,6 +9,7 @@ pub mod Joining
 pub mod Kept
 pub mod Leveling
 pub mod MeasureFields
+pub mod New
 pub mod Outcomes
 pub mod Room
 pub mod Shape

@@ -7,10 +7,13 @@ ghost use Rattle.fact_records.specs.FactList.{IsAscending, fact_of, facts_left};
 use crate::FactWalk;
 use crate::blocks::{Blocks, HALF, load};
 use crate::search::{fact_at, search};
-use cube_base::Memory;
+use cube_base::{Memory, PlainList};
 use cube_model::Fact;
 use std::alloc::Global;
 use std::marker::Model;
+
+/// Facts in the order in which they were given, which need not be that of their ids.
+pub type FactRun = PlainList<Fact>;
 
 /// Facts in order of their ids. Contracts see their list, and how many more may be put without memory.
 #[derive(Drop)]

@@ -23,7 +23,7 @@ mod values;
 
 pub use checks::{check_cols, check_region};
 pub use cube_model::{Edit, Fact};
-pub use fact_list::FactList;
+pub use fact_list::{FactList, FactRun};
 pub use fact_reader::{read_fact, read_id, read_region};
 pub use fact_walk::FactWalk;
 pub use judge::judge_fact;

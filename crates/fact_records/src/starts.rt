@@ -1,5 +1,5 @@
 //! For each block the number of facts before it.
-ghost use Rattle.std.specs.Prelude.{◌≡◌, ◌+◌, ◌-◌, ◌^◌, ◌<◌, All, IfSome, IsNone, length, slice_index, slice_set};
+ghost use Rattle.std.specs.Prelude.{◌≡◌, ◌+◌, ◌-◌, ◌^◌, ◌<◌, ◌≤◌, All, IfSome, IsNone, drop, length, slice_index, slice_set};
 ghost use Rattle.std.specs.Vec.{vec_capacity, vec_len};
 ghost use Rattle.fact_records.specs.BlockList.{all_facts};
 ghost use Rattle.fact_records.specs.Starts.{IsRising, IsStartBefore, mapped_from, starts_of};
@@ -7,10 +7,9 @@ ghost use Rattle.fact_records.specs.Starts.{IsRising, IsStartBefore, mapped_from
 use crate::block::Block;
 
 /// Counts one fact more before each block from one on.
-pub(crate) fn raise(starts: &mut Vec<u64>, from: usize)
-    requires { All (λ start. start + 1 < 2 ^ 64) starts.old.items }
-    ensures items { starts.new.items ≡ mapped_from (λ start. start + 1) from starts.old.items }
-    ensures capacity { vec_capacity starts.new ≡ vec_capacity starts.old }
+pub(crate) fn raise(starts: &mut [u64], from: usize)
+    requires { All (λ start. start + 1 < 2 ^ 64) starts.old }
+    ensures { starts.new ≡ mapped_from (λ start. start + 1) from starts.old }
 {
     for block in from..starts.len() {
         starts[block] += 1;
@@ -18,12 +17,12 @@ pub(crate) fn raise(starts: &mut Vec<u64>, from: usize)
 }
 
 /// Counts one fact fewer before each block from one on.
-pub(crate) fn lower(starts: &mut Vec<u64>, from: usize)
-    ensures items { starts.new.items ≡ mapped_from (λ start. start - 1) from starts.old.items }
-    ensures capacity { vec_capacity starts.new ≡ vec_capacity starts.old }
+pub(crate) fn lower(starts: &mut [u64], from: usize)
+    requires { All (λ start. 1 ≤ start) (drop from starts.old) }
+    ensures { starts.new ≡ mapped_from (λ start. start - 1) from starts.old }
 {
     for block in from..starts.len() {
-        starts[block] = starts[block].saturating_sub(1);
+        starts[block] -= 1;
     }
 }
 
