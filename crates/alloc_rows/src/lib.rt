@@ -7,6 +7,6 @@ mod spread;
 mod stepping;
 
 pub use laws::{steps_compose, worked_rows, worked_steps};
-pub use rows::{Alloc, inside};
+pub use rows::{Alloc, inside, weight_in};
 pub use spread::{allocate, allocate_at};
 pub use stepping::step;

@@ -2,12 +2,13 @@
 ghost use Rattle.std.specs.Prelude.{◌≡◌, ◌≤◌, IfOk};
 ghost use Rattle.cube_model.specs.Answer.{weight_inside};
 ghost use Rattle.cube_model.specs.Cells.{AreRows, cells_of};
+ghost use Rattle.region_algebra.specs.Inside.{cells_inside};
 ghost use Rattle.region_algebra.specs.Space.{IsRegion};
 ghost use Rattle.alloc_rows.specs.Alloc.{IsAllocation};
 
 use cube_base::Memory;
 use cube_model::Region;
-use region_algebra::Space;
+use region_algebra::{Inside, Space};
 use shared_list::SharedPairs;
 use std::alloc::Global;
 use std::marker::Model;
@@ -85,7 +86,14 @@ pub fn inside(a: &Alloc, space: &Space, r: Region) -> u64
     ensures sum { result ≡ weight_inside (cells_of space.now r) a.now }
     ensures most { result ≤ a.now.den }
 {
-    let region = space.inside(r);
+    weight_in(a, &space.inside(r))
+}
+
+/// The same by a test for the region's cells, so that for many allocations the region is looked up once.
+pub fn weight_in(a: &Alloc, region: &Inside<'_>) -> u64
+    ensures sum { result ≡ weight_inside (cells_inside region.now) a.now }
+    ensures most { result ≤ a.now.den }
+{
     let mut sum = 0;
     for (cell, weight) in a.rows() {
         if region.holds(*cell) {
