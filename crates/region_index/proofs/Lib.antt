@@ -7,7 +7,9 @@ pub mod Depths
 pub mod HeldCodes
 pub mod Indexing
 pub mod Lengths
+pub mod NodesInLine
 pub mod PatternCodes
 pub mod PatternWalk
 pub mod Places
+pub mod RegionsInLine
 pub mod Walking

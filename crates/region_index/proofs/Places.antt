@@ -31,14 +31,14 @@ among-places p k (suc i) at (y ∷ xs) x is found =
     among-later (p y) k at (places_from p (k + 1) xs) (omega (arith, is)) ∙ among-places p (k + 1) i at xs x (omega (arith, is)) found
 
 -- the tests agree on what is found at these places
-abbrev AgreeBefore : (f g : ℕ → Bool) → List ℕ → ℕ → Type 0
+abbrev pub AgreeBefore : (f g : ℕ → Bool) → List ℕ → ℕ → Type 0
 AgreeBefore f g xs i = (j y : ℕ) → j < i → slice_get xs j ≡ Some y → f y ≡ g y
 
-abbrev FailsFrom : (f : ℕ → Bool) → List ℕ → ℕ → Type 0
+abbrev pub FailsFrom : (f : ℕ → Bool) → List ℕ → ℕ → Type 0
 FailsFrom f xs i = (j y : ℕ) → i ≤ j → slice_get xs j ≡ Some y → f y ≡ false
 
 -- where none passes, there is no place
-places-none : (f : ℕ → Bool) (k : ℕ) (xs : List ℕ) → FailsFrom f xs 0 → places_from f k xs ≡ []
+pub places-none : (f : ℕ → Bool) (k : ℕ) (xs : List ℕ) → FailsFrom f xs 0 → places_from f k xs ≡ []
 places-none f k [] fails = refl
 places-none f k (x ∷ xs) fails =
     rw (fails 0 x (omega arith) refl) (places-none f (k + 1) xs (λ j y from found. fails (suc j) y (omega arith) found))
@@ -83,7 +83,7 @@ has-at (y ∷ xs) (suc i) x found = grind (arith, nat_tests, has-at xs i x found
 
 module _ (dim : Dimension) (tree : IsTree dim) where
   -- where a number stands is its node's place
-  place-found : (j y : ℕ) → slice_get (numbers dim) j ≡ Some y → (y < length dim) × (place_at dim y ≡ j)
+  pub place-found : (j y : ℕ) → slice_get (numbers dim) j ≡ Some y → (y < length dim) × (place_at dim y ≡ j)
   place-found j y found =
       let within : j < length (numbers dim) = slice_get_within (numbers dim) j y found in
       let it : number_at dim j ≡ y = at_within (numbers dim) j within ∙ get_or_from_slice_get (numbers dim) j y 0 found in

@@ -6,4 +6,5 @@ pub mod Indexed
 pub mod Over
 pub mod PatternChanges
 pub mod Patterns
+pub mod Touching
 pub mod Walk

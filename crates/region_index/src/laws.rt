@@ -16,6 +16,7 @@ ghost use Rattle.region_index.specs.Indexed.{Indexes, covers_at, has_at, ids_tha
 ghost use Rattle.region_index.specs.Over.{codes_over};
 ghost use Rattle.region_index.specs.PatternChanges.{CountsPatterns, Recounts, count_after, has_pattern, times_among};
 ghost use Rattle.region_index.specs.Patterns.{HasPatterns, Patterns, codes_of_pattern, pattern_of};
+ghost use Rattle.region_index.specs.Touching.{codes_touching};
 
 /// Where an index holds, at the code of each region, the ids of the imprecise facts there, the ids at the regions over a
 /// cell are those of the imprecise facts whose region holds the cell, in the facts' order.
@@ -78,4 +79,12 @@ pub fn worked_indexes()
     ensures put_between { ids_after ((12, 3) ∷ (12, 1) ∷ (0, 4) ∷ []) [] 12 (2 ∷ 5 ∷ []) ≡ 1 ∷ 2 ∷ 3 ∷ 5 ∷ [] }
     ensures held_once { ids_after ((12, 5) ∷ (12, 5) ∷ []) [] 12 (2 ∷ 5 ∷ []) ≡ 2 ∷ 5 ∷ [] }
     ensures not_there { ids_after [] ((12, 3) ∷ (0, 2) ∷ []) 12 (2 ∷ 5 ∷ []) ≡ 2 ∷ 5 ∷ [] }
+{}
+
+/// Regions of these spaces that have a cell in common with a region, worked out by hand.
+pub fn worked_touching()
+    ensures node_and_leaf { codes_touching small_space (4 ∷ 1 ∷ []) ≡ 0 ∷ 1 ∷ 12 ∷ 13 ∷ 15 ∷ 16 ∷ [] }
+    ensures node_and_root { codes_touching small_space (1 ∷ 0 ∷ []) ≡ 0 ∷ 1 ∷ 2 ∷ 3 ∷ 4 ∷ 5 ∷ 6 ∷ 7 ∷ 8 ∷ 9 ∷ 10 ∷ 11 ∷ [] }
+    ensures leaf_below_the_root { codes_touching small_space (6 ∷ 2 ∷ []) ≡ 0 ∷ 2 ∷ 18 ∷ 20 ∷ [] }
+    ensures numbered { codes_touching numbered_space (1 ∷ 1 ∷ []) ≡ 0 ∷ 1 ∷ 12 ∷ 13 ∷ 15 ∷ 16 ∷ [] }
 {}

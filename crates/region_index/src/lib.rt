@@ -1,4 +1,5 @@
-//! The imprecise facts by region: which of them cover a cell, found by climbing from the cell's leaves.
+//! The imprecise facts by region: which of them cover a cell, found by climbing from the cell's leaves; and the regions that
+//! have a cell in common with a region.
 #![tactic(auto)]
 
 mod changes;
@@ -7,14 +8,16 @@ mod laws;
 mod patterns;
 mod region_index;
 mod steps;
+mod touching;
 mod walk;
 
 pub use laws::{
     an_index_follows_its_facts, codes_held_over_a_cell_are_those_of_the_facts,
     counted_patterns_are_those_of_an_index, counts_of_patterns_follow_the_facts,
     ids_over_a_cell_are_those_of_the_facts, regions_over_a_cell_are_no_more_than_depths,
-    worked_indexes,
+    worked_indexes, worked_touching,
 };
 pub use patterns::{DepthPatterns, PatternStage};
 pub use region_index::{RegionIndex, RegionStage};
 pub use steps::Steps;
+pub use touching::codes_touching;
