@@ -8,12 +8,18 @@ use Rattle.region_algebra.specs.declared.view_def.ViewDef.{ViewDef}
 use Rattle.staged_map.specs.Staged.{Entries, entry_of, value_at}
 use Rattle.view_store.specs.declared.change.ViewChange.{ViewChange}
 use Rattle.view_store.specs.Changes.{AreAfter, AreAllSet, AreSame, AreSet, IsAfter, IsMadeAnew, IsMadeFor, IsSameView, IsSet, IsStagedFor, given, shares, staged_at, taken}
-use Rattle.view_store.specs.Views.{AreOfColumns, ViewMap, ViewMaps, entry_at, no_terms, view_of}
+use Rattle.view_store.specs.Views.{AreOfColumns, ViewMap, ViewMaps, entry_at, no_terms, view_of, without_entries}
 
 -- views of definitions are over the columns
 pub views-made : (columns : ℕ) (defs : List ViewDef) → All (λ (view : ViewMap). view.columns ≡ columns) (map (view_of columns) defs)
 views-made columns [] = All-nil (λ (view : ViewMap). view.columns ≡ columns)
 views-made columns (def ∷ defs) = All-cons (λ (view : ViewMap). view.columns ≡ columns) (view_of columns def) (map (view_of columns) defs) refl (views-made columns defs)
+
+-- views stay over the columns without their entries
+pub views-emptied : (columns : ℕ) (views : List ViewMap) → All (λ (view : ViewMap). view.columns ≡ columns) views → All (λ (view : ViewMap). view.columns ≡ columns) (map without_entries views)
+views-emptied columns [] all = All-nil (λ (view : ViewMap). view.columns ≡ columns)
+views-emptied columns (view ∷ views) all = All-cons (λ (view : ViewMap). view.columns ≡ columns) (without_entries view) (map without_entries views)
+    (All-head (λ (view : ViewMap). view.columns ≡ columns) view views all) (views-emptied columns views (All-tail (λ (view : ViewMap). view.columns ≡ columns) view views all))
 
 -- what is set by a staging is what its changes make
 set-after : (dims : List Dimension) (changes : List ViewChange) (old new : ViewMap) (entries : Entries TermList) → IsMadeFor dims changes old entries → IsSet old entries new → IsAfter dims changes old new

@@ -59,6 +59,10 @@ pub record AreOfColumns (columns : ℕ) (views : List ViewMap) : Type 0 where
 abbrev pub view_of : ℕ → ViewDef → ViewMap
 view_of columns def = record { columns = columns; depths = def.depths; entries = [] }
 
+-- a view with the same cuts and columns, without entries
+abbrev pub without_entries : ViewMap → ViewMap
+without_entries view = record view { entries = [] }
+
 -- a view has a depth for each dimension, and its entries are of regions
 pub record IsViewOf (dims : List Dimension) (view : ViewMap) : Type 0 where
   pub depths : length view.depths ≡ length dims

@@ -9,7 +9,7 @@ ghost use Rattle.region_algebra.specs.Space.{IsRegion, region_total};
 ghost use Rattle.staged_map.specs.Staged.{PutsAll, value_at};
 ghost use Rattle.view_store.specs.Changes.{FitsView, HasRoomFor, IsMadeFor, IsSameView};
 ghost use Rattle.view_store.specs.Rolling.{AreCodes, FitsBelow, FitsUnder, is_below, rolled_up, serves, terms_below};
-ghost use Rattle.view_store.specs.Views.{AreEntries, IsEntry, IsViewOf, listed};
+ghost use Rattle.view_store.specs.Views.{AreEntries, IsEntry, IsViewOf, listed, without_entries};
 
 use crate::ViewChange;
 use crate::drafts::{copy_of, make_entries};
@@ -56,6 +56,14 @@ impl View {
             depths,
             entries: Staged::new(alloc),
         }
+    }
+
+    /// A view with the same cuts and columns, without entries.
+    pub fn emptied(&self) -> Result<View, Memory>
+        ensures { IfOk result (λ view. view ≡ without_entries self.now) }
+    {
+        let depths = Vec::from_slice(self.alloc, self.depths.as_slice())?;
+        Ok(View::new(self.alloc, self.columns, Depths::from(depths)))
     }
 
     /// The terms of a region, by its code.

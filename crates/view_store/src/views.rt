@@ -8,7 +8,7 @@ ghost use Rattle.staged_map.specs.Staged.{value_at};
 ghost use Rattle.view_store.specs.declared.change.ViewChange.{ViewChange};
 ghost use Rattle.view_store.specs.Changes.{AreAfter, AreAllSet, AreSame, AreSet, AreStaged, FitsView, FitsViews, HaveRooms, HaveRoomFor, HaveSameContent, IsStagedFor};
 ghost use Rattle.view_store.specs.Rolling.{FitsUnder, rolled_up, serving};
-ghost use Rattle.view_store.specs.Views.{AreViewsOf, IsEntry, IsViewOf, listed, view_of};
+ghost use Rattle.view_store.specs.Views.{AreViewsOf, IsEntry, IsViewOf, listed, view_of, without_entries};
 
 use crate::change::Entries;
 use crate::view::{View, ViewList};
@@ -23,8 +23,8 @@ use std::marker::Model;
 /// The views of a cube, each the terms of the regions of a product of cuts that have any. Contracts see the number of columns,
 /// and for each view the depths of its cuts and a map from region codes to terms.
 ///
-/// All calls but `new` and `install` are made with a space that has as many dimensions as each view has depths, and in
-/// which the entries are of regions, as those are that `stage` makes with it.
+/// All calls but `new`, `emptied` and `install` are made with a space that has as many dimensions as each view has depths, and
+/// in which the entries are of regions, as those are that `stage` makes with it.
 #[derive(Drop)]
 pub struct Views {
     alloc: Global,
@@ -58,6 +58,21 @@ impl Views {
         Ok(Views {
             alloc,
             columns,
+            views,
+        })
+    }
+
+    /// Views with the same cuts and columns, all without entries.
+    pub fn emptied(&self) -> Result<Self, Memory>
+        ensures { IfOk result (λ views. views ≡ record { columns = self.now.columns; views = map without_entries self.now.views }) }
+    {
+        let mut views = Vec::with_capacity(self.alloc, self.views.len())?;
+        for view in &self.views {
+            views.push(view.emptied()?)?;
+        }
+        Ok(Views {
+            alloc: self.alloc,
+            columns: self.columns,
             views,
         })
     }
