@@ -3,6 +3,7 @@ pub mod Expecting
 pub mod Listing
 pub mod Moderation
 pub mod PlacedRows
+pub mod Planned
 pub mod Rows
 pub mod Stating
 pub mod TermsBelow

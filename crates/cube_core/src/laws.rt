@@ -6,6 +6,7 @@ ghost use Rattle.cube_model.specs.Allocation.{allocation_of, by_count, extended}
 ghost use Rattle.cube_model.specs.Answer.{answer};
 ghost use Rattle.cube_model.specs.Difference.{refreshed};
 ghost use Rattle.cube_model.specs.Facts.{after};
+ghost use Rattle.edit_plan.specs.Bound.{step_limit};
 ghost use Rattle.fact_records.specs.Examples.{number_and_parts, one_number};
 ghost use Rattle.fact_records.specs.Judge.{judge};
 ghost use Rattle.alloc_rows.specs.Examples.{fact_at, four_facts, two_dims};
@@ -14,7 +15,8 @@ ghost use Rattle.cube_core.specs.Examples.{below_0, by_value, fact_of, four_rows
 
 /// Rows, answers, refreshed facts and refusals that were worked out by hand. A fact somewhere in three cells is spread over
 /// the two where facts lie, as the counts say, and evenly over all three where no fact lies; so it lies otherwise once one
-/// of these facts moves or is withdrawn. In one of its two worlds it stands where two others do, and in one it does not.
+/// of these facts moves or is withdrawn. In one of its two worlds it stands where two others do, and in one it does not. A move
+/// between two cells that it covers, in two dimensions of depth 2, takes at most 2 * 9 + 2 * 2 + 2 steps.
 pub fn worked_cube()
     ensures spread { allocation_of 4 four_rows ≡ Some (record { den = 3; rows = (0, 2) ∷ (4, 1) ∷ [] }) }
     ensures precise { allocation_of 3 four_rows ≡ Some (record { den = 1; rows = (4, 1) ∷ [] }) }
@@ -39,6 +41,7 @@ pub fn worked_cube()
     ensures missing { judge by_count one_number two_dims (Withdraw 5) four_facts ≡ Some code.Missing }
     ensures parts { judge by_count number_and_parts two_dims (Put (fact_of 5 wrong_parts)) four_facts ≡ Some code.Parts }
     ensures whole { judge by_count number_and_parts two_dims (Put (fact_of 5 whole_parts)) four_facts ≡ None }
+    ensures steps { step_limit by_count two_dims (Change (fact_at 3 (4 ∷ 2 ∷ []) 50)) four_facts ≡ 24 }
 {}
 
 /// The same facts where cells weigh by the sum of their values, of precise facts alone. A fact is spread otherwise once the

@@ -15,7 +15,7 @@ use Rattle.cell_weight.specs.Stats.{IsStat}
 use Rattle.alloc_rows.specs.Changed.{Change}
 use Rattle.fact_groups.specs.Changes.{cell_of, cells_in_order, touched_cells}
 use Rattle.fact_groups.specs.Edits.{given, taken}
-use Rattle.edit_plan.specs.Touched.{reweighing, reweighs, touched}
+use Rattle.touched_cells.specs.Touched.{reweighing, reweighs, touched}
 
 in_order-below : (n : ℕ) (a b : Option ℕ) → IfSome a (λ k. k < n) → IfSome b (λ k. k < n) → All (λ k. k < n) (cells_in_order a b)
 in_order-below n None None first second = All-nil (λ k. k < n)

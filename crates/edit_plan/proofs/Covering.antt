@@ -29,11 +29,11 @@ use Rattle.edit_plan.specs.declared.moves.Moves.{Moves}
 use Rattle.edit_plan.specs.Covering.{covers_one, is_over_one, probes_over}
 use Rattle.edit_plan.specs.Moves.{AreMoves}
 use Rattle.edit_plan.specs.Regrouped.{HoldChanged}
-use Rattle.edit_plan.specs.Touched.{reweighing, touched}
+use Rattle.touched_cells.specs.Touched.{reweighing, touched}
 use Rattle.fact_records.proofs.SmallValues.{none_of}
 use Rattle.fact_groups.proofs.Elsewhere.{group_at-uncovered}
 use Rattle.edit_plan.proofs.Below.{reweighing-below}
-use Rattle.edit_plan.proofs.Looking.{valid-regions}
+use Rattle.facts_kept.proofs.ValidFacts.{valid-regions}
 use Rattle.edit_plan.proofs.Spreading.{holds-reweighing}
 
 -- one of two tests

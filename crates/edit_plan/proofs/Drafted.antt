@@ -20,9 +20,9 @@ use Rattle.fact_groups.proofs.Groups.{sum_by-filter_map}
 use Rattle.fact_records.specs.Shape.{ShapeValue, width_of_all}
 use Rattle.edit_plan.specs.GroupAfter.{rows_of}
 use Rattle.edit_plan.specs.Regrouped.{HoldChanged, groups_after, is_edited_at, is_spread_anew, spread_anew}
-use Rattle.edit_plan.proofs.Looking.{valid-regions}
+use Rattle.facts_kept.proofs.ValidFacts.{few-rows, valid-regions}
 use Rattle.edit_plan.proofs.OneGroup.{IsMove, valid-later}
-use Rattle.edit_plan.proofs.RowBounds.{few-rows, rows-le, rows_at-le}
+use Rattle.edit_plan.proofs.RowBounds.{rows-le, rows_at-le}
 
 -- the rows of the groups of some codes
 abbrev pub rows_over : Policy → ℕ → List Dimension → List Fact → List ℕ → ℕ
@@ -97,11 +97,11 @@ module _ (policy : Policy) (shape : ShapeValue) (dims : List Dimension) (edit : 
   rows-before-le code = rows_at-le policy columns dims facts move.trees regions code
 
   pub rows-later-le : (code : ℕ) → rows_of (group_at policy columns dims later code) ≤ MAX_FACTS * MAX_CELLS
-  rows-later-le code = omega (arith, rows_at-le policy columns dims later move.trees regions_later code, few-rows policy shape dims later move.trees regions_later (valid-later shape dims edit facts move))
+  rows-later-le code = omega (arith, rows_at-le policy columns dims later move.trees regions_later code, few-rows policy shape dims later (valid-later shape dims edit facts move))
 
   -- and so are those of all
   pub rows-later-few : row_count (extended policy dims later) ≤ MAX_FACTS * MAX_CELLS
-  rows-later-few = few-rows policy shape dims later move.trees regions_later (valid-later shape dims edit facts move)
+  rows-later-few = few-rows policy shape dims later (valid-later shape dims edit facts move)
 
   module _ (codes : List ℕ) (hold : HoldChanged policy columns dims edit facts codes) where
     -- so are those of some

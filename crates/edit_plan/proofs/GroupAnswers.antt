@@ -1,34 +1,39 @@
 -- What shares of groups add up to is the answer of a state's facts.
-use Rattle.std.proofs.Common.{◌≡◌, ℕ, ◌+◌, ◌*◌, ◌<◌, ◌≤◌, true, List, eqb, map, refl, ap, sym, ◌∙◌, subst, arith, ℤ, pos}
-use Rattle.std.specs.Prelude.{All, IfOk, Result, Ok, Err}
-use Rattle.std.specs.List.{IsDistinct, range_with_len, sum_by}
+use Rattle.std.proofs.Common.{◌≡◌, ℕ, ◌+◌, ◌*◌, ◌<◌, ◌≤◌, true, List, [], ◌∷◌, eqb, map, refl, ap, sym, ◌∙◌, subst, arith, ℤ, pos}
+use Rattle.std.specs.Prelude.{All, IfOk, Option, Result, Ok, Err}
+use Rattle.std.specs.List.{IsDistinct, cons_option, filter_map, range_with_len, sum_by}
 use Rattle.std.specs.Map.{keys_of}
 use Rattle.std.proofs.lemmas.List.FromFn.{get_or-map-range_with_len, length-map-range_with_len}
+use Rattle.cube_model.specs.declared.edit.Fact.{Fact}
 use Rattle.cube_model.specs.declared.statistic.CellStat.{CellStat}
 use Rattle.cube_model.specs.declared.term.Term.{Term}
-use Rattle.cube_model.specs.Allocation.{ExtendedFact}
+use Rattle.cube_model.specs.Allocation.{ExtendedFact, Policy}
 use Rattle.cube_model.specs.Answer.{answer, bound_of, count_at, count_of, numerator_of, sum_at, weight_inside}
 use Rattle.cube_model.specs.Cells.{cells_of}
 use Rattle.cube_model.specs.Limits.{MAX_FACTS, MAX_VALUE}
 use Rattle.cube_model.specs.Tree.{Dimension, IsTree}
 use Rattle.cell_weight.specs.Stats.{IsStat}
-use Rattle.fact_groups.specs.Groups.{AreGrouped, Group, count_in, groups_at, sum_in}
+use Rattle.fact_groups.specs.Groups.{AreGrouped, Group, group_at, groups_at}
 use Rattle.fact_groups.proofs.Groups.{count-grouped, sum-grouped}
 use Rattle.fact_records.specs.Shape.{IsShape, width_of_all}
 use Rattle.group_sum.specs.declared.shares.Share.{Share}
 use Rattle.group_sum.specs.Shares.{AddUpTo, IsShare, SharesFit}
 use Rattle.group_sum.specs.Terms.{AreTerms, TermList, are_terms_from}
 use Rattle.group_sum.proofs.Determined.{terms_determined}
-use Rattle.staged_map.specs.Staged.{held}
+use Rattle.region_algebra.specs.Space.{IsRegion}
+use Rattle.region_index.specs.Touching.{codes_touching}
+use Rattle.staged_map.specs.Staged.{Places, held, value_at}
 use Rattle.view_store.proofs.Shares.{over-beyond}
-use Rattle.edit_plan.specs.Answering.{groups_held, shares_of}
-use Rattle.edit_plan.specs.State.{IsState, StateValue, policy_in, rows_in, terms_in}
+use Rattle.edit_plan.specs.Answering.{groups_found, groups_held, shares_of}
+use Rattle.facts_kept.specs.Kept.{IsState}
+use Rattle.edit_plan.specs.State.{StateValue, policy_in, rows_in, terms_in}
 use Rattle.edit_plan.proofs.GroupShares.{products-are, shares-are, shares-fit, units-are}
-use Rattle.edit_plan.proofs.HeldGroups.{grouped-held, groups-held}
-use Rattle.edit_plan.proofs.Looking.{valid-regions}
-use Rattle.edit_plan.proofs.Modest.{IsModest, members}
-use Rattle.edit_plan.proofs.SmallGroups.{groups-modest}
-use Rattle.edit_plan.proofs.SplitGroups.{members-grouped}
+use Rattle.facts_kept.proofs.HeldGroups.{grouped-held, groups-held}
+use Rattle.facts_kept.proofs.ValidFacts.{valid-regions}
+use Rattle.facts_kept.proofs.Modest.{IsModest, members}
+use Rattle.facts_kept.proofs.SmallGroups.{groups-modest}
+use Rattle.facts_kept.proofs.SplitGroups.{members-grouped}
+use Rattle.edit_plan.proofs.TouchingShares.{all_codes, grouped-all, shares-all}
 
 -- terms with the numerators of facts are their answer
 answer-told : (columns : ℕ) (dims : List Dimension) (rows : List ExtendedFact) (region : List ℕ) (list : TermList) → list.columns ≡ columns + 1 → AreTerms list → ((d : ℕ) → count_of list.terms d ≡ count_at (cells_of dims region) rows d)
@@ -46,47 +51,79 @@ answer-told columns dims rows region list wide are counts numerators =
     same : (list : TermList) {terms : List Term} → list.columns ≡ columns + 1 → list.terms ≡ terms → list ≡ record { columns = columns + 1; terms = terms }
     same list wide terms = rw (← wide, ← terms) refl
 
-module _ {P : Type 0} (weigh : P → CellStat → ℕ) (state seen : StateValue P) (same : seen ≡ state) (kept : IsState (policy_in weigh seen) seen.shape seen.dims seen.cuts seen.facts seen.kept)
-    (bound : (s : CellStat) → IsStat s → weigh seen.policy s ≤ 1 + s.count * MAX_VALUE) (is : IsShape seen.shape) (trees : All IsTree seen.dims)
-    (distinct : IsDistinct eqb (keys_of seen.kept.groups)) (once : IsDistinct eqb (keys_of (held seen.kept.groups))) where
+-- shares at codes that are told
+pub shares-coded : (cells : List ℕ) (places : Places Group) (codes touching : List ℕ) {shares : List Share} → codes ≡ touching → shares ≡ shares_of cells (groups_found places codes) → shares ≡ shares_of cells (groups_found places touching)
+shares-coded cells places codes touching told are = are ∙ ap (λ (cs : List ℕ). shares_of cells (groups_found places cs)) told
+
+-- These are the shares in a region of the groups of facts, which all facts are in.
+pub record AreSharesOf (policy : Policy) (columns : ℕ) (dims : List Dimension) (facts : List Fact) (region : List ℕ) (shares : List Share) : Type 0 where
+  pub codes : List ℕ
+  pub grouped : AreGrouped dims facts codes
+  pub are : shares ≡ shares_of (cells_of dims region) (groups_at policy columns dims facts codes)
+
+-- what keys give, where two functions agree
+filter_map-alike : {X Y : Type 0} (f g : X → Option Y) → ((x : X) → f x ≡ g x) → (xs : List X) → filter_map f xs ≡ filter_map g xs
+filter_map-alike f g each [] = refl
+filter_map-alike f g each (x ∷ xs) = ap (λ o. cons_option o (filter_map f xs)) (each x) ∙ ap (cons_option (g x)) (filter_map-alike f g each xs)
+
+module _ {P : Type 0} (weigh : P → CellStat → ℕ) (state seen : StateValue P) (same : seen ≡ state) (kept : IsState (policy_in weigh seen) seen.shape seen.dims seen.cuts seen.facts seen.kept) where
   abbrev width : ℕ
   width = width_of_all seen.shape.measures
 
-  abbrev groups : List Group
-  groups = groups_held seen.kept.groups
+  -- such are those of all groups, and those of the groups of the regions that have a cell in common
+  module _ (trees : All IsTree seen.dims) (distinct : IsDistinct eqb (keys_of seen.kept.groups)) (once : IsDistinct eqb (keys_of (held seen.kept.groups))) (region cells : List ℕ) (told : cells ≡ cells_of seen.dims region) where
+    abbrev codes-held : List ℕ
+    codes-held = keys_of (held seen.kept.groups)
 
-  abbrev codes : List ℕ
-  codes = keys_of (held seen.kept.groups)
+    grouped : AreGrouped seen.dims seen.facts codes-held
+    grouped = grouped-held (policy_in weigh seen) width seen.dims seen.facts seen.kept.groups kept.groups distinct once trees (valid-regions seen.shape seen.dims seen.facts kept.valid)
 
-  are-held : groups_at (policy_in weigh seen) width seen.dims seen.facts codes ≡ groups
-  are-held = groups-held (policy_in weigh seen) width seen.dims seen.facts seen.kept.groups kept.groups distinct once
+    pub shares-held : (shares : List Share) → shares ≡ shares_of cells (groups_held state.kept.groups) → AreSharesOf (policy_in weigh seen) width seen.dims seen.facts region shares
+    shares-held shares are = record {
+      codes = codes-held;
+      grouped = grouped;
+      are =
+          are ∙ ap (λ (s : StateValue P). shares_of cells (groups_held s.kept.groups)) (sym same) ∙ ap (λ (cs : List ℕ). shares_of cs (groups_held seen.kept.groups)) told
+          ∙ ap (shares_of (cells_of seen.dims region)) (sym (groups-held (policy_in weigh seen) width seen.dims seen.facts seen.kept.groups kept.groups distinct once));
+    }
 
-  grouped : AreGrouped seen.dims seen.facts codes
-  grouped = grouped-held (policy_in weigh seen) width seen.dims seen.facts seen.kept.groups kept.groups distinct once trees (valid-regions seen.shape seen.dims seen.facts kept.valid)
+    pub shares-touching : (shares : List Share) → shares ≡ shares_of cells (groups_found state.kept.groups (codes_touching state.dims region)) → AreSharesOf (policy_in weigh seen) width seen.dims seen.facts region shares
+    shares-touching shares are = record {
+      codes = all_codes (policy_in weigh seen) width seen.dims seen.facts trees regions region codes-held grouped;
+      grouped = grouped-all (policy_in weigh seen) width seen.dims seen.facts trees regions region codes-held grouped;
+      are =
+          are ∙ ap (λ (s : StateValue P). shares_of cells (groups_found s.kept.groups (codes_touching s.dims region))) (sym same)
+          ∙ ap (λ (cs : List ℕ). shares_of cs (groups_found seen.kept.groups (codes_touching seen.dims region))) told
+          ∙ ap (shares_of (cells_of seen.dims region)) (filter_map-alike (value_at seen.kept.groups) (group_at (policy_in weigh seen) width seen.dims seen.facts) kept.groups (codes_touching seen.dims region))
+          ∙ sym (shares-all (policy_in weigh seen) width seen.dims seen.facts trees regions region codes-held grouped);
+    }
+      where
+        regions : All (λ f. IsRegion seen.dims f.region) seen.facts
+        regions = valid-regions seen.shape seen.dims seen.facts kept.valid
 
-  modest : All (IsModest width) groups
-  modest = subst (All (IsModest width)) are-held (groups-modest (weigh seen.policy) bound seen.shape seen.dims seen.facts is trees kept.valid codes)
+  module _ (bound : (s : CellStat) → IsStat s → weigh seen.policy s ≤ 1 + s.count * MAX_VALUE) (is : IsShape seen.shape) (region : List ℕ) (shares : List Share) (from : AreSharesOf (policy_in weigh seen) width seen.dims seen.facts region shares) where
+    abbrev groups : List Group
+    groups = groups_at (policy_in weigh seen) width seen.dims seen.facts from.codes
 
-  few : members groups ≤ MAX_FACTS
-  few = omega (arith, kept.valid.few, members-grouped (policy_in weigh seen) width seen.dims seen.facts codes grouped, ap members are-held)
+    modest : All (IsModest width) groups
+    modest = groups-modest (weigh seen.policy) bound seen.shape seen.dims seen.facts is from.grouped.trees kept.valid from.codes
 
-  module _ (region : List ℕ) (shares : List Share) (shares_are : shares ≡ shares_of (cells_of state.dims region) (groups_held state.kept.groups)) where
-    here : shares ≡ shares_of (cells_of seen.dims region) groups
-    here = shares_are ∙ sym (ap (λ (s : StateValue P). shares_of (cells_of s.dims region) (groups_held s.kept.groups)) same)
+    few : members groups ≤ MAX_FACTS
+    few = omega (arith, kept.valid.few, members-grouped (policy_in weigh seen) width seen.dims seen.facts from.codes from.grouped)
 
     held-are : All (IsShare (width + 1)) shares
-    held-are = subst (All (IsShare (width + 1))) (sym here) (shares-are width (cells_of seen.dims region) groups modest few)
+    held-are = subst (All (IsShare (width + 1))) (sym from.are) (shares-are width (cells_of seen.dims region) groups modest few)
 
     held-fit : SharesFit (width + 1) shares
-    held-fit = subst (SharesFit (width + 1)) (sym here) (shares-fit width (cells_of seen.dims region) groups modest few)
+    held-fit = subst (SharesFit (width + 1)) (sym from.are) (shares-fit width (cells_of seen.dims region) groups modest few)
 
     answered-held : (list : TermList) → AddUpTo (width + 1) shares list → AreTerms list → list ≡ terms_in weigh state region
     answered-held list up are =
         let cells = cells_of seen.dims region in
-        let adds : AddUpTo (width + 1) (shares_of cells groups) list = subst (λ (ss : List Share). AddUpTo (width + 1) ss list) here up in
+        let adds : AddUpTo (width + 1) (shares_of cells groups) list = subst (λ (ss : List Share). AddUpTo (width + 1) ss list) from.are up in
         answer-told width seen.dims (rows_in weigh seen) region list adds.columns_are are
-        (λ d. adds.counts d ∙ units-are cells d groups ∙ sym (count-grouped (policy_in weigh seen) width seen.dims seen.facts codes grouped cells d ∙ ap (λ (gs : List Group). count_in cells gs d) are-held))
-        (λ d k lt. adds.sums d k (omega (arith, lt)) ∙ products-are cells d k groups ∙ sym (sum-grouped (policy_in weigh seen) width seen.dims seen.facts codes grouped cells k d lt ∙ ap (λ (gs : List Group). sum_in cells gs k d) are-held))
+        (λ d. adds.counts d ∙ units-are cells d groups ∙ sym (count-grouped (policy_in weigh seen) width seen.dims seen.facts from.codes from.grouped cells d))
+        (λ d k lt. adds.sums d k (omega (arith, lt)) ∙ products-are cells d k groups ∙ sym (sum-grouped (policy_in weigh seen) width seen.dims seen.facts from.codes from.grouped cells k d lt))
         ∙ ap (λ (s : StateValue P). terms_in weigh s region) same
 
     -- and so with a number of columns that is told

@@ -18,7 +18,8 @@ use Rattle.fact_records.specs.Valid.{IsFactOf}
 use Rattle.edit_plan.specs.declared.moves.Moves.{Moves}
 use Rattle.edit_plan.specs.GroupAfter.{AreWithin, fact_at, members_of, number_of, sums_after}
 use Rattle.edit_plan.specs.Moves.{AreMoves}
-use Rattle.edit_plan.specs.State.{IsState, StateValue, policy_in}
+use Rattle.facts_kept.specs.Kept.{IsState}
+use Rattle.edit_plan.specs.State.{StateValue, policy_in}
 use Rattle.edit_plan.proofs.OneGroup.{IfSome-weaker, IsMove, few-members, given-of, group-made, group-none, members-move, region-few, region-there, spread-there, sums-move, sums-within, taken-of, values-within}
 
 module _ {P : Type 0} (weigh : P → CellStat → ℕ) (state seen : StateValue P) (same : seen ≡ state) (kept : IsState (policy_in weigh seen) seen.shape seen.dims seen.cuts seen.facts seen.kept) where

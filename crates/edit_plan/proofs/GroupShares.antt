@@ -1,61 +1,72 @@
 -- What the shares of groups in a region add up to.
-use Rattle.std.proofs.Common.{◌≡◌, ℕ, ◌+◌, ◌*◌, ◌<◌, ◌≤◌, Bool, true, false, List, [], ◌∷◌, ◌++◌, map, take, refl, ap, sym, ◌∙◌, arith, ℤ, pos, ◌+ℤ◌, ◌*ℤ◌}
-use Rattle.std.specs.Prelude.{All, filter, nat_abs, nat_lt, slice_index_or, ◌==◌, if◌then◌else◌}
-use Rattle.std.specs.List.{sum_by}
+use Rattle.std.proofs.Common.{◌≡◌, ℕ, ◌+◌, ◌*◌, ◌<◌, ◌≤◌, Bool, true, false, List, [], ◌∷◌, ◌++◌, get_or, length, map, take, refl, ap, sym, ◌∙◌, arith, ℤ, pos, ◌+ℤ◌, ◌*ℤ◌}
+use Rattle.std.specs.Prelude.{All, filter, nat_abs, nat_lt, option_to_list, slice_index_or, ◌==◌, if◌then◌else◌, Option, Some, None}
+use Rattle.std.specs.List.{cons_option, filter_map, sum_by}
 use Rattle.std.specs.Map.{values_of}
 use Rattle.std.proofs.lemmas.Bool.Decides.{nat_tests}
 use Rattle.std.proofs.lemmas.Int.{ints}
-use Rattle.std.proofs.lemmas.List.{append-nil, map-append}
-use Rattle.std.proofs.lemmas.List.Elements.{All-cons, All-filter, All-head, All-nil, All-tail, filter-append}
+use Rattle.std.proofs.lemmas.List.{append-nil, map-append, take_more}
+use Rattle.std.proofs.lemmas.List.Elements.{All-cons, All-filter, All-head, All-nil, All-tail, filter-append, filter_map-append}
 use Rattle.std.proofs.lemmas.List.Sums.{sum_by-cons}
 use Rattle.std.proofs.Math.IntN.{*ℤ-zero, *ℤ_comm}
 use Rattle.cube_model.specs.Answer.{total_by, weight_inside}
-use Rattle.cube_model.specs.Cells.{cells_of}
 use Rattle.cube_model.specs.Limits.{MAX_FACTS}
 use Rattle.group_sum.specs.declared.shares.Share.{Share}
 use Rattle.group_sum.specs.Shares.{IsShare, SharesFit, product_at, product_in, shares_at, size_at, units_at, units_of}
 use Rattle.fact_groups.specs.Groups.{Group, count_in, sum_in}
 use Rattle.fact_groups.proofs.Groups.{count_in-sum, count_over, sum_in-total, sum_over}
 use Rattle.fact_groups.proofs.Partition.{sum_by-alike}
-use Rattle.staged_map.specs.Staged.{Places, held}
+use Rattle.staged_map.specs.Staged.{Places, held, value_at}
 use Rattle.edit_plan.specs.Answering.{groups_held, share_of, shares_of}
 use Rattle.edit_plan.specs.State.{StateValue}
-use Rattle.edit_plan.proofs.Modest.{AreModest, IsModest, count-within, members, modest-groups, product-within, sizes-of}
+use Rattle.facts_kept.proofs.Modest.{AreModest, IsModest, count-within, members, modest-groups, product-within, sizes-of}
 
 -- a group more
 pub shares-push : (cells : List ℕ) (groups : List Group) (g : Group) → shares_of cells (groups ++ g ∷ []) ≡ shares_of cells groups ++ (if nat_lt 0 (weight_inside cells g.spread) then share_of cells g ∷ [] else [])
 shares-push cells groups g =
     ap (filter (λ (s : Share). nat_lt 0 s.weight)) (map-append (share_of cells) groups (g ∷ [])) ∙ filter-append (λ (s : Share). nat_lt 0 s.weight) (map (share_of cells) groups) (share_of cells g ∷ [])
 
--- a place more
-module _ (cells : List ℕ) (places : Places Group) (i : ℕ) where
-  abbrev so_far : ℕ → List Share
-  so_far n = shares_of cells (groups_held (take n places))
+-- a group more of those that have been gone through
+module _ (cells : List ℕ) (groups more : List Group) (g : Group) (old : List Share) (is : old ≡ shares_of cells groups) (next : more ≡ groups ++ g ∷ []) where
+  whole : shares_of cells more ≡ old ++ (if nat_lt 0 (weight_inside cells g.spread) then share_of cells g ∷ [] else [])
+  whole = ap (shares_of cells) next ∙ shares-push cells groups g ∙ ap (λ (shares : List Share). shares ++ (if nat_lt 0 (weight_inside cells g.spread) then share_of cells g ∷ [] else [])) (sym is)
 
-  pub shares-none : (old : List Share) → old ≡ so_far i → held (take (i + 1) places) ≡ held (take i places) ++ [] → old ≡ so_far (i + 1)
-  shares-none old is next = is ∙ ap (λ (entries : List (ℕ × Group)). shares_of cells (values_of entries)) (sym (next ∙ append-nil (held (take i places))))
+  pub shares-some : (new : List Share) (share : Share) → share ≡ share_of cells g → 0 < share.weight → new ≡ old ++ share ∷ [] → new ≡ shares_of cells more
+  shares-some new share its some added =
+      let test : nat_lt 0 (weight_inside cells g.spread) ≡ true = grind (arith, nat_tests, some, ap (λ (s : Share). s.weight) its) in
+      added ∙ ap (λ (s : Share). old ++ s ∷ []) its ∙ sym (whole ∙ ap (λ (b : Bool). old ++ (if b then share_of cells g ∷ [] else [])) test)
 
-  module _ (code : ℕ) (g : Group) (old : List Share) (is : old ≡ so_far i) (next : held (take (i + 1) places) ≡ held (take i places) ++ (code, g) ∷ []) where
-    whole : so_far (i + 1) ≡ old ++ (if nat_lt 0 (weight_inside cells g.spread) then share_of cells g ∷ [] else [])
-    whole =
-        ap (λ (entries : List (ℕ × Group)). shares_of cells (values_of entries)) next
-        ∙ ap (shares_of cells) (map-append (λ (e : ℕ × Group). e.1) (held (take i places)) ((code, g) ∷ []))
-        ∙ shares-push cells (groups_held (take i places)) g
-        ∙ ap (λ (shares : List Share). shares ++ (if nat_lt 0 (weight_inside cells g.spread) then share_of cells g ∷ [] else [])) (sym is)
+  pub shares-nothing : (share : Share) → share ≡ share_of cells g → share.weight ≤ 0 → old ≡ shares_of cells more
+  shares-nothing share its none =
+      let test : nat_lt 0 (weight_inside cells g.spread) ≡ false = grind (arith, nat_tests, none, ap (λ (s : Share). s.weight) its) in
+      sym (append-nil old) ∙ sym (whole ∙ ap (λ (b : Bool). old ++ (if b then share_of cells g ∷ [] else [])) test)
 
-    pub shares-some : (new : List Share) (share : Share) → share ≡ share_of cells g → 0 < share.weight → new ≡ old ++ share ∷ [] → new ≡ so_far (i + 1)
-    shares-some new share its some more =
-        let test : nat_lt 0 (weight_inside cells g.spread) ≡ true = grind (arith, nat_tests, some, ap (λ (s : Share). s.weight) its) in
-        more ∙ ap (λ (s : Share). old ++ s ∷ []) its ∙ sym (whole ∙ ap (λ (b : Bool). old ++ (if b then share_of cells g ∷ [] else [])) test)
+-- where no group comes, the shares stay
+pub shares-none : (cells : List ℕ) (groups more : List Group) (old : List Share) → old ≡ shares_of cells groups → more ≡ groups ++ [] → old ≡ shares_of cells more
+shares-none cells groups more old is next = is ∙ ap (shares_of cells) (sym (next ∙ append-nil groups))
 
-    pub shares-nothing : (share : Share) → share ≡ share_of cells g → share.weight ≤ 0 → old ≡ so_far (i + 1)
-    shares-nothing share its none =
-        let test : nat_lt 0 (weight_inside cells g.spread) ≡ false = grind (arith, nat_tests, none, ap (λ (s : Share). s.weight) its) in
-        sym (append-nil old) ∙ sym (whole ∙ ap (λ (b : Bool). old ++ (if b then share_of cells g ∷ [] else [])) test)
+-- the groups before a place and at it
+pub groups-next : (places : Places Group) (i code : ℕ) (g : Group) → held (take (i + 1) places) ≡ held (take i places) ++ (code, g) ∷ [] → groups_held (take (i + 1) places) ≡ groups_held (take i places) ++ g ∷ []
+groups-next places i code g next = ap (λ (entries : List (ℕ × Group)). values_of entries) next ∙ map-append (λ (e : ℕ × Group). e.1) (held (take i places)) ((code, g) ∷ [])
+
+pub groups-none : (places : Places Group) (i : ℕ) → held (take (i + 1) places) ≡ held (take i places) ++ [] → groups_held (take (i + 1) places) ≡ groups_held (take i places) ++ []
+groups-none places i next = ap (λ (entries : List (ℕ × Group)). values_of entries) next ∙ map-append (λ (e : ℕ × Group). e.1) (held (take i places)) []
+
+-- the groups at the codes before one and at it
+pub groups-code : (places : Places Group) (codes : List ℕ) (i d : ℕ) (found : Option Group) → i < length codes → found ≡ value_at places (get_or codes i d)
+    → filter_map (value_at places) (take (i + 1) codes) ≡ filter_map (value_at places) (take i codes) ++ option_to_list found
+groups-code places codes i d found within is =
+    ap (filter_map (value_at places)) (take_more codes i d within)
+    ∙ filter_map-append (value_at places) (take i codes) (get_or codes i d ∷ [])
+    ∙ ap (λ (gs : List Group). filter_map (value_at places) (take i codes) ++ gs) (ap (λ (o : Option Group). cons_option o []) (sym is) ∙ one found)
+  where
+    one : (o : Option Group) → cons_option o [] ≡ option_to_list o
+    one None = refl
+    one (Some g) = refl
 
 -- the shares as a state is seen
-pub shares-seen : {P : Type 0} (state seen : StateValue P) → seen ≡ state → (region : List ℕ) → shares_of (cells_of seen.dims region) (groups_held seen.kept.groups) ≡ shares_of (cells_of state.dims region) (groups_held state.kept.groups)
-shares-seen {P} state seen same region = ap (λ (s : StateValue P). shares_of (cells_of s.dims region) (groups_held s.kept.groups)) same
+pub shares-seen : {P : Type 0} (state seen : StateValue P) → seen ≡ state → (cells : List ℕ) → shares_of cells (groups_held seen.kept.groups) ≡ shares_of cells (groups_held state.kept.groups)
+shares-seen {P} state seen same cells = ap (λ (s : StateValue P). shares_of cells (groups_held s.kept.groups)) same
 
 module _ (cells : List ℕ) (d : ℕ) where
   -- a number that a share without weight does not raise

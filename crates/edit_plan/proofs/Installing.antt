@@ -1,6 +1,6 @@
 -- What a state keeps at first, and once a plan is installed.
 use Rattle.std.proofs.Common.{◌≡◌, ℕ, ◌+◌, List, [], length, map, refl, ap, sym, ◌∙◌, subst, arith, inl, inr}
-use Rattle.std.specs.Prelude.{All, ◌⊎◌}
+use Rattle.std.specs.Prelude.{All, ◌⊎◌, Some}
 use Rattle.std.proofs.lemmas.List.Elements.{All-nil}
 use Rattle.cube_model.specs.declared.edit.Edit.{Edit}
 use Rattle.cube_model.specs.declared.edit.Edit.TheVariants.{Put, Change}
@@ -19,41 +19,59 @@ use Rattle.fact_records.specs.Valid.{IsValid}
 use Rattle.region_index.specs.Changes.{Applies}
 use Rattle.view_store.specs.declared.change.ViewChange.{ViewChange}
 use Rattle.view_store.specs.Changes.{AreAfter, IsStagedFor}
-use Rattle.view_store.specs.Views.{ViewMap, ViewMaps, view_of}
-use Rattle.edit_plan.specs.Plan.{AreSetsFor, IsPlanFor, PlanValue, SetsValue}
-use Rattle.edit_plan.specs.State.{AreViewsOfFacts, IsAfter, IsState, Kept, StateValue, policy_in}
+use Rattle.view_store.specs.Views.{AreViewsOf, ViewMap, ViewMaps, view_of, without_entries}
+use Rattle.edit_plan.specs.Plan.{IsEditFor, edit_in, facts_after}
+use Rattle.edit_plan.specs.Sets.{SetsValue}
+use Rattle.edit_plan.specs.declared.plan_change.PlanChange.{PlanChange}
+use Rattle.edit_plan.specs.declared.plan_change.PlanChange.TheVariants as plan_change
+use Rattle.facts_kept.specs.Kept.{AreViewsOfFacts, IsState, Kept}
+use Rattle.edit_plan.specs.State.{HasFacts, StateValue, policy_in}
 use Rattle.edit_plan.proofs.Accepting.{AreValid-after, allowed, judged}
-use Rattle.edit_plan.proofs.ViewsKept.{AreViewsOfFacts-after, AreViewsOfFacts-none, cuts-after}
+use Rattle.facts_kept.proofs.ViewsKept.{AreViewsOfFacts-after, AreViewsOfFacts-emptied, AreViewsOfFacts-none, cuts-after}
 
 -- nothing is kept where there is no fact, but views without entries
-abbrev empty_kept : ℕ → ℕ → List ViewDef → Kept
-empty_kept spare columns defs = record { spare = spare; stats = []; index = []; groups = []; views = record { columns = columns; views = map (view_of columns) defs }; rows = 0 }
-
-module _ (policy : Policy) (shape : ShapeValue) (dims : List Dimension) (defs : List ViewDef) (cut_each : All (λ def. length def.depths ≡ length dims) defs) (spare : ℕ) where
-  IsState-none : (columns : ℕ) → columns ≡ width_of_all shape.measures + 1
-      → IsState policy shape dims (map (λ (view : ViewMap). view.depths) (map (view_of columns) defs)) [] (empty_kept spare columns defs)
+module _ (policy : Policy) (shape : ShapeValue) (dims : List Dimension) (spare : ℕ) (maps : ViewMaps) (none : AreViewsOfFacts dims (map (λ (view : ViewMap). view.depths) maps.views) (width_of_all shape.measures + 1) [] maps) where
+  IsState-none : IsState policy shape dims (map (λ (view : ViewMap). view.depths) maps.views) [] (record { spare = spare; stats = []; index = []; groups = []; views = maps; rows = 0 })
   unfolding extended
-  IsState-none columns width = record {
+  IsState-none = record {
     valid = record { ascending = λ i j d before within. absurd (omega arith); few = omega arith; each = All-nil (IsValid shape dims) };
     stats = λ cell. refl;
     index = record { ids = λ code. refl };
     groups = λ code. refl;
-    views = subst (λ n. AreViewsOfFacts dims (map (λ (view : ViewMap). view.depths) (map (view_of columns) defs)) n [] (record { columns = columns; views = map (view_of columns) defs })) width (AreViewsOfFacts-none dims columns defs cut_each);
+    views = none;
     rows = refl;
     few_rows = omega arith;
   }
 
-  pub IsState-empty : (facts : List Fact) (stats : Places CellStat) (index : Places (List ℕ)) (groups : Places Group) (views : ViewMaps) (columns : ℕ)
-      → facts ≡ [] → stats ≡ [] → index ≡ [] → groups ≡ [] → views ≡ record { columns = columns; views = map (view_of columns) defs } → columns ≡ 1 + width_of_all shape.measures
+  IsState-over : (facts : List Fact) (stats : Places CellStat) (index : Places (List ℕ)) (groups : Places Group) (views : ViewMaps) → facts ≡ [] → stats ≡ [] → index ≡ [] → groups ≡ [] → views ≡ maps
       → IsState policy shape dims (map (λ (view : ViewMap). view.depths) views.views) facts (record { spare = spare; stats = stats; index = index; groups = groups; views = views; rows = 0 })
-  IsState-empty facts stats index groups views columns no_facts no_stats no_index no_groups are width =
+  IsState-over facts stats index groups views no_facts no_stats no_index no_groups are =
       let with : List Fact → Places CellStat → Places (List ℕ) → Places Group → ViewMaps → Type 0 =
       λ fs ss is gs vs. IsState policy shape dims (map (λ (view : ViewMap). view.depths) vs.views) fs (record { spare = spare; stats = ss; index = is; groups = gs; views = vs; rows = 0 }) in
       subst (λ (fs : List Fact). with fs stats index groups views) (sym no_facts)
       (subst (λ (ss : Places CellStat). with [] ss index groups views) (sym no_stats)
       (subst (λ (is : Places (List ℕ)). with [] [] is groups views) (sym no_index)
       (subst (λ (gs : Places Group). with [] [] [] gs views) (sym no_groups)
-      (subst (λ (vs : ViewMaps). with [] [] [] [] vs) (sym are) (IsState-none columns (omega (arith, width)))))))
+      (subst (λ (vs : ViewMaps). with [] [] [] [] vs) (sym are) IsState-none))))
+
+module _ (policy : Policy) (shape : ShapeValue) (dims : List Dimension) (spare : ℕ) (facts : List Fact) (stats : Places CellStat) (index : Places (List ℕ)) (groups : Places Group) (views : ViewMaps) where
+  abbrev pub Empty : Type 0
+  Empty = IsState policy shape dims (map (λ (view : ViewMap). view.depths) views.views) facts (record { spare = spare; stats = stats; index = index; groups = groups; views = views; rows = 0 })
+
+  -- with the views of definitions
+  pub IsState-empty : (defs : List ViewDef) → All (λ def. length def.depths ≡ length dims) defs → (columns : ℕ) → facts ≡ [] → stats ≡ [] → index ≡ [] → groups ≡ [] → views ≡ record { columns = columns; views = map (view_of columns) defs }
+      → columns ≡ 1 + width_of_all shape.measures → Empty
+  IsState-empty defs cut_each columns no_facts no_stats no_index no_groups are width =
+      let maps : ViewMaps = record { columns = columns; views = map (view_of columns) defs } in
+      let turned : columns ≡ width_of_all shape.measures + 1 = omega (arith, width) in
+      IsState-over policy shape dims spare maps (subst (λ n. AreViewsOfFacts dims (map (λ (view : ViewMap). view.depths) maps.views) n [] maps) turned (AreViewsOfFacts-none dims columns defs cut_each)) facts stats index groups views no_facts no_stats no_index no_groups are
+
+  -- and with views that were others, over as many dimensions
+  pub IsState-fresh : (space : List Dimension) (maps : ViewMaps) → AreViewsOf space maps → maps.columns ≡ width_of_all shape.measures + 1 → length dims ≡ length space → facts ≡ [] → stats ≡ [] → index ≡ [] → groups ≡ []
+      → views ≡ record { columns = maps.columns; views = map without_entries maps.views } → Empty
+  IsState-fresh space maps over width same no_facts no_stats no_index no_groups are =
+      IsState-over policy shape dims spare (record { columns = maps.columns; views = map without_entries maps.views }) (AreViewsOfFacts-emptied dims space (width_of_all shape.measures + 1) maps over width same) facts stats index groups views no_facts no_stats
+      no_index no_groups are
 
 -- what is set of what is kept
 pub record IsSet (dims : List Dimension) (edit : Edit) (facts later : List Fact) (old new : Kept) (sets : SetsValue) (count : ℕ) : Type 0 where
@@ -69,47 +87,60 @@ pub put-after : (edit : Edit) (fact : Fact) (facts : List Fact) → (edit ≡ Pu
 put-after edit fact facts (inl is) = ap (λ e. after e facts) is
 put-after edit fact facts (inr is) = ap (λ e. after e facts) is ∙ put-withdraw fact facts
 
--- A state as it is seen, a plan, and what it sets.
-module _ {P : Type 0} (weigh : P → CellStat → ℕ) (state seen : StateValue P) (plan set : PlanValue) (sets : SetsValue) (state_is : seen ≡ state) (plan_is : set ≡ plan) (sets_are : sets ≡ set.sets)
-    (requires : IsPlanFor weigh state plan) (kept : IsState (policy_in weigh seen) seen.shape seen.dims seen.cuts seen.facts seen.kept) where
-  fits : IsPlanFor weigh seen set
-  fits = subst (λ (s : StateValue P). IsPlanFor weigh s set) (sym state_is) (subst (λ (p : PlanValue). IsPlanFor weigh state p) (sym plan_is) requires)
+-- a plan of an edit leaves the facts after it
+pub facts-after_edit : (change : PlanChange) (edit : Edit) (facts : List Fact) → edit_in change ≡ Some edit → facts_after change facts ≡ after edit facts
+facts-after_edit (plan_change.Edit its sets rows) edit facts is = let same : its ≡ edit = cc in ap (λ e. after e facts) same
+facts-after_edit (plan_change.All all) edit facts is = cc
 
-  all_fit : AreSetsFor weigh seen set.edit sets
-  all_fit = subst (AreSetsFor weigh seen set.edit) (sym sets_are) fits.sets
+-- A state as it is seen, an edit, and what is set.
+module _ {P : Type 0} (weigh : P → CellStat → ℕ) (state seen : StateValue P) (edit : Edit) (set sets : SetsValue) (count : ℕ) (state_is : seen ≡ state) (sets_are : sets ≡ set) (requires : IsEditFor weigh state edit set count)
+    (kept : IsState (policy_in weigh seen) seen.shape seen.dims seen.cuts seen.facts seen.kept) where
+  fits : IsEditFor weigh seen edit sets count
+  fits = subst (λ (s : StateValue P). IsEditFor weigh s edit sets count) (sym state_is) (subst (λ (v : SetsValue). IsEditFor weigh state edit v count) (sym sets_are) requires)
 
   abbrev after_it : List Fact
-  after_it = after set.edit seen.facts
+  after_it = after edit seen.facts
 
-  set-after : (new : Kept) → IsSet seen.dims set.edit seen.facts after_it seen.kept new sets set.rows → IsState (policy_in weigh seen) seen.shape seen.dims (map (λ (view : ViewMap). view.depths) new.views.views) after_it new
+  set-after : (new : Kept) → IsSet seen.dims edit seen.facts after_it seen.kept new sets count → IsState (policy_in weigh seen) seen.shape seen.dims (map (λ (view : ViewMap). view.depths) new.views.views) after_it new
   set-after new is =
-      let parts = judged (policy_in weigh seen) seen.shape seen.dims set.edit seen.facts fits.accepted in
-      let views = all_fit.views in
+      let parts = judged (policy_in weigh seen) seen.shape seen.dims edit seen.facts fits.accepted in
+      let views = fits.sets.views in
       let its = is.rows ∙ fits.rows in
       record {
-        valid = AreValid-after seen.shape seen.dims set.edit seen.facts fits.over (allowed seen.shape seen.dims set.edit seen.facts parts.0) kept.valid;
-        stats = λ cell. is.stats.stats cell ∙ all_fit.stats.made cell;
-        index = record { ids = λ code. is.index.ids code ∙ all_fit.index.made code };
-        groups = λ code. is.groups.values code ∙ all_fit.groups.made code;
+        valid = AreValid-after seen.shape seen.dims edit seen.facts fits.over (allowed seen.shape seen.dims edit seen.facts parts.0) kept.valid;
+        stats = λ cell. is.stats.stats cell ∙ fits.sets.stats.made cell;
+        index = record { ids = λ code. is.index.ids code ∙ fits.sets.index.made code };
+        groups = λ code. is.groups.values code ∙ fits.sets.groups.made code;
         views = AreViewsOfFacts-after seen.dims views.changes seen.cuts (width_of_all seen.shape.measures + 1) (extended (policy_in weigh seen) seen.dims seen.facts) (extended (policy_in weigh seen) seen.dims after_it) seen.kept.views new.views views.follow
             (is.views views.changes views.staged) kept.views;
         rows = its;
         few_rows = omega (arith, its, parts.1);
       }
 
-  -- what is kept once the plan is installed is what the edit makes of the facts
-  pub installed : (later : List Fact) (new : Kept) → IsSet seen.dims set.edit seen.facts later seen.kept new sets set.rows
+  -- what is kept once it is set is what the edit makes of the facts
+  pub installed : (later : List Fact) (new : Kept) → IsSet seen.dims edit seen.facts later seen.kept new sets count
       → IsState (policy_in weigh seen) seen.shape seen.dims (map (λ (view : ViewMap). view.depths) new.views.views) later new
   installed later new is =
       subst (λ (fs : List Fact). IsState (policy_in weigh seen) seen.shape seen.dims (map (λ (view : ViewMap). view.depths) new.views.views) fs new) (sym is.edited)
-      (set-after new (subst (λ (fs : List Fact). IsSet seen.dims set.edit seen.facts fs seen.kept new sets set.rows) is.edited is))
+      (set-after new (subst (λ (fs : List Fact). IsSet seen.dims edit seen.facts fs seen.kept new sets count) is.edited is))
 
   -- and the content is that after the edit
-  pub after-installed : (new : StateValue P) → new.policy ≡ seen.policy → new.dims ≡ seen.dims → new.shape ≡ seen.shape → new.cuts ≡ map (λ (view : ViewMap). view.depths) new.kept.views.views → new.facts ≡ after set.edit seen.facts
-      → ((changes : List ViewChange) → IsStagedFor seen.dims changes seen.kept.views sets.views → AreAfter seen.dims changes seen.kept.views new.kept.views) → IsAfter plan.edit state new
+  pub after-installed : (new : StateValue P) → new.policy ≡ seen.policy → new.dims ≡ seen.dims → new.shape ≡ seen.shape → new.cuts ≡ map (λ (view : ViewMap). view.depths) new.kept.views.views → new.facts ≡ after edit seen.facts
+      → ((changes : List ViewChange) → IsStagedFor seen.dims changes seen.kept.views sets.views → AreAfter seen.dims changes seen.kept.views new.kept.views) → HasFacts (after edit state.facts) state new
   after-installed new policy dims shape cuts facts is =
-      let views = all_fit.views in
-      let after = is views.changes views.staged in
-      let same : new.cuts ≡ seen.cuts = cuts ∙ cuts-after seen.dims views.changes seen.kept.views.views new.kept.views.views after.count after.each ∙ kept.views.cuts_are in
-      subst (λ (s : StateValue P). IsAfter plan.edit s new) state_is
-      (subst (λ (p : PlanValue). IsAfter p.edit seen new) plan_is (record { policy = policy; dims = dims; shape = shape; cuts = same; facts = facts }))
+      let views = fits.sets.views in
+      let they = is views.changes views.staged in
+      let same : new.cuts ≡ seen.cuts = cuts ∙ cuts-after seen.dims views.changes seen.kept.views.views new.kept.views.views they.count they.each ∙ kept.views.cuts_are in
+      subst (λ (s : StateValue P). HasFacts (after edit s.facts) s new) state_is (record { policy = policy; dims = dims; shape = shape; cuts = same; facts = facts })
+
+-- all facts at once: the cuts are those that the state had
+pub replaced : (policy : Policy) (shape : ShapeValue) (dims : List Dimension) (cuts : List (List ℕ)) (facts : List Fact) (kept : Kept) → IsState policy shape dims cuts facts kept
+    → IsState policy shape dims (map (λ (view : ViewMap). view.depths) kept.views.views) facts kept
+replaced policy shape dims cuts facts kept is = subst (λ cs. IsState policy shape dims cs facts kept) (sym is.views.cuts_are) is
+
+-- a state as it is seen has the dimensions and cuts that it has
+pub dims-seen : {P : Type 0} (state seen : StateValue P) → seen ≡ state → length seen.dims ≡ length state.dims
+dims-seen state seen same = ap (λ s. length s.dims) same
+
+pub cuts-seen : {P : Type 0} (state seen : StateValue P) → seen ≡ state → seen.cuts ≡ state.cuts
+cuts-seen state seen same = ap (λ s. s.cuts) same

@@ -1,53 +1,14 @@
 -- A state stays what it is where places and room are given.
-use Rattle.std.proofs.Common.{◌≡◌, ℕ, ◌-◌, List, [], length, map, ap, sym, ◌∙◌, arith, unwrap_or}
-use Rattle.std.specs.Prelude.{is_some}
+use Rattle.std.proofs.Common.{◌≡◌, ℕ, List, [], ap, ◌∙◌, arith, unwrap_or}
 use Rattle.cube_model.specs.declared.edit.Fact.{Fact}
-use Rattle.cube_model.specs.Allocation.{ExtendedFact, Policy}
-use Rattle.cube_model.specs.Answer.{answer}
+use Rattle.cube_model.specs.Allocation.{Policy}
 use Rattle.cube_model.specs.Tree.{Dimension}
-use Rattle.group_sum.specs.Terms.{TermList}
 use Rattle.staged_map.specs.Staged.{value_at}
 use Rattle.cell_weight.specs.Stats.{stat_at}
 use Rattle.fact_records.specs.Shape.{ShapeValue}
-use Rattle.view_store.specs.Changes.{HaveSameContent, IsSameView}
-use Rattle.view_store.specs.Facts.{IsViewOfFacts}
-use Rattle.view_store.specs.Views.{IsViewOf, ViewMap, ViewMaps, entry_at, is_in_view, no_terms, region_at}
-use Rattle.edit_plan.specs.State.{AreViewsOfFacts, IsState, Kept}
-use Rattle.edit_plan.proofs.AlongViews.{All-along, depths-along}
-
--- the entries of views that have the same content are the same
-entry-same : (old new : ViewMap) → IsSameView old new → (code : ℕ) → entry_at new code ≡ entry_at old code
-entry-same old new same code =
-    ap (λ o. unwrap_or o (no_terms new.columns)) (same.values code) ∙ ap (λ n. unwrap_or (value_at old.entries code) (no_terms n)) same.columns
-
-over-same : (dims : List Dimension) (old new : ViewMap) → IsSameView old new → IsViewOf dims old → IsViewOf dims new
-over-same dims old new same over = record {
-  depths = ap length same.depths ∙ over.depths;
-  regions = λ code some. over.regions code (ap is_some (sym (same.values code)) ∙ some);
-}
-
-of_facts-same : (dims : List Dimension) (facts : List ExtendedFact) (old new : ViewMap) → IsSameView old new → IsViewOfFacts dims facts old → IsViewOfFacts dims facts new
-of_facts-same dims facts old new same is = record {
-  columns = λ code. ap (λ (list : TermList). list.columns) (entry-same old new same code) ∙ is.columns code ∙ sym same.columns;
-  answers = λ code inside.
-      ap (λ (list : TermList). list.terms) (entry-same old new same code)
-      ∙ is.answers code (ap (λ (ds : List ℕ). is_in_view dims ds code) (sym same.depths) ∙ inside)
-      ∙ ap (λ n. answer (n - 1) dims facts (region_at dims code)) (sym same.columns);
-  others = λ code outside.
-      ap (λ (list : TermList). list.terms) (entry-same old new same code) ∙ is.others code (ap (λ (ds : List ℕ). is_in_view dims ds code) (sym same.depths) ∙ outside);
-}
-
--- the cuts stay
-pub cuts-same : (old new : ViewMaps) → HaveSameContent old new → map (λ (view : ViewMap). view.depths) new.views ≡ map (λ (view : ViewMap). view.depths) old.views
-cuts-same old new same = depths-along IsSameView (λ a b one. one.depths) old.views new.views same.views.count same.views.each
-
-AreViewsOfFacts-same : (dims : List Dimension) (cuts : List (List ℕ)) (columns : ℕ) (facts : List ExtendedFact) (old new : ViewMaps) → HaveSameContent old new → AreViewsOfFacts dims cuts columns facts old → AreViewsOfFacts dims cuts columns facts new
-AreViewsOfFacts-same dims cuts columns facts old new same are = record {
-  columns_are = same.columns ∙ are.columns_are;
-  cuts_are = cuts-same old new same ∙ are.cuts_are;
-  over = All-along IsSameView (IsViewOf dims) (IsViewOf dims) (over-same dims) old.views new.views same.views.count same.views.each are.over;
-  answers = All-along IsSameView (IsViewOfFacts dims facts) (IsViewOfFacts dims facts) (of_facts-same dims facts) old.views new.views same.views.count same.views.each are.answers;
-}
+use Rattle.view_store.specs.Changes.{HaveSameContent}
+use Rattle.facts_kept.specs.Kept.{IsState, Kept}
+use Rattle.facts_kept.proofs.SameViews.{AreViewsOfFacts-same}
 
 -- What is kept is the same but for places and room.
 pub record IsSameKept (old new : Kept) : Type 0 where

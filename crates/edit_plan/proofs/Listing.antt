@@ -15,7 +15,8 @@ use Rattle.view_store.specs.Cuts.{cut_regions, entries_of}
 use Rattle.view_store.specs.Facts.{IsViewOfFacts}
 use Rattle.view_store.specs.Views.{IsViewOf, ViewMap, listed}
 use Rattle.view_store.proofs.CutListing.{HasTerms, entries-regions, listed-in_order, terms_over}
-use Rattle.edit_plan.specs.State.{IsState, StateValue, policy_in, rows_in, terms_in, view_at}
+use Rattle.facts_kept.specs.Kept.{IsState}
+use Rattle.edit_plan.specs.State.{StateValue, policy_in, rows_in, terms_in, view_at}
 
 -- what holds of each item holds of the one at a place
 pub All-found : {X : Type 0} (P : X → Type 0) (xs : List X) (i : ℕ) (x : X) → All P xs → slice_get xs i ≡ Some x → P x

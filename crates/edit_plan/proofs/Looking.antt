@@ -3,7 +3,6 @@ use Rattle.std.proofs.Common.{◌≡◌, ℕ, Bool, true, false, Bor, List, [], 
 use Rattle.std.specs.Prelude.{All, Ok, filter, find, ◌==◌, if◌then◌else◌, Option, Some, None}
 use Rattle.std.specs.Option.{option_copied, option_map}
 use Rattle.std.proofs.lemmas.Bool.Decides.{nat_tests}
-use Rattle.std.proofs.lemmas.List.Elements.{All-weaker}
 use Rattle.cube_model.specs.declared.edit.Fact.{Fact}
 use Rattle.cube_model.specs.declared.statistic.CellStat.{CellStat}
 use Rattle.cube_model.specs.Allocation.{Allocation, ExtendedFact, Policy, allocation, allocation_of, extended, weight_of}
@@ -16,8 +15,10 @@ use Rattle.fact_groups.specs.Groups.{Group, column_sums, facts_with, group_at, h
 use Rattle.fact_groups.proofs.Groups.{first-holds, group_at-region}
 use Rattle.fact_groups.proofs.Sharing.{allocation-spread_at}
 use Rattle.fact_records.specs.Shape.{ShapeValue, width_of_all}
-use Rattle.fact_records.specs.Valid.{AreValid, IsValid}
-use Rattle.edit_plan.specs.State.{IsState, StateValue, policy_in, rows_in}
+use Rattle.fact_records.specs.Valid.{AreValid}
+use Rattle.facts_kept.specs.Kept.{IsState}
+use Rattle.facts_kept.proofs.ValidFacts.{valid-regions}
+use Rattle.edit_plan.specs.State.{StateValue, policy_in, rows_in}
 
 module _ (policy : Policy) (dims : List Dimension) (facts : List Fact) where
   abbrev extended_fact : Fact → ExtendedFact
@@ -61,10 +62,6 @@ module _ (policy : Policy) (columns : ℕ) (dims : List Dimension) (facts : List
       ap (option_map (λ (g : Group). g.spread)) (group_at-region policy columns dims facts region trees regions named)
       ∙ ap (λ (b : Bool). option_map (λ (g : Group). g.spread) (if b then None else Some (record { spread = spread_at policy dims facts region; count = length (facts_with dims (code_of dims region) facts); sums = column_sums columns (facts_with dims (code_of dims region) facts) }))) some
       ∙ ap Some (sym (allocation-spread_at policy dims facts fact))
-
--- facts that a cube may have lie in regions of the space
-pub valid-regions : (shape : ShapeValue) (dims : List Dimension) (facts : List Fact) → AreValid shape dims facts → All (λ f. IsRegion dims f.region) facts
-valid-regions shape dims facts valid = All-weaker (IsValid shape dims) (λ f. IsRegion dims f.region) (λ f one. one.accepted.placed.region) facts valid.each
 
 -- the region of a fact that is found is one of the space
 pub found-region : (shape : ShapeValue) (dims : List Dimension) (facts : List Fact) (id : ℕ) (found : Option (Bor Fact)) (fact : Bor Fact) → AreValid shape dims facts

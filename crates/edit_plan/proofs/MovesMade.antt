@@ -15,10 +15,10 @@ use Rattle.fact_records.specs.Valid.{AreValid, IsEditOver}
 use Rattle.edit_plan.specs.declared.moves.Moves.{Moves}
 use Rattle.edit_plan.specs.Moves.{AreMoves}
 use Rattle.edit_plan.specs.State.{StateValue, policy_in}
-use Rattle.edit_plan.specs.Touched.{reweighing, touched}
+use Rattle.touched_cells.specs.Touched.{reweighing, touched}
 use Rattle.edit_plan.proofs.Accepting.{AreValid-after, allowed}
 use Rattle.edit_plan.proofs.Below.{touched-possible}
-use Rattle.edit_plan.proofs.Touching.{IsStat-valid}
+use Rattle.touched_cells.proofs.Touching.{IsStat-valid}
 
 -- the statistics of the cells that it touches are such as facts can have, before it and after
 module _ (weigh : CellStat → ℕ) (shape : ShapeValue) (dims : List Dimension) (edit : Edit) (facts : List Fact) (is_shape : IsShape shape) (valid : AreValid shape dims facts)

@@ -1,15 +1,12 @@
 -- The group of one code, before an edit and after it.
-use Rattle.std.proofs.Common.{◌≡◌, ℕ, zero, suc, ◌+◌, ◌*◌, ◌<◌, ◌≤◌, Bool, true, false, List, [], ◌∷◌, length, map, refl, ap, sym, ◌∙◌, subst, arith, ℤ, pos, ◌+ℤ◌}
-use Rattle.std.specs.Prelude.{All, IfSome, filter, find, nat_abs, nat_lt, slice_get, slice_index_or, ◌==◌, if◌then◌else◌, Option, Some, None}
-use Rattle.std.specs.List.{range_with_len}
+use Rattle.std.proofs.Common.{◌≡◌, ℕ, suc, ◌+◌, ◌*◌, ◌<◌, ◌≤◌, Bool, true, false, List, [], ◌∷◌, length, refl, ap, sym, ◌∙◌, subst, arith, ℤ, pos, ◌+ℤ◌}
+use Rattle.std.specs.Prelude.{All, IfSome, filter, find, nat_abs, slice_get, slice_index_or, ◌==◌, if◌then◌else◌, Option, Some, None}
 use Rattle.std.specs.Option.{option_map, option_map_or}
 use Rattle.std.proofs.lemmas.Bool.Decides.{nat_tests}
 use Rattle.std.proofs.lemmas.Int.{ints}
 use Rattle.std.proofs.lemmas.List.Elements.{All-filter, All-from_get_or, All-head, All-tail, All-weaker}
 use Rattle.std.proofs.lemmas.List.FromFn.{get_or-map-range_with_len, length-map-range_with_len}
 use Rattle.std.proofs.lemmas.List.Sums.{count_by-le-length, length-filter}
-use Rattle.cube_base.specs.declared.code.Code.TheVariants as code
-use Rattle.cube_model.specs.Accepted.{first_that_holds}
 use Rattle.cube_model.specs.declared.edit.Edit.{Edit}
 use Rattle.cube_model.specs.declared.edit.Fact.{Fact}
 use Rattle.cube_model.specs.Allocation.{Policy, allocation}
@@ -24,13 +21,13 @@ use Rattle.fact_groups.specs.Edits.{given, taken}
 use Rattle.fact_groups.specs.Groups.{Group, column_sums, facts_with, group_at, has_code, spread_at}
 use Rattle.fact_groups.proofs.Edits.{count-with, total-with}
 use Rattle.fact_groups.proofs.Groups.{first-holds, first-passes, group_at-region}
-use Rattle.fact_records.specs.Accepted.{region_refusal}
 use Rattle.fact_records.specs.Judge.{fact_refusal}
 use Rattle.fact_records.specs.Shape.{IsShape, ShapeValue, width_of_all}
 use Rattle.fact_records.specs.Valid.{AreValid, IsEditOver, IsFactOf, IsValid}
 use Rattle.edit_plan.specs.GroupAfter.{AreWithin, fact_at, members_of, number_of, sum_after, sum_of, sums_after, value_of}
 use Rattle.edit_plan.proofs.Accepting.{AreValid-after, allowed, given-valid}
-use Rattle.edit_plan.proofs.Looking.{valid-regions}
+use Rattle.facts_kept.proofs.GroupsSoFar.{filter-never, same-columns}
+use Rattle.facts_kept.proofs.ValidFacts.{few-cells, valid-regions}
 use Rattle.edit_plan.proofs.Seeing.{taken-valid}
 use Rattle.fact_records.proofs.SmallValues.{count-accepted, small-accepted}
 
@@ -42,21 +39,6 @@ find-never p (x ∷ xs) none = either (p x) refl none (find-never p xs)
     either : (b : Bool) → p x ≡ b → length (filter p (x ∷ xs)) ≡ 0 → (length (filter p xs) ≡ 0 → find p xs ≡ None) → find p (x ∷ xs) ≡ None
     either true is none rest = let some : suc (length (filter p xs)) ≡ 0 = rw is at none in absurd (omega (arith, some))
     either false is none rest = rw is (rest (rw is at none))
-
--- and where none is found none passes
-pub filter-never : {X : Type 0} (p : X → Bool) (xs : List X) → find p xs ≡ None → filter p xs ≡ []
-filter-never p [] none = refl
-filter-never p (x ∷ xs) none = either (p x) refl none (filter-never p xs)
-  where
-    either : (b : Bool) → p x ≡ b → find p (x ∷ xs) ≡ None → (find p xs ≡ None → filter p xs ≡ []) → filter p (x ∷ xs) ≡ []
-    either true is none rest = let here : Some x ≡ None = rw is at none in cc
-    either false is none rest = rw is (rest (rw is at none))
-
--- equal numbers of each column
-same-columns : (f g : ℕ → ℤ) (a n : ℕ) → ((k : ℕ) → k < a + n → f k ≡ g k) → map f (range_with_len a n) ≡ map g (range_with_len a n)
-same-columns f g a zero same = refl
-same-columns f g a (suc n) same =
-    ap (λ z. z ∷ map f (range_with_len (a + 1) n)) (same a (omega arith)) ∙ ap (λ zs. g a ∷ zs) (same-columns f g (a + 1) n (λ k below. same k (omega (arith, below))))
 
 -- numbers of which each is small add up to a small one
 total-small : {X : Type 0} (f : X → ℤ) (limit : ℕ) (xs : List X) → All (λ x. nat_abs (f x) ≤ limit) xs → nat_abs (total_by f xs) ≤ length xs * limit
@@ -170,14 +152,6 @@ of-fact shape dims facts code found trees valid is some (Some f) first =
     let at : code ≡ code_of dims f.region = grind (arith, nat_tests, passes) in
     let one = first-holds (IsValid shape dims) (has_code dims code) facts f valid.each first in
     record { fact = f; there = is ∙ ap (slice_get (all_regions dims)) at ∙ region-at_code dims f.region trees one.accepted.placed.region; at = at; valid = one }
-
--- no region is larger than may be
-pub few-cells : (dims : List Dimension) (region : List ℕ) → region_refusal dims region ≡ None → length (cells_of dims region) ≤ MAX_CELLS
-few-cells dims region none = either (nat_lt MAX_CELLS (length (cells_of dims region))) refl none
-  where
-    either : (b : Bool) → nat_lt MAX_CELLS (length (cells_of dims region)) ≡ b → first_that_holds ((b, code.Region) ∷ []) ≡ None → length (cells_of dims region) ≤ MAX_CELLS
-    either true is none = cc
-    either false is none = grind (arith, nat_tests, is)
 
 module _ (policy : Policy) (shape : ShapeValue) (dims : List Dimension) (edit : Edit) (facts : List Fact) (move : IsMove shape dims edit facts) (code : ℕ) where
   abbrev columns : ℕ

@@ -19,13 +19,14 @@ use Rattle.fact_records.specs.Shape.{IsShape}
 use Rattle.fact_records.specs.Valid.{AreValid}
 use Rattle.edit_plan.specs.declared.moves.Moves.{Moves}
 use Rattle.edit_plan.specs.Moves.{AreMoves}
-use Rattle.edit_plan.specs.State.{IsState, StateValue, policy_in}
-use Rattle.edit_plan.specs.Touched.{touched}
+use Rattle.facts_kept.specs.Kept.{IsState}
+use Rattle.edit_plan.specs.State.{StateValue, policy_in}
+use Rattle.touched_cells.specs.Touched.{touched}
 use Rattle.edit_plan.proofs.Accepting.{AreValid-after, allowed}
 use Rattle.edit_plan.proofs.Below.{reweighing-below, touched-below}
-use Rattle.edit_plan.proofs.Counting.{AreFewIn-facts}
+use Rattle.facts_kept.proofs.Counting.{AreFewIn-facts}
 use Rattle.edit_plan.proofs.Spreading.{AreChangesAt-touched, holds-reweighing, spread-after, spread-before, spread-same, spread-single, stat_after-touched}
-use Rattle.edit_plan.proofs.Touching.{IsStat-valid}
+use Rattle.touched_cells.proofs.Touching.{IsStat-valid}
 
 module _ {P : Type 0} (weigh : P → CellStat → ℕ) (state seen : StateValue P) (same : seen ≡ state) (kept : IsState (policy_in weigh seen) seen.shape seen.dims seen.cuts seen.facts seen.kept) where
   -- the statistics of a region's cells count few facts

@@ -19,7 +19,8 @@ use Rattle.edit_plan.specs.declared.moves.Moves.{Moves}
 use Rattle.edit_plan.specs.GroupAfter.{rows_of}
 use Rattle.edit_plan.specs.Moves.{AreMoves}
 use Rattle.edit_plan.specs.Regrouped.{HoldChanged, groups_after, is_spread_anew, spread_anew}
-use Rattle.edit_plan.specs.State.{IsState, StateValue, policy_in}
+use Rattle.facts_kept.specs.Kept.{IsState}
+use Rattle.edit_plan.specs.State.{StateValue, policy_in}
 use Rattle.edit_plan.proofs.Drafted.{IsDraft, drafted-all, drafted-few, drafted-rows, rows-before-le, rows-later-few, rows-later-le}
 use Rattle.edit_plan.proofs.GroupSeen.{group-seen, move-seen}
 use Rattle.edit_plan.proofs.OneGroup.{IsMove, group-made, group-none, region-there, spread-there}

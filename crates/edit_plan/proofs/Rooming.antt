@@ -24,13 +24,15 @@ use Rattle.view_store.specs.Facts.{FollowBy}
 use Rattle.edit_plan.specs.declared.moves.Moves.{Moves}
 use Rattle.edit_plan.specs.declared.regrouped.Regrouped.{Regrouped}
 use Rattle.edit_plan.specs.Moves.{AreMoves, indexed_as}
-use Rattle.edit_plan.specs.Plan.{AreSetsFor, SetGroups, SetStats, SetsValue, has_room}
+use Rattle.edit_plan.specs.Plan.{AreSetsFor, SetGroups, SetStats, has_room}
+use Rattle.edit_plan.specs.Sets.{SetsValue}
 use Rattle.edit_plan.specs.Refreshing.{IsRegrouped}
-use Rattle.edit_plan.specs.State.{HaveSameContent, IsState, Kept, StateValue, policy_in, rows_after, rows_in}
+use Rattle.facts_kept.specs.Kept.{IsState, Kept}
+use Rattle.edit_plan.specs.State.{HaveSameContent, StateValue, policy_in, rows_after, rows_in}
 use Rattle.edit_plan.proofs.Accepting.{AreValid-after, allowed}
 use Rattle.edit_plan.proofs.Keeping.{IsSameKept, IsState-same}
 use Rattle.edit_plan.proofs.Staging.{SetGroups-staged, SetIndex-staged, SetStats-staged}
-use Rattle.edit_plan.proofs.Touching.{IsStat-valid}
+use Rattle.touched_cells.proofs.Touching.{IsStat-valid}
 
 -- What is staged for an edit, once there is room for it in what is kept.
 pub record IsStaged (edit_moves : Moves) (regrouped : Regrouped) (changes : List ViewChange) (dims : List Dimension) (facts : List Fact) (new : Kept) (sets : SetsValue) : Type 0 where

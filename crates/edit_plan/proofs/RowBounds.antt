@@ -1,17 +1,14 @@
 -- The rows of the groups of some codes are no more than those of all facts, and these are not many.
 use Rattle.std.proofs.Common.{◌≡◌, ℕ, ◌+◌, ◌*◌, ◌≤◌, Bool, true, false, List, [], ◌∷◌, length, map, refl, ap, sym, ◌∙◌, arith}
-use Rattle.std.specs.Prelude.{All, filter, find, nat_lt, ◌==◌, if◌then◌else◌, Option, Some, None}
+use Rattle.std.specs.Prelude.{All, filter, find, ◌==◌, if◌then◌else◌, Option, Some, None}
 use Rattle.std.specs.List.{list_any, sum_by}
 use Rattle.std.specs.Option.{option_map}
 use Rattle.std.proofs.lemmas.Bool.Decides.{nat_tests}
-use Rattle.std.proofs.lemmas.List.{length-map}
 use Rattle.std.proofs.lemmas.List.Elements.{All-cons, All-head, All-nil, All-tail, All-weaker}
-use Rattle.std.proofs.lemmas.List.Sums.{count_by-le-length, length-filter, sum_by-cons, sum_by-le}
+use Rattle.std.proofs.lemmas.List.Sums.{length-filter, sum_by-cons, sum_by-le}
 use Rattle.cube_model.specs.declared.edit.Fact.{Fact}
-use Rattle.cube_model.specs.Allocation.{Allocation, ExtendedFact, Policy, allocation, extended, row_count, spread, spread_by, spread_evenly, weight_of}
+use Rattle.cube_model.specs.Allocation.{Allocation, ExtendedFact, Policy, allocation, extended, row_count, spread}
 use Rattle.cube_model.specs.Ascending.{ascends_from}
-use Rattle.cube_model.specs.Cells.{cells_of, is_single}
-use Rattle.cube_model.specs.Limits.{MAX_CELLS, MAX_FACTS}
 use Rattle.cube_model.specs.Tree.{Dimension, IsTree}
 use Rattle.region_algebra.specs.Space.{IsRegion, code_of}
 use Rattle.region_algebra.proofs.Tuples.{code_of-same}
@@ -20,10 +17,8 @@ use Rattle.fact_groups.proofs.Ascending.{once_among}
 use Rattle.fact_groups.proofs.Groups.{first-holds, first-passes}
 use Rattle.fact_groups.proofs.Partition.{sum_by-alike, sum_by-either, sum_by-filter}
 use Rattle.fact_groups.proofs.Sharing.{allocation-shared}
-use Rattle.fact_records.specs.Shape.{ShapeValue}
-use Rattle.fact_records.specs.Valid.{AreValid, IsValid}
 use Rattle.edit_plan.specs.GroupAfter.{rows_of}
-use Rattle.edit_plan.proofs.OneGroup.{few-cells, filter-never}
+use Rattle.facts_kept.proofs.GroupsSoFar.{filter-never}
 
 -- a number that stands among ascending ones counts once at most
 once-le : (codes : List ℕ) → ascends_from (λ code. code) 0 codes ≡ true → (n v : ℕ) → sum_by (λ code. if n == code then v else 0) codes ≤ v
@@ -112,30 +107,3 @@ module _ (policy : Policy) (columns : ℕ) (dims : List Dimension) (facts : List
 
   pub rows_at-le : (code : ℕ) → rows_at code ≤ row_count (extended policy dims facts)
   rows_at-le code = omega (arith, rows-le (code ∷ []) (grind (arith, nat_tests)), sum_by-cons rows_at code [])
-
--- what is spread has no more rows than there are cells
-spread-rows : (weight : ℕ → ℕ) (cells : List ℕ) → length (spread weight cells).rows ≤ length cells
-spread-rows weight cells = either (is_single cells) (sum_by weight cells == 0)
-  where
-    even : length (spread_evenly cells).rows ≡ length cells
-    even = length-map {B = ℕ × ℕ} cells (λ cell. (cell, 1))
-
-    weighed : length (spread_by weight cells).rows ≤ length cells
-    weighed =
-        let all : List (ℕ × ℕ) = map (λ cell. (cell, weight cell)) cells in
-        omega (arith, length-filter (λ (row : ℕ × ℕ). nat_lt 0 row.1) all, count_by-le-length (λ (row : ℕ × ℕ). nat_lt 0 row.1) all, length-map {B = ℕ × ℕ} cells (λ cell. (cell, weight cell)))
-
-    either : (single none : Bool) → length (if single then spread_evenly cells else (if none then spread_evenly cells else spread_by weight cells)).rows ≤ length cells
-    either true none = omega (arith, even)
-    either false true = omega (arith, even)
-    either false false = weighed
-
--- so valid facts have few rows
-pub few-rows : (policy : Policy) (shape : ShapeValue) (dims : List Dimension) (facts : List Fact) (trees : All IsTree dims) (regions : All (λ f. IsRegion dims f.region) facts) → AreValid shape dims facts
-    → row_count (extended policy dims facts) ≤ MAX_FACTS * MAX_CELLS
-unfolding allocation
-few-rows policy shape dims facts trees regions valid =
-    let rows : Fact → ℕ = λ f. length (allocation policy dims facts f).rows in
-    let each : All (λ f. rows f ≤ MAX_CELLS) facts =
-    All-weaker (IsValid shape dims) (λ f. rows f ≤ MAX_CELLS) (λ f one. omega (arith, spread-rows (weight_of policy dims facts) (cells_of dims f.region), few-cells dims f.region one.size)) facts valid.each in
-    omega (arith, rows-of_facts policy 0 dims facts trees regions, sum_by-le rows MAX_CELLS facts each, valid.few)

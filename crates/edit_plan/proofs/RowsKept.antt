@@ -41,7 +41,7 @@ abbrev pub rows_by : (ℕ → Option Group) → ℕ × ℕ → Option KeptRows
 rows_by group pair = option_map (record_of pair.0) (option_map (λ g. g.spread) (group pair.1))
 
 -- of facts in order of their ids, the one with the id of each is that one
-find-itself : (facts : List Fact) → AllPairs (λ f g. f.id < g.id) facts → All (λ f. find (λ g. g.id == f.id) facts ≡ Some f) facts
+pub find-itself : (facts : List Fact) → AllPairs (λ f g. f.id < g.id) facts → All (λ f. find (λ g. g.id == f.id) facts ≡ Some f) facts
 find-itself [] up k d within = absurd (omega arith)
 find-itself (fact ∷ facts) up zero d within = let here : (fact.id == fact.id) ≡ true = grind (arith, nat_tests) in rw here refl
 find-itself (fact ∷ facts) up (suc k) d within =
@@ -50,7 +50,7 @@ find-itself (fact ∷ facts) up (suc k) d within =
     rw other (find-itself facts (pairs-rest (λ f g. f.id < g.id) fact facts up) k d (omega (arith, within)))
 
 module _ (policy : Policy) (dims : List Dimension) (facts later : List Fact) (up : AllPairs (λ f g. f.id < g.id) later) where
-  abbrev whole : Fact → ExtendedFact
+  abbrev pub whole : Fact → ExtendedFact
   whole f = record { id = f.id; values = f.cols; allocation = allocation policy dims later f }
 
   abbrev rows_of : ℕ → Option KeptRows
@@ -60,7 +60,7 @@ module _ (policy : Policy) (dims : List Dimension) (facts later : List Fact) (up
   lies_otherwise f = not (lies_as_before policy dims facts later f)
 
   -- an id is among those of some facts where its fact is among them
-  among-some : (p : Fact → Bool) (id : ℕ) (fact : Fact) → find (λ f. f.id == id) later ≡ Some fact → is_among (map (λ f. f.id) (filter p later)) id ≡ p fact
+  pub among-some : (p : Fact → Bool) (id : ℕ) (fact : Fact) → find (λ f. f.id == id) later ≡ Some fact → is_among (map (λ f. f.id) (filter p later)) id ≡ p fact
   among-some p id fact found = among-kept id p later ∙ any-found id p later up ∙ ap (λ o. option_map_or p o false) found
 
   one-kept : (p : Fact → Bool) (some : List Fact) → All (λ f. find (λ g. g.id == f.id) later ≡ Some f) some

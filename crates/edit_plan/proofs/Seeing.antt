@@ -19,10 +19,11 @@ use Rattle.region_index.specs.Indexed.{covers}
 use Rattle.region_index.specs.Over.{codes_over}
 use Rattle.region_index.proofs.HeldCodes.{held_codes-cover}
 use Rattle.edit_plan.specs.Covering.{is_over_one, probes_over}
-use Rattle.edit_plan.specs.State.{IsState, StateValue, policy_in}
-use Rattle.edit_plan.specs.Touched.{Lying, added_at, changes_of, lying_of, number_at, touched}
-use Rattle.edit_plan.proofs.Looking.{valid-regions}
-use Rattle.edit_plan.proofs.Touching.{added-taken, changes-touched, number-taken}
+use Rattle.facts_kept.specs.Kept.{IsState}
+use Rattle.edit_plan.specs.State.{StateValue, policy_in}
+use Rattle.touched_cells.specs.Touched.{Lying, added_at, changes_of, lying_of, number_at, touched}
+use Rattle.facts_kept.proofs.ValidFacts.{valid-regions}
+use Rattle.touched_cells.proofs.Touching.{added-taken, changes-touched, number-taken}
 
 -- the fact that an edit takes is one of the facts
 pub taken-valid : (shape : ShapeValue) (dims : List Dimension) (edit : Edit) (facts : List Fact) (took : Option Fact) → AreValid shape dims facts → took ≡ taken edit facts → IfSome took (IsFactOf shape dims)

@@ -21,7 +21,7 @@ use Rattle.edit_plan.specs.Regrouped.{spread_anew}
 use Rattle.edit_plan.specs.State.{StateValue, policy_in}
 use Rattle.edit_plan.proofs.Accepting.{AreValid-after, allowed}
 use Rattle.edit_plan.proofs.HandedOut.{handed-out}
-use Rattle.edit_plan.proofs.Looking.{valid-regions}
+use Rattle.facts_kept.proofs.ValidFacts.{valid-regions}
 use Rattle.edit_plan.proofs.RefreshedPairs.{codes-sorted, ids-sorted}
 
 module _ {P : Type 0} (weigh : P → CellStat → ℕ) (state seen : StateValue P) (same : seen ≡ state) (valid : AreValid state.shape state.dims state.facts) (moves : Moves)

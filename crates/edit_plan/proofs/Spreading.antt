@@ -19,7 +19,7 @@ use Rattle.fact_groups.specs.Changes.{holds_any, reweighed_cells, touched_cells}
 use Rattle.fact_groups.specs.Groups.{spread_at}
 use Rattle.fact_groups.proofs.Frame.{spread-agree, spread_at-kept, spread_at-single}
 use Rattle.fact_groups.proofs.Statistics.{ascends-touched, length-touched, stat-untouched}
-use Rattle.edit_plan.specs.Touched.{reweighing, reweighs, touched}
+use Rattle.touched_cells.specs.Touched.{reweighing, reweighs, touched}
 
 -- what is looked up among changes that are made of cells
 lookup-made : (f : ℕ → CellStat) (before : ℕ → CellStat) (cells : List ℕ) (cell : ℕ)

@@ -37,7 +37,7 @@ use Rattle.fact_groups.proofs.Statistics.{ascends-touched}
 use Rattle.edit_plan.specs.Moves.{indexed_as}
 use Rattle.edit_plan.specs.Plan.{SetGroups, SetIndex, SetStats}
 use Rattle.edit_plan.specs.Regrouped.{HoldChanged, groups_after, is_edited_at, is_spread_anew, regrouped}
-use Rattle.edit_plan.specs.Touched.{touched}
+use Rattle.touched_cells.specs.Touched.{touched}
 use Rattle.edit_plan.proofs.LeftOut.{groups-left_out}
 use Rattle.edit_plan.proofs.Spreading.{stat_after-touched}
 

@@ -21,7 +21,7 @@ use Rattle.edit_plan.specs.Bound.{covering_pairs, step_bound}
 use Rattle.edit_plan.specs.Covering.{probes_over}
 use Rattle.edit_plan.specs.Moves.{AreMoves}
 use Rattle.edit_plan.specs.State.{StateValue, policy_in}
-use Rattle.edit_plan.specs.Touched.{reweighing, reweighs, touched}
+use Rattle.touched_cells.specs.Touched.{reweighing, reweighs, touched}
 use Rattle.edit_plan.proofs.Below.{reweighing-below}
 
 module _ (policy : Policy) (dims : List Dimension) (edit : Edit) (facts : List Fact) where

@@ -29,18 +29,20 @@ use Rattle.edit_plan.specs.declared.regrouped.Regrouped.{Regrouped}
 use Rattle.edit_plan.specs.Moves.{AreMoves}
 use Rattle.edit_plan.specs.Refreshing.{IsRegrouped}
 use Rattle.edit_plan.specs.Regrouped.{HoldChanged, is_edited_at, is_spread_anew, regrouped}
-use Rattle.edit_plan.specs.State.{IsState, StateValue, policy_in, rows_after, rows_in}
+use Rattle.facts_kept.specs.Kept.{IsState}
+use Rattle.edit_plan.specs.State.{StateValue, policy_in, rows_after, rows_in}
 use Rattle.edit_plan.specs.ViewChanges.{changes_at, changes_by}
-use Rattle.edit_plan.proofs.ChangedEntries.{IsPlaced, StandFor, fits-views}
-use Rattle.edit_plan.proofs.ChangeGroups.{changes_with, each-with, given-groups, given-with, taken-groups, taken-with}
+use Rattle.facts_kept.proofs.ChangedEntries.{IsPlaced, StandFor, fits-views}
+use Rattle.facts_kept.proofs.ChangeGroups.{given-groups, taken-groups}
+use Rattle.edit_plan.proofs.CodeChanges.{changes_with, each-with, given-with, taken-with}
 use Rattle.edit_plan.proofs.GroupSeen.{move-seen}
-use Rattle.edit_plan.proofs.HeldGroups.{group-rows}
+use Rattle.facts_kept.proofs.HeldGroups.{group-rows}
 use Rattle.edit_plan.proofs.LeftOut.{groups-left_out}
-use Rattle.edit_plan.proofs.Looking.{valid-regions}
-use Rattle.edit_plan.proofs.Modest.{members}
+use Rattle.facts_kept.proofs.ValidFacts.{valid-regions}
+use Rattle.facts_kept.proofs.Modest.{members}
 use Rattle.edit_plan.proofs.OneGroup.{IsMove, valid-later}
-use Rattle.edit_plan.proofs.SmallGroups.{group-modest, groups-modest, short-facts}
-use Rattle.edit_plan.proofs.SplitGroups.{counts-split, members-split, others-same, others_of, sums-split}
+use Rattle.facts_kept.proofs.SmallGroups.{group-modest, groups-modest, short-facts}
+use Rattle.facts_kept.proofs.SplitGroups.{counts-split, members-split, others-same, others_of, sums-split}
 
 module _ (weigh : CellStat → ℕ) (bound : (s : CellStat) → IsStat s → weigh s ≤ 1 + s.count * MAX_VALUE) (shape : ShapeValue) (dims : List Dimension) (edit : Edit) (facts : List Fact)
     (is : IsShape shape) (move : IsMove shape dims edit facts) (codes : List ℕ) (hold : HoldChanged (policy_over weigh shape) (width_of_all shape.measures) dims edit facts codes) where

@@ -6,6 +6,7 @@ pub mod Moves
 pub mod Plan
 pub mod Refreshing
 pub mod Regrouped
+pub mod Sets
 pub mod State
-pub mod Touched
 pub mod ViewChanges
+pub mod Whole

@@ -12,7 +12,7 @@ use Rattle.fact_records.specs.Shape.{ShapeValue}
 use Rattle.fact_records.specs.Valid.{IsEditOver}
 use Rattle.region_index.specs.Changes.{Pair}
 use Rattle.edit_plan.specs.declared.moves.Moves.{Moves}
-use Rattle.edit_plan.specs.Touched.{reweighing, touched}
+use Rattle.touched_cells.specs.Touched.{reweighing, touched}
 
 -- An edit that is refused by no code that is judged before the rows, with the facts that it takes and gives, the changes of the
 -- cells that it touches, and those of them that make a cell weigh otherwise.

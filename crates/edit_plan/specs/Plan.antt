@@ -1,6 +1,6 @@
 -- What a plan is, when it may be installed, and why there is none.
-use Rattle.std.specs.Prelude.{◌≡◌, ◌≢◌, ℕ, Bool, true, List, All, filter, map, nat_lt, ◌||◌, Some, None, unwrap_or}
-use Rattle.std.specs.Option.{option_to_list}
+use Rattle.std.specs.Prelude.{◌≡◌, ◌≢◌, ℕ, Bool, true, List, All, filter, map, nat_lt, ◌||◌, Option, Some, None, unwrap_or}
+use Rattle.std.specs.Option.{option_and_then, option_to_list}
 use Rattle.cube_base.specs.declared.code.Code.TheVariants as code
 use Rattle.cube_model.specs.declared.edit.Edit.{Edit}
 use Rattle.cube_model.specs.declared.edit.Edit.TheVariants.{Put, Change, Withdraw}
@@ -31,7 +31,13 @@ use Rattle.view_store.specs.Changes.{HaveRoomFor}
 use Rattle.view_store.specs.Changes.{given as given_by, taken as taken_by, IsStagedFor as AreStagedFor}
 use Rattle.view_store.specs.Facts.{FollowBy}
 use Rattle.view_store.specs.Views.{ViewMaps}
+use Rattle.facts_kept.specs.declared.kept.FactsKept.{FactsKept}
+use Rattle.facts_kept.specs.Anew.{kept_of}
+use Rattle.facts_kept.specs.Kept.{IsState}
+use Rattle.edit_plan.specs.Sets.{SetsValue}
 use Rattle.edit_plan.specs.State.{StateValue, judge_in, policy_in, rows_after, rows_in, withdrawn}
+use Rattle.edit_plan.specs.declared.plan_change.PlanChange.{PlanChange}
+use Rattle.edit_plan.specs.declared.plan_change.PlanChange.TheVariants as plan_change
 use Rattle.edit_plan.specs.declared.fault.PlanFault.{PlanFault}
 use Rattle.edit_plan.specs.declared.fault.PlanFault.TheVariants as plan_fault
 
@@ -52,20 +58,25 @@ difference policy dims edit facts = record {
   rows = map kept_rows (filter (λ e. is_among (refreshed policy dims facts (after edit facts)) e.id) (extended policy dims (after edit facts)));
 }
 
--- what a plan will set of what is kept beside the facts
-pub record SetsValue : Type 0 where
-  pub stats : List (ℕ × CellStat)
-  pub index : Staging
-  pub groups : Entries Group
-  pub views : List (Entries TermList)
-
--- a plan: its edit, the ids that it refreshes, its batch, what it will set, and the number of rows then
+-- a plan: what it does, the ids that it refreshes, and its batch
 pub record PlanValue : Type 0 where
-  pub edit : Edit
+  pub change : PlanChange
   pub refreshed : List ℕ
   pub batch : Batch
-  pub sets : SetsValue
-  pub rows : ℕ
+
+-- the edit that a plan does, if it does one
+abbrev pub edit_in : PlanChange → Option Edit
+edit_in (plan_change.Edit edit sets rows) = Some edit
+edit_in (plan_change.All all) = None
+
+-- the id that it withdraws, if it withdraws one
+abbrev pub withdrawn_in : PlanChange → Option ℕ
+withdrawn_in change = option_and_then withdrawn (edit_in change)
+
+-- the facts that it leaves
+abbrev pub facts_after : PlanChange → List Fact → List Fact
+facts_after (plan_change.Edit edit sets rows) facts = after edit facts
+facts_after (plan_change.All all) facts = all.facts.facts
 
 -- With these statistics set, those kept are the ones of the facts; and there is a place for each.
 pub record SetStats (policy : Policy) (dims : List Dimension) (facts : List Fact) (places : Places CellStat) (changes : List (ℕ × CellStat)) : Type 0 where
@@ -106,13 +117,26 @@ pub record AreSetsFor {P : Type 0} (weigh : P → CellStat → ℕ) (state : Sta
   pub groups : SetGroups (policy_in weigh state) (width_of_all state.shape.measures) state.dims (after edit state.facts) state.kept.groups sets.groups
   pub views : SetViews state.dims (rows_in weigh state) (rows_after weigh state edit) state.kept.views sets.views
 
--- A plan fits a state: its edit is one of the space and is accepted; what it sets is what the edit makes of the state; and there is
--- room for that.
-pub record IsPlanFor {P : Type 0} (weigh : P → CellStat → ℕ) (state : StateValue P) (plan : PlanValue) : Type 0 where
-  pub over : IsEditOver state.dims plan.edit
-  pub accepted : judge_in weigh state plan.edit ≡ None
-  pub sets : AreSetsFor weigh state plan.edit plan.sets
-  pub rows : plan.rows ≡ row_count (rows_after weigh state plan.edit)
+-- A plan of an edit fits a state: the edit is one of the space and is accepted; what it sets is what the edit makes of the state;
+-- and there is room for that.
+pub record IsEditFor {P : Type 0} (weigh : P → CellStat → ℕ) (state : StateValue P) (edit : Edit) (set : SetsValue) (count : ℕ) : Type 0 where
+  pub over : IsEditOver state.dims edit
+  pub accepted : judge_in weigh state edit ≡ None
+  pub sets : AreSetsFor weigh state edit set
+  pub rows : count ≡ row_count (rows_after weigh state edit)
+
+-- All facts at once fit a state: what is kept of them is what they make it.
+abbrev pub AreAllFor : {P : Type 0} → (P → CellStat → ℕ) → StateValue P → FactsKept → Type 0
+AreAllFor weigh state all = IsState (policy_in weigh state) state.shape state.dims state.cuts all.facts.facts (kept_of all)
+
+-- what a plan does fits a state
+abbrev pub IsChangeFor : {P : Type 0} → (P → CellStat → ℕ) → StateValue P → PlanChange → Type 0
+IsChangeFor weigh state (plan_change.Edit edit sets rows) = IsEditFor weigh state edit sets rows
+IsChangeFor weigh state (plan_change.All all) = AreAllFor weigh state all
+
+-- and so does a plan
+abbrev pub IsPlanFor : {P : Type 0} → (P → CellStat → ℕ) → StateValue P → PlanValue → Type 0
+IsPlanFor weigh state plan = IsChangeFor weigh state plan.change
 
 -- Why an edit is not planned. Where it is refused for the number of rows, that number is told, else the code. Want of memory is said only where the fact is not refused.
 abbrev pub IsFaultOf : {P : Type 0} → (P → CellStat → ℕ) → StateValue P → Edit → PlanFault → Type 0

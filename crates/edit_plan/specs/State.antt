@@ -1,38 +1,21 @@
 -- What a state is and keeps. What its policy makes cells weigh is an argument of each: its trait says it.
-use Rattle.std.specs.Prelude.{◌≡◌, ℕ, ◌+◌, ◌≤◌, List, [], All, map, Option, Some, None, slice_get}
+use Rattle.std.specs.Prelude.{◌≡◌, ℕ, ◌+◌, List, [], Option, Some, None, slice_get}
 use Rattle.std.specs.Option.{option_map_or}
 use Rattle.cube_base.specs.declared.code.Code.{Code}
 use Rattle.cube_model.specs.declared.edit.Edit.{Edit}
 use Rattle.cube_model.specs.declared.edit.Edit.TheVariants.{Put, Change, Withdraw}
 use Rattle.cube_model.specs.declared.edit.Fact.{Fact}
 use Rattle.cube_model.specs.declared.statistic.CellStat.{CellStat}
-use Rattle.cube_model.specs.Allocation.{ExtendedFact, Policy, extended, row_count, stat_of}
+use Rattle.cube_model.specs.Allocation.{ExtendedFact, Policy, extended}
 use Rattle.cube_model.specs.Answer.{answer}
 use Rattle.cube_model.specs.Difference.{refreshed}
 use Rattle.cube_model.specs.Facts.{after}
-use Rattle.cube_model.specs.Limits.{MAX_ROWS}
 use Rattle.cube_model.specs.Tree.{Dimension}
-use Rattle.staged_map.specs.Staged.{Places, value_at}
-use Rattle.cell_weight.specs.Stats.{stat_at}
+use Rattle.facts_kept.specs.Kept.{Kept}
 use Rattle.fact_records.specs.Judge.{judge}
 use Rattle.fact_records.specs.Shape.{ShapeValue, policy_over, width_of_all}
-use Rattle.fact_records.specs.Valid.{AreValid}
-use Rattle.region_index.specs.Indexed.{Indexes}
-use Rattle.fact_groups.specs.Groups.{Group, group_at}
 use Rattle.group_sum.specs.Terms.{TermList}
 use Rattle.view_store.specs.Cuts.{cut_regions, entries_of}
-use Rattle.view_store.specs.Facts.{IsViewOfFacts}
-use Rattle.view_store.specs.Views.{AreViewsOf, ViewMaps}
-
--- What is kept beside the facts, so that an edit looks at few of them: how many more facts there is room for, the statistics
--- of cells, the ids of imprecise facts and the groups of facts by the code of their region, the views, and the number of rows.
-pub record Kept : Type 0 where
-  pub spare : ℕ
-  pub stats : Places CellStat
-  pub index : Places (List ℕ)
-  pub groups : Places Group
-  pub views : ViewMaps
-  pub rows : ℕ
 
 -- a policy, the dimensions of a space, measures, for each view the depths of its cuts, and facts, with what is kept of the facts
 pub record StateValue (P : Type 0) : Type 0 where
@@ -47,26 +30,6 @@ pub record StateValue (P : Type 0) : Type 0 where
 abbrev pub policy_in : {P : Type 0} → (P → CellStat → ℕ) → StateValue P → Policy
 policy_in weigh state = policy_over (weigh state.policy) state.shape
 
--- The views of these cuts, over columns of which one is the count: each has an entry for each region in the product of its cuts
--- where the facts have terms, with these, and no others.
-pub record AreViewsOfFacts (dims : List Dimension) (cuts : List (List ℕ)) (columns : ℕ) (facts : List ExtendedFact) (maps : ViewMaps) : Type 0 where
-  pub columns_are : maps.columns ≡ columns
-  pub cuts_are : map (λ view. view.depths) maps.views ≡ cuts
-  pub over : AreViewsOf dims maps
-  pub answers : All (IsViewOfFacts dims facts) maps.views
-
--- What a state keeps is what its facts make it: the facts are such as a cube may have; the statistics are those of the precise
--- facts, the index has the imprecise ones, there is a group for each region that a fact has, and the views are those of the facts;
--- and there are not too many rows.
-pub record IsState (policy : Policy) (shape : ShapeValue) (dims : List Dimension) (cuts : List (List ℕ)) (facts : List Fact) (kept : Kept) : Type 0 where
-  pub valid : AreValid shape dims facts
-  pub stats : (cell : ℕ) → stat_at kept.stats cell ≡ stat_of policy dims facts cell
-  pub index : Indexes dims facts kept.index
-  pub groups : (code : ℕ) → value_at kept.groups code ≡ group_at policy (width_of_all shape.measures) dims facts code
-  pub views : AreViewsOfFacts dims cuts (width_of_all shape.measures + 1) (extended policy dims facts) kept.views
-  pub rows : kept.rows ≡ row_count (extended policy dims facts)
-  pub few_rows : kept.rows ≤ MAX_ROWS
-
 -- two states of one content: they differ at most in what is kept
 pub record HaveSameContent {P : Type 0} (old new : StateValue P) : Type 0 where
   pub policy : new.policy ≡ old.policy
@@ -75,13 +38,13 @@ pub record HaveSameContent {P : Type 0} (old new : StateValue P) : Type 0 where
   pub cuts : new.cuts ≡ old.cuts
   pub facts : new.facts ≡ old.facts
 
--- the second is the first after an edit
-pub record IsAfter {P : Type 0} (edit : Edit) (old new : StateValue P) : Type 0 where
+-- the second is the first with these facts
+pub record HasFacts {P : Type 0} (later : List Fact) (old new : StateValue P) : Type 0 where
   pub policy : new.policy ≡ old.policy
   pub dims : new.dims ≡ old.dims
   pub shape : new.shape ≡ old.shape
   pub cuts : new.cuts ≡ old.cuts
-  pub facts : new.facts ≡ after edit old.facts
+  pub facts : new.facts ≡ later
 
 -- the rows of a state's facts, and those of its facts after an edit
 abbrev pub rows_in : {P : Type 0} → (P → CellStat → ℕ) → StateValue P → List ExtendedFact

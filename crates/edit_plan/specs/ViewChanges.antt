@@ -1,14 +1,11 @@
 -- What the groups that an edit changes change in views.
-use Rattle.std.specs.Prelude.{ℕ, Bool, true, false, List, map, ◌++◌, Option}
+use Rattle.std.specs.Prelude.{ℕ, true, false, List, map, ◌++◌, Option}
 use Rattle.std.specs.List.{flat_map}
 use Rattle.std.specs.Option.{option_to_list}
 use Rattle.fact_groups.specs.Groups.{Group}
+use Rattle.facts_kept.specs.ViewChanges.{change_of}
 use Rattle.staged_map.specs.Staged.{Entries}
 use Rattle.view_store.specs.declared.change.ViewChange.{ViewChange}
-
--- a group is put or taken away
-abbrev pub change_of : Bool → Group → ViewChange
-change_of put g = record { put = put; facts = g.count; den = g.spread.den; rows = g.spread.rows; cols = g.sums }
 
 -- the group before is taken away, where there is one, and the group after is put, where there is one
 abbrev pub changes_at : Option Group → Option Group → List ViewChange

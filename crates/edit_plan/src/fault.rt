@@ -1,8 +1,10 @@
-//! Why an edit is not planned.
+//! Why an edit is not planned, and why new facts are not.
 ghost use Rattle.std.specs.Prelude.{◌≡◌};
+ghost use Rattle.edit_plan.specs.declared.fault.PlanAllFault.TheVariants as plan_all_fault;
 ghost use Rattle.edit_plan.specs.declared.fault.PlanFault.TheVariants as plan_fault;
 
 use cube_base::{Code, Memory};
+use facts_kept::TooMany;
 use std::alloc::{AllocError, AllocFailed};
 
 /// Why there is no plan of an edit. The state's content is as it was.
@@ -21,5 +23,35 @@ impl From<Memory> for PlanFault {
 
     fn from(_: Memory) -> Self {
         PlanFault::Memory
+    }
+}
+
+/// Why there is no plan of new facts. The state is as it was.
+#[derive(Clone, Copy, Debug, PartialEq, Eq)]
+pub enum PlanAllFault {
+    /// All facts would have more than 2^21 rows: so many.
+    Rows { would: u64 },
+    /// Want of memory.
+    Memory,
+}
+
+impl From<Memory> for PlanAllFault {
+    ghost from_gives = { λ _ fault. fault ≡ plan_all_fault.Memory };
+
+    fn from(_: Memory) -> Self {
+        PlanAllFault::Memory
+    }
+}
+
+impl From<TooMany> for PlanAllFault {
+    ghost use Rattle.edit_plan.specs.Whole.{fault_of_kept};
+
+    ghost from_gives = { λ many fault. fault ≡ fault_of_kept many };
+
+    fn from(many: TooMany) -> Self {
+        match many {
+            TooMany::Rows { would } => PlanAllFault::Rows { would },
+            TooMany::Memory => PlanAllFault::Memory,
+        }
     }
 }

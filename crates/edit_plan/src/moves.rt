@@ -1,7 +1,7 @@
 //! What an edit moves.
-use crate::touched::Change;
 use cube_base::PlainList;
 use cube_model::{Edit, Fact};
+use touched_cells::Change;
 
 /// An edit, the facts that it takes and gives, the changes of the cells that it touches, and those of them that make a cell
 /// weigh otherwise.

@@ -12,17 +12,17 @@ ghost use Rattle.edit_plan.specs.Covering.{is_over_one, probes_over};
 ghost use Rattle.edit_plan.specs.Moves.{AreMoves};
 ghost use Rattle.edit_plan.specs.Regrouped.{HoldChanged};
 ghost use Rattle.edit_plan.specs.State.{policy_in};
-ghost use Rattle.edit_plan.specs.Touched.{touched};
+ghost use Rattle.touched_cells.specs.Touched.{touched};
 
 use crate::State;
 use crate::edited::{given, taken};
 use crate::moves::Moves;
-use crate::touched::{Change, changes, lying, reweighing};
 use cell_weight::WeightPolicy;
 use cube_base::{Ids, Memory, PlainList};
 use cube_model::{Edit, Fact};
 use region_index::Steps;
 use std::sync::ledger::Ledger;
+use touched_cells::{Change, changes, lying, reweighing};
 
 impl<P: WeightPolicy + Drop> State<P> {
     /// What an edit moves. No code that is judged before the rows refuses it.

@@ -1,5 +1,5 @@
 //! An edit, planned.
-ghost use Rattle.std.specs.Prelude.{◌≡◌, ◌+◌, ◌≤◌, true, All, None, IfErr, IfOk, OnOk, map};
+ghost use Rattle.std.specs.Prelude.{◌≡◌, ◌+◌, ◌≤◌, true, All, None, Some, IfErr, IfOk, OnOk, map};
 ghost use Rattle.cube_model.specs.Allocation.{row_count};
 ghost use Rattle.cube_model.specs.Ascending.{ascends_from};
 ghost use Rattle.cube_model.specs.Tree.{IsTree};
@@ -8,11 +8,12 @@ ghost use Rattle.fact_records.specs.Valid.{AreValid, IsEditOver};
 ghost use Rattle.edit_plan.specs.Bound.{covering_pairs, step_bound};
 ghost use Rattle.edit_plan.specs.Covering.{probes_over};
 ghost use Rattle.edit_plan.specs.Moves.{AreMoves};
-ghost use Rattle.edit_plan.specs.Plan.{AreSetsFor, IsFaultOf, IsPlanFor, difference};
+ghost use Rattle.edit_plan.specs.Plan.{AreSetsFor, IsFaultOf, IsPlanFor, difference, edit_in};
 ghost use Rattle.edit_plan.specs.Refreshing.{IsRegrouped};
 ghost use Rattle.edit_plan.specs.State.{HaveSameContent, judge_in, policy_in, refreshed_in, rows_after};
 
 use crate::moves::Moves;
+use crate::plan_change::PlanChange;
 use crate::regrouped::Regrouped;
 use crate::sets::Sets;
 use crate::{Plan, PlanFault, State};
@@ -43,7 +44,7 @@ pub fn plan<P: WeightPolicy + Drop, L: Ledger>(
 ) -> Result<Plan, PlanFault>
     requires { IsEditOver state.old.dims edit.now }
     ensures same { HaveSameContent state.old state.new }
-    ensures edit { IfOk result (λ plan. plan.edit ≡ edit.now) }
+    ensures edit { IfOk result (λ plan. edit_in plan.change ≡ Some edit.now) }
     ensures fits { IfOk result (IsPlanFor P.weigh state.new) }
     ensures refreshed { IfOk result (λ plan. plan.refreshed ≡ refreshed_in P.weigh state.old edit.now) }
     ensures ascending { IfOk result (λ plan. ascends_from (λ id. id) 1 plan.refreshed ≡ true) }
@@ -67,12 +68,13 @@ fn plan_of<P: WeightPolicy + Drop, L: Ledger>(
 ) -> Result<Plan, Memory>
     requires moves { AreMoves (policy_in P.weigh state.old) state.old.shape state.old.dims state.old.facts moves.now }
     requires regrouped { IsRegrouped (policy_in P.weigh state.old) (width_of_all state.old.shape.measures) state.old.dims moves.now.edit state.old.facts regrouped }
+    requires accepted { judge_in P.weigh state.old moves.now.edit ≡ None }
+    requires rows { regrouped.rows ≡ row_count (rows_after P.weigh state.old moves.now.edit) }
     ensures same { HaveSameContent state.old state.new }
-    ensures edit { IfOk result (λ plan. plan.edit ≡ moves.now.edit) }
+    ensures edit { IfOk result (λ plan. edit_in plan.change ≡ Some moves.now.edit) }
+    ensures fits { IfOk result (IsPlanFor P.weigh state.new) }
     ensures refreshed { IfOk result (λ plan. plan.refreshed ≡ refreshed_in P.weigh state.old moves.now.edit) }
     ensures batch { IfOk result (λ plan. plan.batch ≡ difference (policy_in P.weigh state.old) state.old.dims moves.now.edit state.old.facts) }
-    ensures sets { IfOk result (λ plan. AreSetsFor P.weigh state.new moves.now.edit plan.sets) }
-    ensures rows { IfOk result (λ plan. plan.rows ≡ regrouped.rows) }
     ensures steps { steps.new ≤ steps.old + covering_pairs (policy_in P.weigh state.old) state.old.dims moves.now.edit state.old.facts }
 {
     let rows = regrouped.rows;
@@ -80,11 +82,13 @@ fn plan_of<P: WeightPolicy + Drop, L: Ledger>(
     let sets = state.stage_all(moves, regrouped)?;
     Ok(Plan {
         alloc,
-        edit: moves.edit,
+        change: PlanChange::Edit {
+            edit: moves.edit,
+            sets,
+            rows,
+        },
         refreshed,
         batch,
-        sets,
-        rows,
     })
 }
 

@@ -1,21 +1,22 @@
-//! A plan of an edit.
-use crate::sets::Sets;
+//! A plan.
+ghost use Rattle.std.specs.Prelude.{◌≡◌};
+ghost use Rattle.edit_plan.specs.State.{withdrawn};
+
+use crate::plan_change::PlanChange;
 use cube_base::Ids;
 use cube_model::Edit;
 use fact_keeper::Batch;
 use std::alloc::Global;
 use std::marker::Model;
 
-/// An edit that was judged and prepared: which ids it refreshes, what it changes in a store, and what it will set in the state. It
-/// is installed by `State::install`.
+/// An edit that was judged and prepared, or all facts at once: which ids it refreshes, what it changes in a store, and what it will
+/// set in the state. It is installed by `State::install`.
 #[derive(Drop)]
 pub struct Plan {
     pub(crate) alloc: Global,
-    pub(crate) edit: Edit,
+    pub(crate) change: PlanChange,
     pub(crate) refreshed: Ids,
     pub(crate) batch: Batch,
-    pub(crate) sets: Sets,
-    pub(crate) rows: u64,
 }
 
 impl Model for Plan {
@@ -24,17 +25,15 @@ impl Model for Plan {
     ghost Value = { PlanValue };
 
     ghost view = { λ p. record {
-      edit = p.edit;
+      change = p.change;
       refreshed = p.refreshed;
       batch = p.batch;
-      sets = p.sets;
-      rows = p.rows;
     } };
 }
 
 impl Plan {
     ghost use Rattle.std.specs.Prelude.{◌≡◌, []};
-    ghost use Rattle.edit_plan.specs.State.{withdrawn};
+    ghost use Rattle.edit_plan.specs.Plan.{withdrawn_in};
 
     /// The ids of the facts that are new or lie otherwise than before, ascending. It takes no memory.
     pub fn refreshed(&self) -> &Ids
@@ -52,20 +51,30 @@ impl Plan {
         std::mem::replace(&mut self.refreshed, none)
     }
 
-    /// The id that the edit withdraws, if it withdraws one. It takes no memory.
+    /// The id that the plan withdraws, if it is of an edit that withdraws one. It takes no memory.
     pub fn removed(&self) -> Option<u64>
-        ensures { result ≡ withdrawn self.now.edit }
+        ensures { result ≡ withdrawn_in self.now.change }
     {
-        match self.edit {
-            Edit::Put(_) | Edit::Change(_) => None,
-            Edit::Withdraw(id) => Some(id),
+        match &self.change {
+            PlanChange::Edit { edit, .. } => withdrawn(edit),
+            PlanChange::All { .. } => None,
         }
     }
 
-    /// What the edit changes in a store. It takes no memory.
+    /// What the plan changes in a store. It takes no memory.
     pub fn batch(&self) -> &Batch
         ensures { result.now ≡ self.now.batch }
     {
         &self.batch
+    }
+}
+
+/// The id that an edit withdraws, if it withdraws one.
+fn withdrawn(edit: &Edit) -> Option<u64>
+    ensures { result ≡ withdrawn edit.now }
+{
+    match edit {
+        Edit::Put(_) | Edit::Change(_) => None,
+        Edit::Withdraw(id) => Some(*id),
     }
 }

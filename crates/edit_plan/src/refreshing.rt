@@ -100,7 +100,7 @@ impl<P: WeightPolicy + Drop> State<P> {
     }
 
     /// How the facts of a code are spread, None where there is none.
-    fn spread_at(&self, code: u64) -> Option<&Alloc>
+    pub(crate) fn spread_at(&self, code: u64) -> Option<&Alloc>
         ensures { option_copied result ≡ option_map (λ g. g.spread) (group_at (policy_in P.weigh self.now) (width_of_all self.now.shape.measures) self.now.dims self.now.facts code) }
     {
         let group = self.groups.get(code)?;
@@ -141,7 +141,7 @@ fn by_id(mut pairs: Vec<(u64, u64)>) -> Vec<(u64, u64)>
 }
 
 /// Whether both are there and the same.
-fn is_same_spread(before: Option<&Alloc>, now: Option<&Alloc>) -> bool
+pub(crate) fn is_same_spread(before: Option<&Alloc>, now: Option<&Alloc>) -> bool
     ensures { result ≡ is_same_spread (option_copied before.entry) (option_copied now.entry) }
 {
     match (before, now) {

@@ -12,7 +12,6 @@ ghost use Rattle.edit_plan.specs.Moves.{AreMoves};
 ghost use Rattle.edit_plan.specs.State.{policy_in};
 
 use crate::moves::Moves;
-use crate::touched::Change;
 use crate::{Group, State};
 use alloc_rows::{Alloc, allocate_at, step};
 use cell_weight::WeightPolicy;
@@ -20,6 +19,7 @@ use cube_base::Memory;
 use cube_model::Region;
 use region_algebra::Space;
 use std::alloc::Global;
+use touched_cells::Change;
 
 impl<P: WeightPolicy + Drop> State<P> {
     /// How a region is spread after an edit. Where it has a group, that is spread as the region is before it.

@@ -18,7 +18,6 @@ ghost use Rattle.edit_plan.specs.State.{HaveSameContent, policy_in, rows_after, 
 use crate::moves::Moves;
 use crate::regrouped::Regrouped;
 use crate::sets::Sets;
-use crate::touched::Change;
 use crate::{Group, State};
 use cell_weight::{CellStat, StatIndex, WeightPolicy};
 use cube_base::{Memory, PlainList};
@@ -28,6 +27,7 @@ use region_algebra::Space;
 use region_index::{RegionIndex, RegionStage};
 use staged_map::Staged;
 use std::alloc::{AllocError, Global};
+use touched_cells::Change;
 use view_store::{ViewChange, ViewStage};
 
 /// What is staged beside the groups.

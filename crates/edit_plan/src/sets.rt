@@ -8,7 +8,7 @@ use view_store::ViewStage;
 
 /// What a plan will set of what a state keeps beside its facts, for which there is room there.
 #[derive(Drop)]
-pub(crate) struct Sets {
+pub struct Sets {
     pub(crate) stats: PlainList<(u64, CellStat)>,
     pub(crate) index: RegionStage,
     pub(crate) groups: PlainList<(u64, Option<Group>)>,
@@ -16,7 +16,7 @@ pub(crate) struct Sets {
 }
 
 impl Model for Sets {
-    ghost use Rattle.edit_plan.specs.Plan.{SetsValue};
+    ghost use Rattle.edit_plan.specs.Sets.{SetsValue};
 
     ghost Value = { SetsValue };
 

@@ -6,9 +6,10 @@ ghost use Rattle.cube_model.specs.Cells.{AreRows};
 ghost use Rattle.cube_model.specs.Facts.{after};
 ghost use Rattle.cube_model.specs.Limits.{MAX_ROWS};
 ghost use Rattle.fact_records.specs.Valid.{AreValid};
-ghost use Rattle.edit_plan.specs.Plan.{IsPlanFor, has_room};
-ghost use Rattle.edit_plan.specs.State.{IsAfter, rows_in};
+ghost use Rattle.edit_plan.specs.Plan.{AreAllFor, IsEditFor, IsPlanFor, facts_after, has_room};
+ghost use Rattle.edit_plan.specs.State.{HasFacts, rows_in};
 
+use crate::plan_change::PlanChange;
 use crate::sets::Sets;
 use crate::{Group, Plan};
 use alloc_rows::Alloc;
@@ -16,6 +17,7 @@ use cell_weight::{StatIndex, WeightPolicy};
 use cube_base::Memory;
 use cube_model::Edit;
 use fact_records::{FactList, Shape};
+use facts_kept::FactsKept;
 use region_algebra::{Space, ViewDef};
 use region_index::{RegionIndex, Steps};
 use staged_map::Staged;
@@ -49,7 +51,8 @@ pub struct State<P: WeightPolicy + Drop> {
 
 impl<P: WeightPolicy + Drop> Model for State<P> {
     ghost use Rattle.std.specs.Prelude.{map};
-    ghost use Rattle.edit_plan.specs.State.{StateValue, IsState};
+    ghost use Rattle.facts_kept.specs.Kept.{IsState};
+    ghost use Rattle.edit_plan.specs.State.{StateValue};
     ghost use Rattle.fact_records.specs.Shape.{policy_over};
 
     ghost Value = { StateValue P };
@@ -144,19 +147,29 @@ impl<P: WeightPolicy + Drop> State<P> {
         Some(&group.spread)
     }
 
-    /// Does the edit of a plan. It takes no memory. The plan fits the state as it stands, as `plan` promises of the state that it leaves.
+    /// Does what a plan does. It takes no memory. The plan fits the state as it stands, as `plan` promises of the state that it
+    /// leaves, and `plan_all` of the state that it looks at.
     pub fn install(&mut self, plan: Plan)
         requires { IsPlanFor P.weigh self.old plan }
-        ensures { IsAfter plan.edit self.old self.new }
+        ensures { HasFacts (facts_after plan.change self.old.facts) self.old self.new }
     {
         let Plan {
-            edit,
             alloc: _,
+            change,
             refreshed: _,
             batch: _,
-            sets,
-            rows,
         } = plan;
+        match change {
+            PlanChange::Edit { edit, sets, rows } => self.set(edit, sets, rows),
+            PlanChange::All { all } => self.replace(all),
+        }
+    }
+
+    /// Does an edit, for which this is to be set. It takes no memory.
+    fn set(&mut self, edit: Edit, sets: Sets, rows: u64)
+        requires { IsEditFor P.weigh self.old edit sets rows }
+        ensures { HasFacts (after edit self.old.facts) self.old self.new }
+    {
         let Sets {
             stats,
             index,
@@ -169,6 +182,55 @@ impl<P: WeightPolicy + Drop> State<P> {
         self.groups.put_all(groups.into_vec());
         self.views.install(views);
         self.rows = rows;
+    }
+
+    /// Puts all facts, with what is kept of them, in the place of those that are there. It takes no memory.
+    fn replace(&mut self, all: FactsKept)
+        requires { AreAllFor P.weigh self.old all }
+        ensures { HasFacts all.facts.facts self.old self.new }
+    {
+        let FactsKept {
+            facts,
+            stats,
+            index,
+            groups,
+            views,
+            rows,
+        } = all;
+        self.facts = facts;
+        self.stats = stats;
+        self.index = index;
+        self.groups = groups;
+        self.views = views;
+        self.rows = rows;
+    }
+}
+
+impl<P: WeightPolicy + Drop + Copy> State<P> {
+    /// A state without facts over another space, of as many dimensions, with equal measures, views and an equal policy. The one error
+    /// is want of memory.
+    pub fn fresh(&self, space: Space) -> Result<Self, Memory>
+        requires { length space ≡ length self.now.dims }
+        ensures policy { IfOk result (λ state. state.policy ≡ self.now.policy) }
+        ensures dims { IfOk result (λ state. state.dims ≡ space) }
+        ensures shape { IfOk result (λ state. state.shape ≡ self.now.shape) }
+        ensures cuts { IfOk result (λ state. state.cuts ≡ self.now.cuts) }
+        ensures facts { IfOk result (λ state. state.facts ≡ []) }
+    {
+        let shape = self.shape.copy()?;
+        let views = self.views.emptied()?;
+        Ok(State {
+            alloc: self.alloc,
+            space,
+            shape,
+            policy: self.policy,
+            facts: FactList::new(self.alloc),
+            stats: StatIndex::new(self.alloc),
+            index: RegionIndex::new(self.alloc),
+            groups: Staged::new(self.alloc),
+            views,
+            rows: 0,
+        })
     }
 }
 

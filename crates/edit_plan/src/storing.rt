@@ -99,7 +99,7 @@ fn gone(alloc: Global, edit: &Edit) -> Result<Ids, Memory>
 }
 
 /// A fact as it is kept.
-fn kept_fact(alloc: Global, space: &Space, fact: Fact) -> Result<KeptFact, Memory>
+pub(crate) fn kept_fact(alloc: Global, space: &Space, fact: Fact) -> Result<KeptFact, Memory>
     requires { IsRegion space.now fact.region }
     ensures { IfOk result (λ kept. kept ≡ kept_fact fact) }
 {

@@ -9,13 +9,14 @@ ghost use Rattle.view_store.specs.Facts.{FollowBy};
 ghost use Rattle.edit_plan.specs.Moves.{AreMoves};
 ghost use Rattle.edit_plan.specs.Refreshing.{IsRegrouped};
 ghost use Rattle.edit_plan.specs.State.{policy_in, rows_after, rows_in, view_at};
-ghost use Rattle.edit_plan.specs.ViewChanges.{change_of, changes_at, changes_by};
+ghost use Rattle.edit_plan.specs.ViewChanges.{changes_at, changes_by};
 
 use crate::moves::Moves;
 use crate::regrouped::Regrouped;
 use crate::{Group, State};
 use cell_weight::WeightPolicy;
 use cube_base::Memory;
+use facts_kept::change_of;
 use staged_map::Staged;
 use std::alloc::Global;
 use view_store::{ViewChange, ViewList};
@@ -84,17 +85,4 @@ fn push_changes(
         changes.push(change_of(true, group)?)?;
     }
     Ok(())
-}
-
-/// The change that puts the facts of a group, or takes them away. No row is copied.
-fn change_of(put: bool, group: &Group) -> Result<ViewChange, Memory>
-    ensures { IfOk result (λ change. change ≡ change_of put group.now) }
-{
-    Ok(ViewChange {
-        put,
-        facts: group.members,
-        den: group.spread.den(),
-        rows: group.spread.shared_rows()?,
-        cols: group.sums,
-    })
 }

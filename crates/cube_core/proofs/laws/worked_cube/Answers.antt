@@ -5,11 +5,12 @@ use Rattle.cube_model.specs.Answer.{answer}
 use Rattle.cube_model.specs.Cells.{all_cells, cells_of, is_inside}
 use Rattle.cube_model.specs.Difference.{refreshed}
 use Rattle.cube_model.specs.Tree.{is_leaf, is_under, leaves, parent, path}
+use Rattle.fact_groups.specs.Changes.{changed_cells, touched_cells}
 use Rattle.world_law.specs.Worlds.{worlds}
 use Rattle.cube_core.proofs.laws.worked_cube.Goals as goal
 
 pub returns : goal.returns
-unfolding allocation extended answer refreshed all_cells cells_of is_inside is_leaf is_under leaves parent path worlds
+unfolding allocation extended answer refreshed all_cells cells_of is_inside is_leaf is_under leaves parent path worlds changed_cells touched_cells
 returns c = record {
   spread = refl;
   precise = refl;
@@ -34,4 +35,5 @@ returns c = record {
   missing = refl;
   parts = refl;
   whole = refl;
+  steps = refl;
 }

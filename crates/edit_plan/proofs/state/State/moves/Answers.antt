@@ -2,7 +2,7 @@
 use Rattle.std.proofs.Common.{refl, sym, ◌∙◌, ap, subst}
 use Rattle.fact_records.specs.Shape.{IsShape}
 use Rattle.edit_plan.proofs.MovesMade.{moves-made, possible-after, possible-before}
-use Rattle.edit_plan.specs.Touched.{reweighing}
+use Rattle.touched_cells.specs.Touched.{reweighing}
 use Rattle.edit_plan.proofs.state.State.moves.Goals as goal
 
 pub reweighing-requires-clause-before : goal.reweighing-requires-clause-before

@@ -1,32 +1,26 @@
 -- A group more has its share, if it has something in the region.
-use Rattle.std.proofs.Common.{◌∙◌, ap, sym, arith}
+use Rattle.std.proofs.Common.{◌∙◌, ap, arith}
 use Rattle.std.proofs.lemmas.List.{take_all}
-use Rattle.cube_model.specs.Cells.{cells_of}
 use Rattle.fact_groups.specs.Groups.{Group}
 use Rattle.staged_map.specs.Staged.{Places}
 use Rattle.edit_plan.specs.Answering.{groups_held, shares_of}
-use Rattle.edit_plan.proofs.GroupShares.{shares-none, shares-nothing, shares-seen, shares-some}
-use Rattle.edit_plan.proofs.HeldGroups.{group-rows, held-group}
+use Rattle.edit_plan.proofs.GroupShares.{groups-next, groups-none, shares-none, shares-nothing, shares-seen, shares-some}
 use Rattle.edit_plan.proofs.state.State.shares_in.Goals as goal
 use Rattle.edit_plan.proofs.state.State.shares_in.Goals.{in-Some+then-share-gt0+in_ok-push, in-Some+else-share-gt0, in_default}
-
-pub share_in-share-requires-clause-cells : goal.share_in-share-requires-clause-cells
-share_in-share-requires-clause-cells g c =
-    group-rows _ _ _ _ _ _ (held-group _ _ _ _ _ c.self.invariant.groups c.loop-i.i _ _ c.count-i-end.ensures.distinct (sym c.in-Some.ensures.entry))
 
 pub loop-i-preserved : goal.loop-i-preserved
 loop-i-preserved g c =
     elim c.match-at.branch [
       | in-Some+then-share-gt0+in_ok-push w ↦
           ap (λ v. v.items) w.shares-is
-          ∙ shares-some _ _ c.loop-i.i _ _ _ c.loop-i.invariant w.in-Some.ensures.next _ _ w.share_in-share.ensures w.if-share-gt0.true w.in_ok-push.ensures.items
+          ∙ shares-some _ _ _ _ _ c.loop-i.invariant (groups-next _ c.loop-i.i _ _ w.in-Some.ensures.next) _ _ w.share_in-share.ensures w.if-share-gt0.true w.in_ok-push.ensures.items
       | in-Some+else-share-gt0 w ↦
-          ap (λ v. v.items) w.shares-is ∙ shares-nothing _ _ c.loop-i.i _ _ _ c.loop-i.invariant w.in-Some.ensures.next _ w.share_in-share.ensures w.if-share-gt0.false
-      | in_default w ↦ ap (λ v. v.items) w.shares-is ∙ shares-none _ _ c.loop-i.i _ c.loop-i.invariant w.in_default.ensures.next
+          ap (λ v. v.items) w.shares-is ∙ shares-nothing _ _ _ _ _ c.loop-i.invariant (groups-next _ c.loop-i.i _ _ w.in-Some.ensures.next) _ w.share_in-share.ensures w.if-share-gt0.false
+      | in_default w ↦ ap (λ v. v.items) w.shares-is ∙ shares-none _ _ _ _ c.loop-i.invariant (groups-none _ c.loop-i.i w.in_default.ensures.next)
     ]
 
 pub returns : goal.returns
 returns g c =
     c.loop-i.invariant
-    ∙ ap (λ (places : Places Group). shares_of (cells_of c.self.inside.space c.args.r) (groups_held places)) (take_all c.loop-i.i c.self.inside.groups (omega (arith, c.loop-i-test.false, c.count-i-end.ensures.count)))
-    ∙ shares-seen _ _ c.self.view_is c.args.r
+    ∙ ap (λ (places : Places Group). shares_of c.args.region.now (groups_held places)) (take_all c.loop-i.i c.self.inside.groups (omega (arith, c.loop-i-test.false, c.count-i-end.ensures.count)))
+    ∙ shares-seen _ _ c.self.view_is c.args.region.now

@@ -1,8 +1,7 @@
 -- The shares of the groups before this place.
 use Rattle.std.proofs.Common.{◌≡◌, take}
-use Rattle.cube_model.specs.Cells.{cells_of}
 use Rattle.edit_plan.specs.Answering.{groups_held, shares_of}
 use Rattle.edit_plan.proofs.state.State.shares_in.Given as goal
 
 abbrev pub invariant-loop-i : goal.invariant-loop-i
-invariant-loop-i g l = l.shares.items ≡ shares_of (cells_of l.self-inside.space l.r) (groups_held (take l.i l.self-inside.groups))
+invariant-loop-i g l = l.shares.items ≡ shares_of l.fn.region (groups_held (take l.i l.self-inside.groups))

@@ -1,7 +1,7 @@
 -- Room leaves the state what it is, and what is staged is what the edit makes of it.
 use Rattle.std.proofs.Common.{◌≡◌, refl, subst, true}
 use Rattle.staged_map.specs.Staged.{have_places}
-use Rattle.edit_plan.proofs.Keeping.{cuts-same}
+use Rattle.facts_kept.proofs.SameViews.{cuts-same}
 use Rattle.edit_plan.proofs.Rooming.{content-kept, fits-seen, lost-region, sets-staged, state-kept}
 use Rattle.edit_plan.proofs.state.State.stage.Goals as goal
 

@@ -3,7 +3,7 @@ use Rattle.std.proofs.Common.{◌≡◌, ◌∙◌}
 use Rattle.std.proofs.lemmas.Result.{IfOk-weaker}
 use Rattle.cell_weight.specs.Stats.{stat_at}
 use Rattle.edit_plan.specs.State.{policy_in}
-use Rattle.edit_plan.specs.Touched.{changes_of, touched}
+use Rattle.touched_cells.specs.Touched.{changes_of, touched}
 use Rattle.edit_plan.proofs.Seeing.{lost-added, lost-number, taken-valid, touched-seen}
 use Rattle.edit_plan.proofs.state.State.touched.Goals as goal
 

@@ -1,0 +1,77 @@
+//! The entries of views, made from the groups of facts.
+ghost use Rattle.std.specs.Prelude.{◌≡◌, ◌+◌, ◌++◌, true, IfOk, OnOk, map};
+ghost use Rattle.std.specs.Option.{option_copied, option_to_list};
+ghost use Rattle.cube_model.specs.Allocation.{extended};
+ghost use Rattle.fact_records.specs.Shape.{policy_over, width_of_all};
+ghost use Rattle.fact_records.specs.Valid.{AreValid};
+ghost use Rattle.facts_kept.specs.Anew.{AreEmpty, AreGroupsOf, cuts_of};
+ghost use Rattle.facts_kept.specs.Kept.{AreViewsOfFacts};
+ghost use Rattle.facts_kept.specs.ViewChanges.{change_of, puts_at};
+
+use crate::Group;
+use cell_weight::WeightPolicy;
+use cube_base::Memory;
+use fact_records::{FactList, Shape};
+use region_algebra::Space;
+use staged_map::Staged;
+use std::alloc::Global;
+use view_store::{ViewChange, Views};
+
+/// The views with the entries that facts make, of which these are the groups.
+pub(crate) fn views_of<P: WeightPolicy>(
+    alloc: Global,
+    space: &Space,
+    shape: &Shape,
+    policy: &P,
+    facts: &FactList,
+    groups: &Staged<Group>,
+    mut views: Views,
+) -> Result<Views, Memory>
+    requires valid { AreValid shape.now space.now facts.now.facts }
+    requires groups { AreGroupsOf (policy_over (P.weigh policy.now) shape.now) shape.now space.now facts.now.facts groups.now }
+    requires empty { AreEmpty shape.now space.now views }
+    ensures { IfOk result (AreViewsOfFacts space.now (cuts_of views) (width_of_all shape.now.measures + 1) (extended (policy_over (P.weigh policy.now) shape.now) space.now facts.now.facts)) }
+{
+    // What a space says of its dimensions, and a shape of its measures.
+    let _ = space.dims();
+    let _ = shape.columns();
+    let codes = groups.keys()?;
+    let changes = puts_at(alloc, groups, codes.as_slice())?;
+    let stage = views.stage(space, &changes)?;
+    views.install(stage);
+    Ok(views)
+}
+
+/// The changes that put the groups at these codes.
+fn puts_at(alloc: Global, groups: &Staged<Group>, codes: &[u64]) -> Result<Vec<ViewChange>, Memory>
+    ensures { IfOk result (λ changes. changes.items ≡ puts_at groups.now codes.now) }
+{
+    let mut changes = Vec::with_capacity(alloc, codes.len())?;
+    for code in codes {
+        push_put(&mut changes, groups.get(*code))?;
+    }
+    Ok(changes)
+}
+
+/// Adds the change that puts a group, where there is one.
+fn push_put(changes: &mut Vec<ViewChange>, group: Option<&Group>) -> Result<(), Memory>
+    ensures { OnOk result (changes.new.items ≡ changes.old.items ++ map (change_of true) (option_to_list (option_copied group.entry))) }
+{
+    if let Some(group) = group {
+        changes.push(change_of(true, group)?)?;
+    }
+    Ok(())
+}
+
+/// The change that puts the facts of a group, or takes them away. No row is copied.
+pub fn change_of(put: bool, group: &Group) -> Result<ViewChange, Memory>
+    ensures { IfOk result (λ change. change ≡ change_of put group.now) }
+{
+    Ok(ViewChange {
+        put,
+        facts: group.members,
+        den: group.spread.den(),
+        rows: group.spread.shared_rows()?,
+        cols: group.sums,
+    })
+}
