@@ -20,3 +20,5 @@ pub use laws::{
 pub use line::{Line, LineFault};
 pub use line_reader::read_line;
 pub use reply::{Reply, append_reply, write_reply};
+pub use reply_fields::append_number;
+pub use reply_numbers::append_exact;

@@ -60,8 +60,8 @@ fn append_bound(text: &mut Vec<u8>, bound: Option<i128>) -> Result<(), Memory>
     }
 }
 
-/// Appends TAB and the fraction, if there is one.
-fn append_exact(text: &mut Vec<u8>, exact: Option<(i128, u128)>) -> Result<(), Memory>
+/// Appends TAB and the fraction, or `wide` where there is none.
+pub fn append_exact(text: &mut Vec<u8>, exact: Option<(i128, u128)>) -> Result<(), Memory>
     ensures ok { OnOk result (text.new.items ≡ text.old.items ++ 9 ∷ exact_text exact) }
     ensures err { OnErr result (Keeps text.old.items text.new.items) }
 {

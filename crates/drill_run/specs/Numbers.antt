@@ -1,0 +1,23 @@
+-- The numbers that a seed draws, one after the other.
+use Rattle.std.specs.Prelude.{ℕ, zero, suc, ◌+◌, ◌*◌, ◌/◌, ◌%◌}
+
+-- states are below it
+abbrev pub MODULUS : ℕ
+MODULUS = 2147483648
+
+-- the state behind a state
+abbrev pub next_state : ℕ → ℕ
+next_state state = (state * 1103515245 + 12345) % MODULUS
+
+-- the number that a state gives
+abbrev pub number_at : ℕ → ℕ
+number_at state = state / 65536
+
+-- the state after so many draws
+abbrev pub state_after : ℕ → ℕ → ℕ
+state_after seed zero = seed
+state_after seed (suc k) = next_state (state_after seed k)
+
+-- the draw of this number, counted from 1
+abbrev pub drawn : ℕ → ℕ → ℕ
+drawn seed k = number_at (state_after seed k)
