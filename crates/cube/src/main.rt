@@ -1,4 +1,4 @@
-//! The program: `cube try` reads a schema and a script and answers the lines of the script.
+//! The program `cube`: the words of its command line, the standard streams, and the status with which it ends.
 #![tactic(auto)]
 
 use cube_base::{StdSink, StdSource};

@@ -5,14 +5,17 @@ use Rattle.std.specs.Result.{result_ok}
 use Rattle.std.specs.List.{concat}
 use Rattle.std.specs.Io.{StartsWith}
 use Rattle.std.specs.Io.KnownBytes.{Appends}
+use Rattle.cube_base.specs.Outside.{TakesPart}
 use Rattle.text_lines.specs.Text.{lines_of}
 use Rattle.schema_text.specs.SchemaText.{ReadSchema, schema_of}
+use Rattle.drill_run.specs.Doing.{drill_of}
+use Rattle.drill_run.specs.Summary.{summary_of}
 use Rattle.cube_cli.specs.Command.{command_of}
 use Rattle.cube_cli.specs.Run.{Outcome, run_of}
 use Rattle.cube_cli.specs.Input.{INPUT_LIMIT, GoesOn, TakesAtMost}
 use Rattle.cube_cli.specs.Seen.{NoFault, NoReadFault, NoWriteFault, ReadFailed, ReadNothing, Seen, SinkSeen, SourceSeen, WasRead, WriteFailed, Wrote, WroteNothing}
 use Rattle.cube_cli.specs.declared.command.Command.{Command}
-use Rattle.cube_cli.specs.declared.command.Command.TheVariants.{Try}
+use Rattle.cube_cli.specs.declared.command.Command.TheVariants.{Drill, Try}
 use Rattle.cube_cli.specs.declared.end.End.{End}
 use Rattle.cube_cli.specs.declared.end.End.TheVariants.{Finished, Usage, Schema, ReadFault, WriteFault, Memory, TooLong}
 
@@ -87,10 +90,28 @@ SaysOfTry seen (WriteFault done) = WriteFailed seen.sink × NoReadFault seen.sou
 -- memory was wanting
 SaysOfTry seen (Memory done) = NoFault seen × IfSome seen.source.left (λ input. Wrote seen.sink.taken seen.sink.taken_after (Stopped (replies_of input) done))
 
+-- What each end says of the line of a drill.
+abbrev pub SaysOfDrillLine : ℕ → SinkSeen → End → Type 0
+-- the line is written, and so many edits were refused
+SaysOfDrillLine n sink (Finished refused) = NoWriteFault sink × (refused ≡ (drill_of n).refused) × Appends sink.taken sink.taken_after (summary_of n)
+-- a write failed: a part of the line is written, and not the whole
+SaysOfDrillLine n sink (WriteFault done) = WriteFailed sink × (done ≡ 0) × TakesPart sink.taken sink.taken_after (summary_of n)
+-- memory was wanting, before the line or for it
+SaysOfDrillLine n sink (Memory done) = NoWriteFault sink × (done ≡ 0) × TakesPart sink.taken sink.taken_after (summary_of n)
+SaysOfDrillLine n sink Usage = ⊥
+SaysOfDrillLine n sink (Schema _ _) = ⊥
+SaysOfDrillLine n sink (ReadFault _) = ⊥
+SaysOfDrillLine n sink (TooLong _) = ⊥
+
+-- The drill of a number reads nothing.
+abbrev pub SaysOfDrill : ℕ → Seen → End → Type 0
+SaysOfDrill n seen end = NoReadFault seen.source × ReadNothing seen.source × SaysOfDrillLine n seen.sink end
+
 -- what an end says of a run of a command, if one is named
 abbrev pub SaysOf : Option Command → Seen → End → Type 0
 SaysOf None seen end = SaysOfNone seen end
 SaysOf (Some Try) seen end = SaysOfTry seen end
+SaysOf (Some (Drill n)) seen end = SaysOfDrill n seen end
 
 -- the most bytes of the source that a run takes which ends so
 abbrev pub most_taken : End → ℕ
@@ -125,10 +146,15 @@ IsDone (TooLong done) = ⊥
 abbrev pub IsCompleteTry : Seen → End → Type 0
 IsCompleteTry seen end = (ReadFailed seen.source → ⊥) → (WriteFailed seen.sink → ⊥) → IfSome seen.source.left (λ input. length input ≤ INPUT_LIMIT → IsSome (schema_in input) → IsDone end)
 
+-- A drill to whose line no fault comes is done to its end unless memory is wanting.
+abbrev pub IsCompleteDrill : SinkSeen → End → Type 0
+IsCompleteDrill sink end = (WriteFailed sink → ⊥) → IsDone end
+
 -- the same of the command, if one is named
 abbrev pub IsCompleteOf : Option Command → Seen → End → Type 0
 IsCompleteOf None seen end = ⊤
 IsCompleteOf (Some Try) seen end = IsCompleteTry seen end
+IsCompleteOf (Some (Drill n)) seen end = IsCompleteDrill seen.sink end
 
 abbrev pub IsComplete : List (List ℕ) → Seen → End → Type 0
 IsComplete words seen end = IsCompleteOf (command_of words) seen end

@@ -1,7 +1,7 @@
 //! The commands, and the top call.
 ghost use Rattle.std.specs.Prelude.{◌≡◌, ◌≤◌, length, map, string_bytes, IfErr, IfOk, IfSome};
 ghost use Rattle.text_lines.specs.Text.{lines_of};
-ghost use Rattle.cube_cli.specs.Command.{command_of};
+ghost use Rattle.cube_cli.specs.Command.{command_of, drill_named};
 ghost use Rattle.cube_cli.specs.End.{IsComplete, IsCompleteTry, Says, SaysOfTry, TookFew};
 ghost use Rattle.cube_cli.specs.Expectations.{AddsUpAfterEachLine, ExpectsAfterEachLine};
 ghost use Rattle.cube_cli.specs.Progress.{BreaksOff, Done};
@@ -10,20 +10,24 @@ ghost use Rattle.cube_cli.specs.Seen.{seen_of, sink_seen, source_seen};
 
 use crate::End;
 use crate::break_off::{BreakOff, end_of_run};
+use crate::drill::drill;
 use crate::input::{InputStop, MAX_INPUT, take_input};
 use crate::script_run::ScriptRun;
 use cell_weight::{ByCount, BySum, Uniform, WeightPolicy};
 use cube_base::{Sink, Source};
 use cube_core::Cube;
+use drill_run::MAX_DRILL;
 use schema_text::{PolicyWord, Schema, SchemaFault, read_schema};
 use std::alloc::Global;
-use text_lines::first_line_of;
+use text_lines::{first_line_of, number_in};
 
 /// A command of the program.
 #[derive(Clone, Copy, Debug, PartialEq, Eq)]
 pub enum Command {
     /// A schema and a script, done on a cube without a store.
     Try,
+    /// The drill of this number, from 1 to 100,000.
+    Drill(u64),
 }
 
 /// Runs the program: the words of the command line without the program's name, the input, and where replies go.
@@ -32,6 +36,9 @@ pub enum Command {
 /// in order on a cube of that schema and its policy, and answered unless it is skipped. Replies are gathered into writes
 /// of some tens of kilobytes. Of a run that stops, the sink has a part of the replies to the first `done` lines, with all
 /// but the last of them whole.
+///
+/// The words `drill` and a number from 1 to 100,000, which has one spelling, do the drill of the number, and write its line. No input
+/// is taken.
 ///
 /// What is answered over the facts, after each number of lines, is the exact expectation over all possible worlds of these,
 /// in each of which every fact stands in one cell of its allocation; and where a node of a region has children, the answers
@@ -46,6 +53,7 @@ pub fn cube<S: Source, K: Sink>(alloc: Global, words: &[String], source: &mut S,
     match command_of(words) {
         None => End::Usage,
         Some(Command::Try) => try_input(alloc, source, out),
+        Some(Command::Drill(n)) => drill(alloc, n, out),
     }
 }
 
@@ -55,8 +63,17 @@ fn command_of(words: &[String]) -> Option<Command>
 {
     match words {
         [word] if word.as_str() == "try" => Some(Command::Try),
+        [word, number] if word.as_str() == "drill" => drill_named(number.as_bytes()),
         _ => None,
     }
+}
+
+// The drill of the number that bytes spell.
+fn drill_named(number: &[u8]) -> Option<Command>
+    ensures { result ≡ drill_named number.now }
+{
+    let n = number_in(number, 1, MAX_DRILL)?;
+    Some(Command::Drill(n))
 }
 
 // Takes the input, and does the script behind its schema.

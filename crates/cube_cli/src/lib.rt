@@ -3,6 +3,7 @@
 
 mod break_off;
 mod command;
+mod drill;
 mod end;
 mod input;
 mod laws;

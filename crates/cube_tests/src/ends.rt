@@ -6,12 +6,17 @@ use std::alloc::{AllocError, Global};
 use std::test::Fail;
 
 /// Words of no command.
-const NO_COMMANDS: [&[&str]; 9] = [
+const NO_COMMANDS: [&[&str]; 14] = [
     &["run"],
     &["help"],
     &["drill", "0"],
     &["drill", "01"],
     &["drill", "100001"],
+    &["drill", "18446744073709551617"],
+    &["drill", "+1"],
+    &["drill", ""],
+    &["drill"],
+    &["drill", "1", "1"],
     &["run", ""],
     &["try", "x"],
     &["--help"],

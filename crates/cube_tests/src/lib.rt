@@ -4,6 +4,8 @@
 #[cfg(test)]
 mod distributions;
 #[cfg(test)]
+mod drills;
+#[cfg(test)]
 mod ends;
 #[cfg(test)]
 mod faults;

@@ -13,3 +13,9 @@ returns-in-Some-Try-clause-expectations g c = expects (g.S.Source.left c.args.so
 
 pub returns-in-Some-Try-clause-children : goal.returns-in-Some-Try-clause-children
 returns-in-Some-Try-clause-children g c = adds_up (g.S.Source.left c.args.source.now)
+
+pub returns-in-Some-Drill-clause-expectations : goal.returns-in-Some-Drill-clause-expectations
+returns-in-Some-Drill-clause-expectations g c = expects (g.S.Source.left c.args.source.now)
+
+pub returns-in-Some-Drill-clause-children : goal.returns-in-Some-Drill-clause-children
+returns-in-Some-Drill-clause-children g c = adds_up (g.S.Source.left c.args.source.now)

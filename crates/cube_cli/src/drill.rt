@@ -1,0 +1,28 @@
+//! The drill of a number as a command.
+ghost use Rattle.std.specs.Prelude.{◌≡◌, ◌≤◌};
+ghost use Rattle.drill_run.specs.Edits.{MAX_DRILL};
+ghost use Rattle.cube_cli.specs.End.{IsCompleteDrill, SaysOfDrillLine};
+ghost use Rattle.cube_cli.specs.Seen.{sink_seen};
+
+use crate::End;
+use cube_base::{Sink, SinkError, write_whole};
+use drill_run::run_drill;
+use std::alloc::Global;
+
+/// Does the drill of a number, and writes its line.
+pub fn drill<K: Sink>(alloc: Global, n: u64, out: &mut K) -> End
+    requires { n ≤ MAX_DRILL }
+    ensures says { SaysOfDrillLine n (sink_seen K.taken K.faults out.old out.new) result }
+    ensures complete { IsCompleteDrill (sink_seen K.taken K.faults out.old out.new) result }
+{
+    let Ok(summary) = run_drill(alloc, n) else {
+        return End::Memory { done: 0 };
+    };
+    match write_whole(out, summary.line.as_slice()) {
+        Ok(()) => End::Finished {
+            refused: summary.refused,
+        },
+        Err(SinkError::Failed) => End::WriteFault { done: 0 },
+        Err(SinkError::Memory) => End::Memory { done: 0 },
+    }
+}
