@@ -11,7 +11,7 @@ use std::sync::ledger::{Blank, Ledger};
 use std::test::Fail;
 
 /// The nodes of a region, and the id of a fact there.
-type Fact = (&'static [u32], u64);
+pub type Fact = (&'static [u32], u64);
 
 /// Facts that come, and those of them that go at the same time as the next one comes.
 const FIRST: [Fact; 5] = [
@@ -26,10 +26,19 @@ const GONE: [Fact; 1] = [(&[1, 2], 4)];
 
 const NEXT: [Fact; 1] = [(&[1, 2], 9)];
 
-/// The nodes of a cell, and the ids of the facts over it.
-type Row = (&'static [u32], &'static [u64]);
+/// Those that are there then.
+pub const THERE: [Fact; 5] = [
+    (&[0, 0], 5),
+    (&[1, 1], 6),
+    (&[5, 0], 7),
+    (&[1, 2], 2),
+    (&[1, 2], 9),
+];
 
-const COVERED: [Row; 6] = [
+/// The nodes of a cell, and the ids of the facts over it.
+pub type Row = (&'static [u32], &'static [u64]);
+
+pub const COVERED: [Row; 6] = [
     (&[2, 2], &[2, 5, 6, 9]),
     (&[2, 3], &[5, 6]),
     (&[2, 5], &[5]),
@@ -90,8 +99,13 @@ fn ids_by_codes<L: Ledger>(
     let region = space.region(nodes).ok_or("no region")?;
     let cell = space.cell_code(region).ok_or("no cell")?;
     let codes = index.held_codes_over(space, cell, &mut steps)?;
+    ids_at(alloc, index, codes.as_slice())
+}
+
+/// The ids at codes, ascending.
+pub fn ids_at(alloc: Global, index: &RegionIndex, codes: &[u64]) -> Result<Vec<u64>, Fail> {
     let mut ids = Vec::new(alloc);
-    for code in codes.as_slice() {
+    for code in codes {
         ids.extend_from_slice(index.ids(*code))?;
     }
     ids.sort_unstable();

@@ -16,4 +16,12 @@ mod lists;
 #[cfg(test)]
 mod maps;
 #[cfg(test)]
+mod patterns;
+#[cfg(test)]
+mod shares;
+#[cfg(test)]
 mod steps;
+#[cfg(test)]
+mod views;
+#[cfg(test)]
+mod whole;

@@ -30,11 +30,15 @@ pub record IsLightChange (most : ℕ) (cells : List ℕ) (stats : ℕ → CellSt
   pub light : change.2.count ≤ most
   pub possible : IsStat change.2
 
+-- several cells, and few, where each has at most so many facts
+pub record AreFew (most cells : ℕ) : Type 0 where
+  pub several : 1 < cells
+  pub few : cells ≤ MAX_CELLS
+  pub counted : cells * most ≤ MAX_FACTS
+
 -- A step takes these changes where no cell has more than so many facts.
 pub record CanStep (most : ℕ) (dims : List Dimension) (places : Places CellStat) (region : List ℕ) (changes : List Change) : Type 0 where
-  pub several : 1 < length (cells_of dims region)
-  pub few : length (cells_of dims region) ≤ MAX_CELLS
-  pub counted : length (cells_of dims region) * most ≤ MAX_FACTS
+  pub cells : AreFew most (length (cells_of dims region))
   pub two : length changes ≤ 2
   pub ascending : ascends_from (λ change. change.0) 0 changes ≡ true
   pub each : All (IsLightChange most (cells_of dims region) (stat_at places)) changes

@@ -1,14 +1,13 @@
 //! A step of an allocation and of the statistics that it is by.
-ghost use Rattle.std.specs.Prelude.{◌≡◌, ◌<◌, ◌≤◌, ◌*◌, ℕ, true, All, IfOk, IfSome, None, Ok, OnErr, length};
+ghost use Rattle.std.specs.Prelude.{◌≡◌, ◌≤◌, ℕ, true, All, IfNone, IfOk, IfSome, None, Ok, OnErr, length};
 ghost use Rattle.std.specs.Bool.{OnTrue};
 ghost use Rattle.cube_model.specs.Ascending.{ascends_from};
 ghost use Rattle.cube_model.specs.Cells.{cells_of};
-ghost use Rattle.cube_model.specs.Limits.{MAX_CELLS, MAX_FACTS};
 ghost use Rattle.cell_weight.specs.Stats.{IsStat, stat_at};
 ghost use Rattle.region_algebra.specs.Inside.{cells_inside};
 ghost use Rattle.region_algebra.specs.Space.{IsRegion};
 ghost use Rattle.alloc_rows.specs.Changed.{new_stats};
-ghost use Rattle.kept_spread.specs.Kept.{AreKept, AreLight, CanStep, IsLightChange};
+ghost use Rattle.kept_spread.specs.Kept.{AreFew, AreKept, AreLight, CanStep, IsLightChange};
 
 use alloc_rows::{Alloc, allocate_at, step};
 use cell_weight::{CellStat, StatIndex, WeightPolicy};
@@ -20,8 +19,8 @@ use std::alloc::{AllocError, Global};
 /// A changed cell, with its statistics before and after.
 pub type Change = (u64, CellStat, CellStat);
 
-/// Statistics of no fact, and the allocation of a region by them. The answer is None where the region is one cell or has too
-/// many.
+/// Statistics of no fact, and the allocation of a region by them. The answer is None exactly where the region is one cell or has
+/// too many.
 pub fn start_kept<P: WeightPolicy>(
     alloc: Global,
     space: &Space,
@@ -29,7 +28,9 @@ pub fn start_kept<P: WeightPolicy>(
     r: Region,
 ) -> Result<Option<(StatIndex, Alloc)>, Memory>
     requires { IsRegion space.now r }
-    ensures { IfOk result (λ started. IfSome started (λ kept. (most : ℕ) → AreKept most (P.weigh policy.now) space.now r kept.0 kept.1)) }
+    ensures kept { IfOk result (λ started. IfSome started (λ kept. (most : ℕ) → AreKept most (P.weigh policy.now) space.now r kept.0 kept.1)) }
+    ensures few { IfOk result (λ started. IfSome started (λ _. AreFew 0 (length (cells_of space.now r)))) }
+    ensures none { IfOk result (λ started. IfNone started (AreFew 0 (length (cells_of space.now r)) → ⊥)) }
 {
     let stats = StatIndex::new(alloc);
     match spread_anew(alloc, space, policy, 0, &stats, r)? {
@@ -38,8 +39,8 @@ pub fn start_kept<P: WeightPolicy>(
     }
 }
 
-/// The allocation of a region by statistics in which no cell has more than `most` facts, made anew. The answer is None where the
-/// region is one cell or has too many.
+/// The allocation of a region by statistics in which no cell has more than `most` facts, made anew. The answer is None exactly
+/// where the region is one cell, or has so many that `most` facts in each of them are too many.
 pub fn spread_anew<P: WeightPolicy>(
     alloc: Global,
     space: &Space,
@@ -50,7 +51,9 @@ pub fn spread_anew<P: WeightPolicy>(
 ) -> Result<Option<Alloc>, Memory>
     requires region { IsRegion space.now r }
     requires light { AreLight most (stat_at stats.now) }
-    ensures { IfOk result (λ spread. IfSome spread (AreKept most (P.weigh policy.now) space.now r stats.now)) }
+    ensures kept { IfOk result (λ spread. IfSome spread (AreKept most (P.weigh policy.now) space.now r stats.now)) }
+    ensures few { IfOk result (λ spread. IfSome spread (λ _. AreFew most (length (cells_of space.now r)))) }
+    ensures none { IfOk result (λ spread. IfNone spread (AreFew most (length (cells_of space.now r)) → ⊥)) }
 {
     if !are_few(space.cell_count(r), most) {
         return Ok(None);
@@ -59,7 +62,7 @@ pub fn spread_anew<P: WeightPolicy>(
 }
 
 /// Steps the allocation of a region, and gives the changed cells their new statistics. No cell has more than `most` facts, before and
-/// after. The answer is None, and nothing changes, where a step does not take these changes: where the region is one cell or has too
+/// after. The answer is None, and nothing changes, exactly where a step does not take these changes: where the region is one cell or has too
 /// many, where more than two cells change or they do not ascend, where a cell is not the region's, has other statistics or would get
 /// more facts. An error leaves the statistics.
 pub fn step_kept<P: WeightPolicy>(
@@ -75,6 +78,8 @@ pub fn step_kept<P: WeightPolicy>(
     requires region { IsRegion space.now r }
     requires kept { AreKept most (P.weigh policy.now) space.now r stats.old old.now }
     ensures stepped { IfOk result (λ stepped. IfSome stepped (AreKept most (P.weigh policy.now) space.now r stats.new)) }
+    ensures taken { IfOk result (λ stepped. IfSome stepped (λ _. CanStep most space.now stats.old r changed.now)) }
+    ensures none { IfOk result (λ stepped. IfNone stepped (CanStep most space.now stats.old r changed.now → ⊥)) }
     ensures refused { result ≡ Ok None → stats.new ≡ stats.old }
     ensures err { OnErr result ((cell : ℕ) → stat_at stats.new cell ≡ stat_at stats.old cell) }
 {
@@ -101,7 +106,8 @@ fn new_stats(alloc: Global, changed: &[Change]) -> Result<Vec<(u64, CellStat)>, 
 /// Whether a step takes these changes.
 fn can_step(space: &Space, stats: &StatIndex, most: u32, r: Region, changed: &[Change]) -> bool
     requires { IsRegion space.now r }
-    ensures { OnTrue result (CanStep most space.now stats.now r changed.now) }
+    ensures takes { OnTrue result (CanStep most space.now stats.now r changed.now) }
+    ensures every { CanStep most space.now stats.now r changed.now → result ≡ true }
 {
     are_few(space.cell_count(r), most)
         && are_two_at_most(changed)
@@ -110,9 +116,8 @@ fn can_step(space: &Space, stats: &StatIndex, most: u32, r: Region, changed: &[C
 
 /// Whether these are several cells, and few, where each has so many facts.
 fn are_few(cells: u64, most: u32) -> bool
-    ensures several { OnTrue result (1 < cells) }
-    ensures few { OnTrue result (cells ≤ MAX_CELLS) }
-    ensures counted { OnTrue result (cells * most ≤ MAX_FACTS) }
+    ensures few { OnTrue result (AreFew most cells) }
+    ensures every { AreFew most cells → result ≡ true }
 {
     1 < cells && cells <= MAX_CELLS && cells * u64::from(most) <= MAX_FACTS
 }
@@ -121,13 +126,15 @@ fn are_few(cells: u64, most: u32) -> bool
 fn are_two_at_most(changed: &[Change]) -> bool
     ensures few { OnTrue result (length changed.now ≤ 2) }
     ensures ascending { OnTrue result (ascends_from (λ change. change.0) 0 changed.now ≡ true) }
+    ensures every { length changed.now ≤ 2 → ascends_from (λ change. change.0) 0 changed.now ≡ true → result ≡ true }
 {
     changed.len() < 2 || (changed.len() == 2 && changed[0].0 < changed[1].0)
 }
 
 /// Whether each change is one.
 fn are_changes(inside: &Inside, stats: &StatIndex, most: u32, changed: &[Change]) -> bool
-    ensures { OnTrue result (All (IsLightChange most (cells_inside inside.now) (stat_at stats.now)) changed.now) }
+    ensures each { OnTrue result (All (IsLightChange most (cells_inside inside.now) (stat_at stats.now)) changed.now) }
+    ensures every { All (IsLightChange most (cells_inside inside.now) (stat_at stats.now)) changed.now → result ≡ true }
 {
     changed
         .iter()
@@ -136,7 +143,8 @@ fn are_changes(inside: &Inside, stats: &StatIndex, most: u32, changed: &[Change]
 
 /// Whether the cell is one of these, has such statistics, and is to get such as so many facts can have.
 fn is_change(inside: &Inside, stats: &StatIndex, most: u32, change: &Change) -> bool
-    ensures { OnTrue result (IsLightChange most (cells_inside inside.now) (stat_at stats.now) change.now) }
+    ensures light { OnTrue result (IsLightChange most (cells_inside inside.now) (stat_at stats.now) change.now) }
+    ensures every { IsLightChange most (cells_inside inside.now) (stat_at stats.now) change.now → result ≡ true }
 {
     inside.holds(change.0)
         && stats.stat(change.0) == change.1
@@ -146,7 +154,8 @@ fn is_change(inside: &Inside, stats: &StatIndex, most: u32, change: &Change) -> 
 
 /// Whether facts can have these statistics.
 fn is_stat(stat: CellStat) -> bool
-    ensures { OnTrue result (IsStat stat) }
+    ensures possible { OnTrue result (IsStat stat) }
+    ensures every { IsStat stat → result ≡ true }
 {
     stat.count <= MAX_FACTS && stat.sum <= stat.count * MAX_VALUE
 }

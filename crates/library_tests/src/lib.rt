@@ -19,6 +19,8 @@ mod fractions;
 #[cfg(test)]
 mod growth;
 #[cfg(test)]
+mod large_cubes;
+#[cfg(test)]
 mod maps;
 #[cfg(test)]
 mod regions;
