@@ -15,11 +15,13 @@ from random import Random
 
 sys.dont_write_bytecode = True
 
+import plain_drill
 import plain_model
 import plain_model_rows
 
 SECONDS = 60  # that the program may take for an input
 USAGE_EACH = 50  # one case of so many has words that are no command
+DRILLS = [1, 2, 3, 4, 7, 16, 29, 52, 64, 81, 100, 150]  # facts; the plain model takes their square in time
 WRONG_WORDS = [
     *([], [""], ["Try"], ["try", ""], ["try", "x"], ["try\n"], ["\udcff"]),
     *(["help"], ["--help"], ["run"], ["drill", "0"]),
@@ -356,6 +358,16 @@ def compare_examples(program):
     return all(is_alike(program, f"example {e.name}", ["try"], e.text, e.ends) for e in examples)
 
 
+def compare_drills(program):
+    for number in DRILLS:
+        line, refused = plain_drill.drill(number)
+        ends = (line, 1 if refused else 0, b"")
+        if not is_alike(program, f"drill {number}", ["drill", str(number)], b"", ends):
+            return False
+    print(f"{len(DRILLS)} drills are alike")
+    return True
+
+
 def compare_cases(program, cases, seed):
     seen = Counter()
     for number in range(1, cases + 1):
@@ -371,7 +383,8 @@ def compare_cases(program, cases, seed):
 
 def main():
     program, cases, seed = sys.argv[1], int(sys.argv[2]), int(sys.argv[3])
-    return 0 if compare_examples(program) and compare_cases(program, cases, seed) else 1
+    done = compare_examples(program) and compare_drills(program) and compare_cases(program, cases, seed)
+    return 0 if done else 1
 
 
 if __name__ == "__main__":

@@ -130,6 +130,9 @@ def refused():
         yield line("insert", i + 1, "p0.0", "nowhere", 5)
 
 
+DRILL = 100_000
+
+
 def run(words, source, sink):
     """Seconds of a processor and megabytes of a run."""
     with open(source) as given, open(sink, "w") as taken:
@@ -161,12 +164,26 @@ class Bench:
             sys.exit("the programs print other texts")
         return results
 
+    def drill(self, number):
+        """The same of the drill of a number of facts, which reads nothing."""
+        printed, results = set(), []
+        for program in self.programs:
+            words, sink = [program, "drill", str(number)], os.path.join(self.folder, "printed")
+            taken = [run(words, os.devnull, sink) for _ in range(self.runs)]
+            with open(sink, "rb") as text:
+                printed.add(text.read())
+            results.append((statistics.median(s for s, _ in taken), max(m for _, m in taken)))
+        if len(printed) > 1:
+            sys.exit("the programs print other texts")
+        return results
+
     def job(self, name, make):
-        results = self.measure(make)
+        self.tell(name, self.measure(make))
+
+    def tell(self, name, results):
         text = "   ".join(f"{seconds:8.3f} s {size:7.1f} MB" for seconds, size in results)
         ratio = f"   {results[0][0] / results[1][0]:6.1f} times" if len(results) > 1 else ""
         print(f"{name:28} {text}{ratio}", flush=True)
-        return results
 
     def each(self, name, many, few, count):
         """Microseconds of one of the lines that a script has more than another."""
@@ -178,6 +195,7 @@ class Bench:
 def main(runs, *programs):
     with tempfile.TemporaryDirectory() as folder:
         bench = Bench(int(runs), programs, folder)
+        bench.tell("drill", bench.drill(DRILL))
         bench.job("covers", covers)
         bench.job("million", million)
         bench.each("an edit at 2^10 facts", edits(2**10, 20_000), edits(2**10, 0), 20_000)

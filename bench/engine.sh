@@ -1,9 +1,10 @@
 #!/usr/bin/env bash
 # Times the built program on the main jobs of an engine, and beside it another program if one is named: bench/engine.sh [OTHER] [RUNS]
 #
-# OTHER is called as cube is: `OTHER try < script`. Of each job are printed the seconds of a processor (user and
+# OTHER is called as cube is: `OTHER try < script`, `OTHER drill N`. Of each job are printed the seconds of a processor (user and
 # system) of the median of RUNS runs (3 where not given), the most memory, and how many times the other program's seconds these are. What
 # both print is compared, byte for byte, before anything is timed. The jobs:
+# - drill: the drill of 100,000 facts, a third of them withdrawn again, with a view;
 # - covers: 512 regions of two cells each over 256 times: 131,072 imprecise inserts, as many precise ones below them, and the withdrawal of
 #   these again, with a view of everything;
 # - million: 1,000,000 precise inserts over two dimensions without a view;

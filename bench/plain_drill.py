@@ -1,5 +1,5 @@
 #!/usr/bin/env python3
-"""A plain model of the drill, a command that the program does not have yet: plain_drill.py N
+"""A plain model of the drill: plain_drill.py N
 
 It makes a schema, N facts and the withdrawal of every third as lines of a script, does these by the plain model of scripts, and
 prints one line: the number of facts and of rows at the end, how many facts were refreshed, and the count and the sum of all.
