@@ -22,6 +22,8 @@ mod shares;
 #[cfg(test)]
 mod steps;
 #[cfg(test)]
+mod touches;
+#[cfg(test)]
 mod views;
 #[cfg(test)]
 mod whole;
