@@ -12,6 +12,7 @@ top=$(cd -- "$(dirname -- "$0")/.." && pwd -P)
 
 python3 - "$top/crates/library_bench/out/library_bench" "$runs" <<'PYTHON'
 import math
+import os
 import resource
 import subprocess
 import sys
@@ -22,13 +23,13 @@ program, runs = sys.argv[1], int(sys.argv[2])
 
 
 def once(words, reply, text):
-    """The milliseconds of a run over a text, and those of a processor. The run must print the reply."""
+    """The milliseconds of a run over a text, and those of a processor. The run must print the reply, where one is given."""
     used = resource.getrusage(resource.RUSAGE_CHILDREN)
     start = time.monotonic()
     printed = subprocess.run([program, *map(str, words)], check=True, capture_output=True, text=True, input=text).stdout
     seconds = time.monotonic() - start
     now = resource.getrusage(resource.RUSAGE_CHILDREN)
-    if printed != f"{reply[0]} {reply[1]}\n":
+    if reply is not None and printed != f"{reply[0]} {reply[1]}\n":
         sys.exit(f"bench: {words} prints {printed}")
     return 1000 * seconds, 1000 * (now.ru_utime - used.ru_utime + now.ru_stime - used.ru_stime)
 
@@ -42,6 +43,36 @@ def row(task, before, after, times):
     """Prints what one of so many times takes, by runs before and after."""
     clock, processor = ((b - a) / times for a, b in zip(least(*before), least(*after)))
     print(f"| {task:52} | {clock:9.1f} | {processor:9.1f} |")
+
+
+def calls(task, before, after, times):
+    """Prints the microseconds of each of so many calls that a run makes beyond one before."""
+    clock, processor = (1000 * (b - a) / times for a, b in zip(least(before, None), least(after, None)))
+    print(f"| {f'{task}, in microseconds':52} | {clock:9.2f} | {processor:9.2f} |")
+
+
+def peak(words, reply):
+    """The most bytes that a run holds at once. The run must print the reply."""
+    run = subprocess.Popen([program, *map(str, words)], stdin=subprocess.DEVNULL, stdout=subprocess.PIPE, text=True)
+    printed = run.stdout.read()
+    _, status, used = os.wait4(run.pid, 0)
+    if status != 0 or printed != f"{reply[0]} {reply[1]}\n":
+        sys.exit(f"bench: {words} ends with {status} and prints {printed}")
+    return 1024 * used.ru_maxrss
+
+
+def memory(order, puts):
+    """Prints how many bytes a fact of a list takes, by what a run without facts holds and one with so many."""
+    each = (peak((order, puts, 0), left(order, puts, 0)) - peak((order, 0, 0), (0, 0))) / puts
+    print(f"| {f'bytes a fact of {puts}, ids {order}':52} | {each:9.1f} | {'':9} |")
+
+
+def compare(what, word, count, numbers):
+    """Runs a task that compares: each of so many answers must be equal."""
+    printed = subprocess.run([program, word, *map(str, numbers)], check=True, capture_output=True, text=True, input="").stdout
+    if printed.split()[0] != str(count):
+        sys.exit(f"bench: {word} finds {printed.split()[0]} of {count} equal")
+    print(f"| {f'{count} {what}: all equal':52} | {'':9} | {'':9} |")
 
 
 def cells(shape):
@@ -110,7 +141,8 @@ def fractions(what, dens, exact):
 def groups(what, dens):
     text = "".join(f"{den}\n" for den in dens)
     done = len(dens), max(dens)
-    row(f"group 1 over {len(dens)} numbers, {what}", (("terms", 1), done, text), (("terms", 4), done, text), 3)
+    for word, how in ("terms", ""), ("shares", " at once"):
+        row(f"group{how} 1 over {len(dens)} numbers, {what}", ((word, 1), done, text), ((word, 4), done, text), 3)
 
 
 def schema(leaves):
@@ -148,6 +180,15 @@ allocations("weighed", "each weighing 1", [1024, 1024])
 for order in "ascending", "shuffled":
     for puts in 250_000, 500_000, 1_000_000:
         facts(order, puts, puts // 2)
+for order in "ascending", "shuffled":
+    memory(order, 1_000_000)
+compare("steps, and allocations anew", "compare-steps", 10_000, (10_000, 16, 16))
+compare("covers, and walks through all facts", "compare-covers", 10_000, (1_000, 10_000, 2, 3, 2, 4))
+compare("edits with a view, and without one", "compare-views", 10_000, (10_000, 2, 3))
+calls("step among 2^20 cells, some 30000 rows", ("steps", 19_000, 1024, 1024), ("steps", 21_000, 1024, 1024), 2_000)
+calls("cover among 100000 regions of 4 dimensions", ("covers", 100_000, 0, 64, 64, 64, 64), ("covers", 100_000, 100_000, 64, 64, 64, 64), 100_000)
+for views in 0, 1, 2:
+    calls(f"put of a fact, {views} views", ("puts", 20_000, views, 128, 128), ("puts", 120_000, views, 128, 128), 100_000)
 smooth = divisors({2: 12, 3: 8, 5: 5, 7: 4, 11: 3, 13: 2, 17: 2, 19: 1, 23: 1, 29: 1, 31: 1}, 2**60)
 groups("ascending", range(1, 10_001))
 groups("in no order", [1 + place * 7_001 % 10_007 for place in range(10_000)])

@@ -1,2 +1,3 @@
 pub mod Light
 pub mod Counts
+pub mod Units

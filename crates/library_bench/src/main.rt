@@ -1,15 +1,22 @@
 //! Gives the libraries large tasks, for the scripts of `bench/`, which time them. The first word names the task, and its
 //! numbers follow: `cells ROUNDS LEAVES..`, `evenly ROUNDS LEAVES..`, `weighed ROUNDS LEAVES..`,
-//! `ascending PUTS TAKES`, `shuffled PUTS TAKES`, and, over a text from standard input, `terms ROUNDS`, `fractions ROUNDS`,
-//! `quotients ROUNDS`, `schemas ROUNDS`, `lines ROUNDS` and `replies ROUNDS`. Prints two numbers by which the script sees
-//! that the task was done.
+//! `ascending PUTS TAKES`, `shuffled PUTS TAKES`, `steps STEPS LEAVES..`, `covers FACTS CELLS GROUPS..`,
+//! `puts PUTS VIEWS GROUPS..`; steps, covers and views compared with answers made anew, `compare-steps STEPS LEAVES..`,
+//! `compare-covers FACTS CELLS GROUPS..` and `compare-views EDITS GROUPS..`; and, over a text from standard input,
+//! `terms ROUNDS`, `shares ROUNDS`, `fractions ROUNDS`, `quotients ROUNDS`, `schemas ROUNDS`, `lines ROUNDS` and
+//! `replies ROUNDS`. Prints two numbers by which the script sees that the task was done.
 #![tactic(auto)]
 
 mod cells;
+mod covers;
 mod facts;
 mod fractions;
+mod random;
+mod shares;
 mod spaces;
+mod steps;
 mod texts;
+mod views;
 
 use anyhow::{Context, Result, bail};
 use cell_weight::{ByCount, Uniform};
@@ -44,7 +51,34 @@ fn done(
         "weighed" => cells::spread(alloc, &Uniform, first, numbers),
         "ascending" => facts::put_and_take(alloc, facts::ASCENDING, first, numbers),
         "shuffled" => facts::put_and_take(alloc, facts::SHUFFLED, first, numbers),
+        "steps" => steps::step_often(alloc, first, numbers),
+        "covers" => covers::cover_often(alloc, first, numbers),
+        "puts" => views::put_often(alloc, first, numbers),
+        _ => done_otherwise(alloc, task, first, numbers, text),
+    }
+}
+
+/// Does a task that compares, or is over a text.
+fn done_otherwise(
+    alloc: Global,
+    task: &str,
+    first: u32,
+    numbers: &[String],
+    text: &str,
+) -> Result<(u64, u64)> {
+    match task {
+        "compare-steps" => steps::step_and_compare(alloc, first, numbers),
+        "compare-covers" => covers::cover_and_compare(alloc, first, numbers),
+        "compare-views" => views::edit_and_compare(alloc, first, numbers),
+        _ => done_over_text(alloc, task, first, text),
+    }
+}
+
+/// Does a task over a text.
+fn done_over_text(alloc: Global, task: &str, first: u32, text: &str) -> Result<(u64, u64)> {
+    match task {
         "terms" => fractions::group(alloc, first, text),
+        "shares" => shares::group_at_once(alloc, first, text),
         "fractions" => fractions::sum(alloc, first, text),
         "quotients" => fractions::divide(alloc, first, text),
         "schemas" => texts::schemas(alloc, first, text),
