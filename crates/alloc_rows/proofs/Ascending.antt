@@ -1,5 +1,5 @@
 -- Rows of a region's cells over their sum are an allocation.
-use Rattle.std.proofs.Common.{◌≡◌, ℕ, ◌<◌, ◌≤◌, true, List, [], ◌∷◌, length, map, refl, ap, sym, ◌∙◌, arith}
+use Rattle.std.proofs.Common.{◌≡◌, ℕ, zero, suc, ◌<◌, ◌≤◌, true, List, [], ◌∷◌, length, map, refl, ap, sym, ◌∙◌, arith}
 use Rattle.std.proofs.lemmas.Bool.Decides.{nat_tests}
 use Rattle.std.proofs.lemmas.List.Elements.{filter_passes}
 use Rattle.std.proofs.lemmas.List.Sums.{sum_by-cons}
@@ -52,3 +52,17 @@ pub IsAllocation-even : (dims : List Dimension) (region : List ℕ) (den : ℕ) 
     → den ≡ length (cells_of dims region) → rows ≡ map (λ cell. (cell, 1)) (cells_of dims region) → 1 ≤ den → den ≤ MAX_CELLS → IsAllocation (record { den = den; rows = rows })
 IsAllocation-even dims region den rows count are some few =
     IsAllocation-weighed (λ cell. 1) dims region den rows (count ∙ sum_by-ones (cells_of dims region)) (are ∙ rows_of-even (cells_of dims region)) some (omega arith)
+
+-- and so is the row of one cell
+one-weighs : (cell : ℕ) → All {X = ℕ × ℕ} (λ row. 1 ≤ row.1) ((cell, 1) ∷ [])
+one-weighs cell zero d within = omega arith
+one-weighs cell (suc k) d within = absurd (omega arith)
+
+pub IsAllocation-cell : (cell : ℕ) → IsAllocation (record { den = 1; rows = (cell, 1) ∷ [] })
+IsAllocation-cell cell = record {
+  ascending = grind (arith, nat_tests);
+  weights = one-weighs cell;
+  total = refl;
+  some = omega arith;
+  limit = omega arith;
+}

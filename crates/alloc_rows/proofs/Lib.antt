@@ -1,6 +1,7 @@
 pub mod Ascending
 pub mod Changes
 pub mod OneRow
+pub mod Passing
 pub mod RowPlaces
 pub mod Spreading
 pub mod Stepped

@@ -1,11 +1,10 @@
--- Where a row stands among rows that ascend by cell, and what the rows are with another one there.
-use Rattle.std.proofs.Common.{◌≡◌, ℕ, zero, suc, ◌+◌, ◌<◌, ◌≤◌, Bool, true, false, List, [], ◌∷◌, ◌++◌, take, drop, set, get_or, add-one, length, filter, refl, ap, arith}
+-- Where a row stands among rows that ascend by cell, and which rows are before it and behind it.
+use Rattle.std.proofs.Common.{◌≡◌, ℕ, zero, suc, ◌+◌, ◌<◌, ◌≤◌, Bool, true, false, List, [], ◌∷◌, take, drop, get_or, add-one, length, filter, refl, ap, arith}
 use Rattle.std.proofs.lemmas.Bool.Decides.{nat_tests}
 use Rattle.std.specs.Prelude.{nat_lt}
 use Rattle.cube_base.specs.Search.{IsKeyAt, IsKeyGap}
 use Rattle.cube_model.specs.Ascending.{ascends_from}
 use Rattle.cube_model.proofs.Ascending.{ascends_later}
-use Rattle.alloc_rows.specs.Rows.{row_of, with_row}
 
 abbrev pub no_row : ℕ × ℕ
 no_row = (0, 0)
@@ -34,17 +33,12 @@ filter-back p (row ∷ rows) (suc n) before behind =
     let here : p row ≡ false = before 0 (omega arith) (omega arith) in
     rw (here, filter-back p rows n (λ i lt within. before (suc i) (omega arith) (omega arith)) (λ i le within. behind (suc i) (omega arith) (omega arith))) refl
 
--- what a row is set to, between those before it and those behind
-pub set_parts : (rows : List (ℕ × ℕ)) (at : ℕ) (row : ℕ × ℕ) → at < length rows → set rows at row ≡ take at rows ++ row ∷ drop (at + 1) rows
-set_parts [] at row within = absurd (omega arith)
-set_parts (r ∷ rows) zero row within = refl
-set_parts (r ∷ rows) (suc at) row within = rw add-one (ap (λ rest. r ∷ rest) (rw add-one at (set_parts rows at row (omega arith))))
-
 module _ (rows : List (ℕ × ℕ)) (cell place : ℕ) (ascends : ascends_from key 0 rows ≡ true) (at : IsKeyAt key no_row rows cell place) where
   rises : (i j : ℕ) → i < j → j < length rows → key (get_or rows i no_row) < key (get_or rows j no_row)
   rises i j before within = ascends_later key 0 rows ascends i j no_row no_row before within
 
-  below_at : filter (λ row. nat_lt row.0 cell) rows ≡ take place rows
+  -- the rows before it are of smaller cells
+  pub below_at : filter (λ row. nat_lt row.0 cell) rows ≡ take place rows
   below_at = filter-front (λ row. nat_lt row.0 cell) rows place (λ i lt within. smaller i lt) (λ i le within. later i le within)
     where
       smaller : (i : ℕ) → i < place → nat_lt (get_or rows i no_row).0 cell ≡ true
@@ -53,8 +47,9 @@ module _ (rows : List (ℕ × ℕ)) (cell place : ℕ) (ascends : ascends_from k
       later : (i : ℕ) → place ≤ i → i < length rows → nat_lt (get_or rows i no_row).0 cell ≡ false
       later i le within = grind (arith, nat_tests, at.has_key, rises place i, λ (same : place ≡ i). ap (λ n. key (get_or rows n no_row)) same)
 
-  above_at : filter (λ row. nat_lt cell row.0) rows ≡ drop (suc place) rows
-  above_at = filter-back (λ row. nat_lt cell row.0) rows (suc place) (λ i lt within. sooner i lt) (λ i le within. greater i le within)
+  -- those behind it are of greater ones
+  pub above_at : filter (λ row. nat_lt cell row.0) rows ≡ drop (place + 1) rows
+  above_at = rw add-one (filter-back (λ row. nat_lt cell row.0) rows (suc place) (λ i lt within. sooner i lt) (λ i le within. greater i le within))
     where
       sooner : (i : ℕ) → i < suc place → nat_lt cell (get_or rows i no_row).0 ≡ false
       sooner i lt = grind (arith, nat_tests, at.has_key, at.in_range, rises i place, λ (same : i ≡ place). ap (λ n. key (get_or rows n no_row)) same)
@@ -62,17 +57,11 @@ module _ (rows : List (ℕ × ℕ)) (cell place : ℕ) (ascends : ascends_from k
       greater : (i : ℕ) → suc place ≤ i → i < length rows → nat_lt cell (get_or rows i no_row).0 ≡ true
       greater i le within = grind (arith, nat_tests, at.has_key, rises place i (omega arith) within)
 
-  -- its row is set where it is
-  pub with_row-at : (weight : ℕ) → take place rows ++ (row_of cell weight ++ drop (place + 1) rows) ≡ with_row rows cell weight
-  with_row-at weight = rw (below_at, above_at, add-one) refl
-
 module _ (rows : List (ℕ × ℕ)) (cell place : ℕ) (gap : IsKeyGap key no_row rows cell place) where
-  below_gap : filter (λ row. nat_lt row.0 cell) rows ≡ take place rows
+  -- the rows before a gap are of smaller cells
+  pub below_gap : filter (λ row. nat_lt row.0 cell) rows ≡ take place rows
   below_gap = filter-front (λ row. nat_lt row.0 cell) rows place (λ i lt within. grind (arith, nat_tests, gap.smaller_before i lt)) (λ i le within. grind (arith, nat_tests, gap.greater_after i le within))
 
-  above_gap : filter (λ row. nat_lt cell row.0) rows ≡ drop place rows
+  -- those from it on are of greater ones
+  pub above_gap : filter (λ row. nat_lt cell row.0) rows ≡ drop place rows
   above_gap = filter-back (λ row. nat_lt cell row.0) rows place (λ i lt within. grind (arith, nat_tests, gap.smaller_before i lt)) (λ i le within. grind (arith, nat_tests, gap.greater_after i le within))
-
-  -- a new row goes into its gap
-  pub with_row-gap : (weight : ℕ) → take place rows ++ (row_of cell weight ++ drop place rows) ≡ with_row rows cell weight
-  with_row-gap weight = rw (below_gap, above_gap) refl

@@ -1,14 +1,16 @@
 -- What is spread over a region, for facts and over its cells.
 use Rattle.std.proofs.Common.{◌≡◌, ℕ, suc, ◌<◌, Bool, true, false, List, [], ◌∷◌, length, map, refl, ap, ◌∙◌, subst, arith}
+use Rattle.std.proofs.lemmas.Bool.Decides.{nat_tests}
 use Rattle.std.proofs.lemmas.List.Elements.{All-filter, All-map}
 use Rattle.std.proofs.lemmas.List.Sums.{sum_by-cons}
 use Rattle.std.specs.List.{sum_by}
-use Rattle.std.specs.Prelude.{All, IfOk, Ok, Err, Result, nat_lt, ◌==◌, if◌then◌else◌}
+use Rattle.std.specs.Prelude.{All, IfOk, Ok, Err, None, Some, Result, nat_lt, ◌==◌, if◌then◌else◌}
 use Rattle.cube_model.specs.declared.edit.Fact.{Fact}
 use Rattle.cube_model.specs.declared.statistic.CellStat.{CellStat}
 use Rattle.cube_model.specs.Allocation.{Allocation, Policy, allocation, rows_of, stat_of, spread, spread_by, spread_evenly}
 use Rattle.cube_model.specs.Cells.{AreRows, all_cells, cells_of, is_single}
 use Rattle.cube_model.specs.Tree.{Dimension}
+use Rattle.region_algebra.specs.Space.{only_cell}
 use Rattle.region_algebra.proofs.Spaces.{cells-within}
 use Rattle.cell_weight.specs.Stats.{stat_at}
 use Rattle.staged_map.specs.Staged.{Places}
@@ -35,6 +37,17 @@ spread-same v w cells same = rw (sum_by-same v w cells same, rows_of-same v w ce
 pub spread-several : (weight : ℕ → ℕ) (cells : List ℕ) (total : ℕ) (rows : List (ℕ × ℕ)) → is_single cells ≡ false → total ≡ sum_by weight cells → rows ≡ rows_of weight cells
     → (if total == 0 then spread_evenly cells else record { den = total; rows = rows }) ≡ spread weight cells
 spread-several weight cells total rows several sum are = rw (several, sum, are) refl
+
+-- what is spread over one cell, and that several are not one
+pub spread-only : (weight : ℕ → ℕ) (cells : List ℕ) (cell : ℕ) → only_cell cells ≡ Some cell → spread weight cells ≡ record { den = 1; rows = (cell, 1) ∷ [] }
+spread-only weight [] cell only = cc
+spread-only weight (first ∷ []) cell only = grind (arith, only)
+spread-only weight (first ∷ second ∷ cells) cell only = cc
+
+pub several-only : (cells : List ℕ) → only_cell cells ≡ None → is_single cells ≡ false
+several-only [] none = refl
+several-only (first ∷ []) none = cc
+several-only (first ∷ second ∷ cells) none = grind (arith, nat_tests)
 
 -- what is spread by the statistics of facts is the facts' allocation
 allocation-spread : (policy : Policy) (dims : List Dimension) (facts : List Fact) (fact : Fact) (stats : ℕ → CellStat)

@@ -1,5 +1,5 @@
 //! An allocation, and how much of it lies inside a region.
-ghost use Rattle.std.specs.Prelude.{◌≡◌, ◌≤◌, IfOk};
+ghost use Rattle.std.specs.Prelude.{◌≡◌, ◌≤◌, [], ◌∷◌, IfOk};
 ghost use Rattle.cube_model.specs.Answer.{weight_inside};
 ghost use Rattle.cube_model.specs.Cells.{AreRows, cells_of};
 ghost use Rattle.region_algebra.specs.Inside.{cells_inside};
@@ -40,6 +40,16 @@ impl Alloc {
     {
         let rows = SharedPairs::from_vec(alloc, rows)?;
         Ok(Alloc { den, rows })
+    }
+
+    /// The row of one cell, which is all there is. It takes no memory.
+    pub(crate) fn of_cell(alloc: Global, cell: u64) -> Self
+        ensures { result ≡ record { den = 1; rows = (cell, 1) ∷ [] } }
+    {
+        Alloc {
+            den: 1,
+            rows: SharedPairs::one(alloc, (cell, 1)),
+        }
     }
 
     /// The denominator: the sum of the rows' weights.

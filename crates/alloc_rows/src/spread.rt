@@ -2,7 +2,7 @@
 ghost use Rattle.std.specs.Prelude.{◌≡◌, ◌<◌, ◌≤◌, ◌==◌, if◌then◌else◌, IfOk, length};
 ghost use Rattle.std.specs.List.{sum_by};
 ghost use Rattle.cube_model.specs.Allocation.{rows_of, spread, spread_evenly};
-ghost use Rattle.cube_model.specs.Cells.{AreRows, cells_of, is_single};
+ghost use Rattle.cube_model.specs.Cells.{AreRows, cells_of};
 ghost use Rattle.cube_model.specs.Limits.{DEN_LIMIT, MAX_CELLS};
 ghost use Rattle.cell_weight.specs.Stats.{stat_at};
 ghost use Rattle.region_algebra.specs.Space.{IsRegion};
@@ -37,7 +37,7 @@ pub fn allocate<P: WeightPolicy>(
 }
 
 /// The allocation of every fact in a region, as `allocate` gives it: that depends on the region alone. The conditions are
-/// those of `allocate`.
+/// those of `allocate`. Where the region is one cell, it takes no memory.
 pub fn allocate_at<P: WeightPolicy>(
     alloc: Global,
     space: &Space,
@@ -52,19 +52,11 @@ pub fn allocate_at<P: WeightPolicy>(
     ensures of_facts { IfOk result (IsSpreadOf (P.weigh policy.now) space.now (stat_at stats.now) r) }
     ensures cells { IfOk result (λ a. AreRows space.now a.rows) }
 {
-    if is_single(space, r) {
-        return spread_evenly(alloc, space, r);
+    if let Some(cell) = space.cell_code(r) {
+        return Ok(Alloc::of_cell(alloc, cell));
     }
     let (total, rows) = weigh_cells(alloc, space, policy, stats, r)?;
     settle(alloc, space, r, total, rows)
-}
-
-/// Whether a region is one cell alone.
-fn is_single(space: &Space, r: Region) -> bool
-    requires { IsRegion space.now r }
-    ensures { result ≡ is_single (cells_of space.now r) }
-{
-    space.cell_count(r) == 1
 }
 
 /// The sum of the weights of a region's cells, and the cells that weigh something with their weights, ascending.

@@ -1,5 +1,5 @@
 //! The allocation of a region that steps along with statistics, instead of being made anew.
-ghost use Rattle.std.specs.Prelude.{◌≡◌, ◌+◌, ◌<◌, ◌≤◌, ◌++◌, IfErr, IfOk, OnOk, drop, length, take, true, vec_len};
+ghost use Rattle.std.specs.Prelude.{◌≡◌, ◌<◌, ◌≤◌, ◌++◌, IfErr, IfOk, OnOk, filter, length, nat_lt, true};
 ghost use Rattle.cube_base.specs.Search.{IsKeyAt, IsKeyGap};
 ghost use Rattle.cube_model.specs.Allocation.{spread};
 ghost use Rattle.cube_model.specs.Ascending.{ascends_from};
@@ -9,7 +9,7 @@ ghost use Rattle.cell_weight.specs.Stats.{AreStats, stat_at};
 ghost use Rattle.region_algebra.specs.Space.{IsRegion};
 ghost use Rattle.alloc_rows.specs.Alloc.{AreFewAt, AreFewIn, IsSpreadOf};
 ghost use Rattle.alloc_rows.specs.Changed.{AreChangesAt, stat_after};
-ghost use Rattle.alloc_rows.specs.Rows.{first_weight, row_of, weighted_part, with_row};
+ghost use Rattle.alloc_rows.specs.Rows.{first_weight, row_of, weighted_part};
 
 use crate::Alloc;
 use crate::spread::settle;
@@ -30,7 +30,7 @@ const MAX_CHANGES: usize = 2;
 /// and after. At most two cells change, ascending; they are cells of the region, and their new statistics are such as
 /// facts can have.
 ///
-/// It copies the rows and sets, puts in or takes away the changed ones; the others keep their order. It goes over the cells of
+/// It copies the rows once, in parts: those before a changed cell, then its own in place of what it had. It goes over the cells of
 /// the region only where after the changes all of them weigh 0.
 pub fn step<P: WeightPolicy>(
     alloc: Global,
@@ -52,34 +52,33 @@ pub fn step<P: WeightPolicy>(
     ensures of_facts { IfOk result (IsSpreadOf (P.weigh policy.now) space.now (stat_after (stat_at stats.now) changed.now) r) }
     ensures cells { IfOk result (λ a. AreRows space.now a.rows) }
 {
-    let (mut total, mut rows) = copy_weighted(alloc, policy, stats, old)?;
+    let (mut total, mut rest) = weighted(policy, stats, old);
+    let mut rows = Vec::with_capacity(alloc, rest.len() + MAX_CHANGES)?;
     for (cell, before, after) in changed {
         let weight = policy.weight(*after);
         total = total - policy.weight(*before) + weight;
-        put_row(&mut rows, *cell, weight)?;
+        rest = pass_cell(&mut rows, rest, *cell, weight)?;
     }
+    rows.extend_from_slice(rest)?;
     settle(alloc, space, r, total, rows)
 }
 
-/// The rows that an allocation has by weight, and their sum: none where it is even, since all cells weigh 0. Even rows show
-/// by the first of them: its cell weighs 0, as that of no row by weight does.
-fn copy_weighted<P: WeightPolicy>(
-    alloc: Global,
+/// The sum of the rows that an allocation has by weight, and these: none where it is even, since all cells weigh 0. Even rows
+/// show by the first of them: its cell weighs 0, as that of no row by weight does.
+fn weighted<'a, P: WeightPolicy>(
     policy: &P,
     stats: &StatIndex,
-    old: &Alloc,
-) -> Result<(u64, Vec<(u64, u64)>), Memory>
-    ensures total { IfOk result (λ copied. copied.0 ≡ (weighted_part (λ cell. P.weigh policy.now (stat_at stats.now cell)) old.now).den) }
-    ensures rows { IfOk result (λ copied. copied.1.items ≡ (weighted_part (λ cell. P.weigh policy.now (stat_at stats.now cell)) old.now).rows) }
+    old: &'a Alloc,
+) -> (u64, &'a [(u64, u64)])
+    ensures total { result.0 ≡ (weighted_part (λ cell. P.weigh policy.now (stat_at stats.now cell)) old.now).den }
+    ensures rows { result.1.now ≡ (weighted_part (λ cell. P.weigh policy.now (stat_at stats.now cell)) old.now).rows }
     ensures possible { AreStats stats.now }
 {
     let rows = old.rows();
     if weigh_first(policy, stats, rows) == 0 {
-        return Ok((0, Vec::new(alloc)));
+        return (0, &[]);
     }
-    let mut copies = Vec::with_capacity(alloc, rows.len() + MAX_CHANGES)?;
-    copies.extend_from_slice(rows)?;
-    Ok((old.den(), copies))
+    (old.den(), rows)
 }
 
 /// What the cell of the first row weighs.
@@ -91,40 +90,36 @@ fn weigh_first<P: WeightPolicy>(policy: &P, stats: &StatIndex, rows: &[(u64, u64
     policy.weight(stats.stat(rows[0].0))
 }
 
-/// Gives a cell a weight among rows that ascend by cell: its row is set, put in or, at weight 0, taken away.
-fn put_row(rows: &mut Vec<(u64, u64)>, cell: u64, weight: u64) -> Result<(), Memory>
-    requires { ascends_from (λ row. row.0) 0 rows.old.items ≡ true }
-    ensures { OnOk result (rows.new.items ≡ with_row rows.old.items cell weight) }
+/// Appends those of the rest that come before a cell, and the cell's row by its new weight: none at weight 0. What comes behind
+/// the cell is left.
+fn pass_cell<'a>(
+    rows: &mut Vec<(u64, u64)>,
+    rest: &'a [(u64, u64)],
+    cell: u64,
+    weight: u64,
+) -> Result<&'a [(u64, u64)], Memory>
+    requires { ascends_from (λ row. row.0) 0 rest.now ≡ true }
+    ensures passed { OnOk result (rows.new.items ≡ rows.old.items ++ (filter (λ row. nat_lt row.0 cell) rest.now ++ row_of cell weight)) }
+    ensures left { IfOk result (λ left. left.now ≡ filter (λ row. nat_lt cell row.0) rest.now) }
+{
+    let (smaller, greater) = part_at(rest, cell);
+    rows.extend_from_slice(smaller)?;
+    if weight > 0 {
+        rows.push((cell, weight))?;
+    }
+    Ok(greater)
+}
+
+/// The rows of smaller cells and those of greater ones.
+fn part_at(rows: &[(u64, u64)], cell: u64) -> (&[(u64, u64)], &[(u64, u64)])
+    requires { ascends_from (λ row. row.0) 0 rows.now ≡ true }
+    ensures smaller { result.0.now ≡ filter (λ row. nat_lt row.0 cell) rows.now }
+    ensures greater { result.1.now ≡ filter (λ row. nat_lt cell row.0) rows.now }
 {
     match search(rows, cell) {
-        Ok(at) => set_row(rows, at, cell, weight),
-        Err(at) => insert_row(rows, at, cell, weight)?,
+        Ok(at) => (&rows[..at], &rows[at + 1..]),
+        Err(at) => (&rows[..at], &rows[at..]),
     }
-    Ok(())
-}
-
-/// Gives the row at a place this cell and weight. At weight 0 it is taken away.
-#[tactic(auto, using(crate::proofs::RowPlaces::set_parts))]
-fn set_row(rows: &mut Vec<(u64, u64)>, at: usize, cell: u64, weight: u64)
-    requires { at < vec_len rows.old }
-    ensures { rows.new.items ≡ take at rows.old.items ++ (row_of cell weight ++ drop (at + 1) rows.old.items) }
-{
-    if weight == 0 {
-        rows.remove(at);
-    } else {
-        rows[at] = (cell, weight);
-    }
-}
-
-/// Puts a row of this cell and weight before that at a place. At weight 0 there is none.
-fn insert_row(rows: &mut Vec<(u64, u64)>, at: usize, cell: u64, weight: u64) -> Result<(), Memory>
-    requires { at ≤ vec_len rows.old }
-    ensures { OnOk result (rows.new.items ≡ take at rows.old.items ++ (row_of cell weight ++ drop at rows.old.items)) }
-{
-    if weight > 0 {
-        rows.insert(at, (cell, weight))?;
-    }
-    Ok(())
 }
 
 /// Where the row of a cell is, or where it would go.
