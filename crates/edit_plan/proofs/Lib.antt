@@ -10,6 +10,7 @@ pub mod Copying
 pub mod CountedOnce
 pub mod Covering
 pub mod Drafted
+pub mod FactsGiven
 pub mod FlatLists
 pub mod GroupAnswers
 pub mod GroupSeen

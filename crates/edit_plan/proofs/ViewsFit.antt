@@ -1,9 +1,9 @@
 -- What an edit changes in views of facts: with it they are those of the facts after, and each entry can be changed so.
-use Rattle.std.proofs.Common.{◌≡◌, ℕ, ◌+◌, ◌*◌, ◌≤◌, true, List, [], ◌∷◌, ◌++◌, refl, ap, sym, ◌∙◌, subst, arith, ◌+ℤ◌}
+use Rattle.std.proofs.Common.{◌≡◌, ℕ, ◌+◌, ◌*◌, ◌≤◌, true, List, [], ◌∷◌, ◌++◌, get_or, map, refl, ap, sym, ◌∙◌, subst, arith, ◌+ℤ◌}
 use Rattle.std.specs.Prelude.{All, ◌||◌, Option}
 use Rattle.std.specs.List.{flat_map}
 use Rattle.std.specs.List.Sorted.{IsStrictlyIncreasing}
-use Rattle.std.proofs.lemmas.List.Elements.{All-weaker}
+use Rattle.std.proofs.lemmas.List.Elements.{All-map, All-weaker}
 use Rattle.cube_model.specs.declared.edit.Edit.{Edit}
 use Rattle.cube_model.specs.declared.edit.Fact.{Fact}
 use Rattle.cube_model.specs.declared.statistic.CellStat.{CellStat}
@@ -31,11 +31,13 @@ use Rattle.edit_plan.specs.Refreshing.{IsRegrouped}
 use Rattle.edit_plan.specs.Regrouped.{HoldChanged, is_edited_at, is_spread_anew, regrouped}
 use Rattle.facts_kept.specs.Kept.{IsState}
 use Rattle.edit_plan.specs.State.{StateValue, policy_in, rows_after, rows_in}
-use Rattle.edit_plan.specs.ViewChanges.{changes_at, changes_by}
+use Rattle.facts_kept.specs.ViewChanges.{AreOfRegions, IsOfRegion}
+use Rattle.edit_plan.specs.ViewChanges.{EntriesAreOfRegions, changes_at, changes_by}
 use Rattle.facts_kept.proofs.ChangedEntries.{IsPlaced, StandFor, fits-views}
 use Rattle.facts_kept.proofs.ChangeGroups.{given-groups, taken-groups}
 use Rattle.edit_plan.proofs.CodeChanges.{changes_with, each-with, given-with, taken-with}
 use Rattle.edit_plan.proofs.GroupSeen.{move-seen}
+use Rattle.facts_kept.proofs.GroupRegions.{group-of_region, group-region, of-regions}
 use Rattle.facts_kept.proofs.HeldGroups.{group-rows}
 use Rattle.edit_plan.proofs.LeftOut.{groups-left_out}
 use Rattle.facts_kept.proofs.ValidFacts.{valid-regions}
@@ -66,7 +68,7 @@ module _ (weigh : CellStat → ℕ) (bound : (s : CellStat) → IsStat s → wei
   changed = regrouped policy width dims edit facts codes
 
   abbrev changes : List ViewChange
-  changes = changes_with before now changed
+  changes = changes_with dims before now changed
 
   later-valid : AreValid shape dims later
   later-valid = valid-later shape dims edit facts move
@@ -88,10 +90,10 @@ module _ (weigh : CellStat → ℕ) (bound : (s : CellStat) → IsStat s → wei
 
   -- the facts follow
   taken-are : taken changes ≡ flat_map group_facts (groups_at policy width dims facts changed)
-  taken-are = taken-groups changes ∙ ap (flat_map group_facts) (taken-with before now changed)
+  taken-are = taken-groups changes ∙ ap (flat_map group_facts) (taken-with dims before now changed)
 
   given-are : given changes ≡ flat_map group_facts (groups_at policy width dims later changed)
-  given-are = given-groups changes ∙ ap (flat_map group_facts) (given-with before now changed)
+  given-are = given-groups changes ∙ ap (flat_map group_facts) (given-with dims before now changed)
 
   follow-groups : FollowBy (extended policy dims facts) (flat_map group_facts (groups_at policy width dims facts changed)) (flat_map group_facts (groups_at policy width dims later changed)) (extended policy dims later)
   follow-groups = record {
@@ -111,19 +113,23 @@ module _ (weigh : CellStat → ℕ) (bound : (s : CellStat) → IsStat s → wei
   stand-for : StandFor dims width (extended policy dims facts) changes others
   stand-for = record {
     each =
-        each-with before now (IsPlaced dims width)
-        (λ code g there. record { modest = group-modest weigh bound shape dims facts is move.trees move.valid code g there; cells = group-rows policy width dims facts code g there })
-        (λ code g there. record { modest = group-modest weigh bound shape dims later is move.trees later-valid code g there; cells = group-rows policy width dims later code g there })
+        each-with dims before now (IsPlaced dims width)
+        (λ code g there.
+        let lies = group-region policy width dims facts code g move.trees regions there in
+        record { modest = group-modest weigh bound shape dims facts is move.trees move.valid code g there; cells = group-rows policy width dims facts code g there; named = lies.named; inside = lies.inside })
+        (λ code g there.
+        let lies = group-region policy width dims later code g move.trees later-regions there in
+        record { modest = group-modest weigh bound shape dims later is move.trees later-valid code g there; cells = group-rows policy width dims later code g there; named = lies.named; inside = lies.inside })
         changed;
     stay = groups-modest weigh bound shape dims facts is move.trees move.valid (others_of dims changed);
-    counts = λ cells d. counts-split policy width dims changed move.trees up facts regions cells d ∙ ap (λ (gs : List Group). count_in cells gs d + count_in cells others d) (sym (taken-with before now changed));
-    sums = λ cells k d lt. sums-split policy width dims changed move.trees up facts regions cells k d lt ∙ ap (λ (gs : List Group). sum_in cells gs k d +ℤ sum_in cells others k d) (sym (taken-with before now changed));
-    few_before = omega (arith, members-split policy width dims changed move.trees up facts regions, ap members (taken-with before now changed), move.valid.few);
+    counts = λ cells d. counts-split policy width dims changed move.trees up facts regions cells d ∙ ap (λ (gs : List Group). count_in cells gs d + count_in cells others d) (sym (taken-with dims before now changed));
+    sums = λ cells k d lt. sums-split policy width dims changed move.trees up facts regions cells k d lt ∙ ap (λ (gs : List Group). sum_in cells gs k d +ℤ sum_in cells others k d) (sym (taken-with dims before now changed));
+    few_before = omega (arith, members-split policy width dims changed move.trees up facts regions, ap members (taken-with dims before now changed), move.valid.few);
     few_after =
         omega (
           arith,
           members-split policy width dims changed move.trees up later later-regions,
-          ap members (given-with before now changed),
+          ap members (given-with dims before now changed),
           ap members (others-same policy width dims changed move.trees up facts later same),
           later-valid.few,
         );
@@ -132,11 +138,17 @@ module _ (weigh : CellStat → ℕ) (bound : (s : CellStat) → IsStat s → wei
   pub fit-changes : (views : List ViewMap) → All (IsViewOfFacts dims (extended policy dims facts)) views → All (λ view. view.columns ≡ width + 1) views → All (FitsView dims changes) views
   fit-changes = fits-views dims width (extended policy dims facts) changes others stand-for
 
+-- the codes of groups of facts are those of regions
+entries-of_regions : (policy : Policy) (columns : ℕ) (dims : List Dimension) (facts : List Fact) → All IsTree dims → All (λ f. IsRegion dims f.region) facts → (codes : List ℕ)
+    → EntriesAreOfRegions dims (map (λ code. (code, group_at policy columns dims facts code)) codes)
+entries-of_regions policy columns dims facts trees regions codes =
+    All-map (λ (entry : ℕ × Option Group). IsOfRegion dims entry.0 entry.1) (λ code. (code, group_at policy columns dims facts code)) codes (λ k d within. group-of_region policy columns dims facts trees regions (get_or codes k d))
+
 -- equal groups before are taken away alike
-changes-alike : (f g : ℕ → Option Group) → ((code : ℕ) → f code ≡ g code) → (entries : Entries Group) → changes_by f entries ≡ changes_by g entries
-changes-alike f g equal [] = refl
-changes-alike f g equal (entry ∷ entries) =
-    ap (λ o. changes_at o entry.1 ++ changes_by f entries) (equal entry.0) ∙ ap (λ more. changes_at (g entry.0) entry.1 ++ more) (changes-alike f g equal entries)
+changes-alike : (dims : List Dimension) (f g : ℕ → Option Group) → ((code : ℕ) → f code ≡ g code) → (entries : Entries Group) → changes_by dims f entries ≡ changes_by dims g entries
+changes-alike dims f g equal [] = refl
+changes-alike dims f g equal (entry ∷ entries) =
+    ap (λ o. changes_at dims entry.0 o entry.1 ++ changes_by dims f entries) (equal entry.0) ∙ ap (λ more. changes_at dims entry.0 (g entry.0) entry.1 ++ more) (changes-alike dims f g equal entries)
 
 module _ {P : Type 0} (weigh : P → CellStat → ℕ) (state seen : StateValue P) (shown : seen ≡ state) (kept : IsState (policy_in weigh seen) seen.shape seen.dims seen.cuts seen.facts seen.kept)
     (bound : (s : CellStat) → IsStat s → weigh seen.policy s ≤ 1 + s.count * MAX_VALUE) (is : IsShape seen.shape) (trees : All IsTree seen.dims)
@@ -169,11 +181,25 @@ module _ {P : Type 0} (weigh : P → CellStat → ℕ) (state seen : StateValue 
   abbrev now_here : ℕ → Option Group
   now_here = group_at (policy_in weigh state) width_here state.dims (after moves.edit state.facts)
 
-  module _ (all : List ViewChange) (all_are : all ≡ changes_by (value_at seen.kept.groups) made.groups) where
-    changes-here : all ≡ changes_with before_here now_here (regrouped (policy_in weigh state) width_here state.dims moves.edit state.facts from.codes)
+  -- the codes of groups are those of regions
+  pub kept-of_regions : AreOfRegions seen.dims seen.kept.groups
+  kept-of_regions =
+      subst (λ (s : StateValue P). AreOfRegions s.dims s.kept.groups) (sym shown)
+      (of-regions (policy_in weigh state) width_here state.dims state.facts move-here.trees (valid-regions state.shape state.dims state.facts move-here.valid) state.kept.groups kept-here.groups)
+
+  pub after-of_regions : EntriesAreOfRegions seen.dims made.groups
+  after-of_regions =
+      subst (λ (s : StateValue P). EntriesAreOfRegions s.dims made.groups) (sym shown)
+      (subst (EntriesAreOfRegions state.dims) (sym from.groups)
+      (entries-of_regions (policy_in weigh state) width_here state.dims (after moves.edit state.facts) move-here.trees
+      (valid-regions state.shape state.dims (after moves.edit state.facts) (valid-later state.shape state.dims moves.edit state.facts move-here))
+      (regrouped (policy_in weigh state) width_here state.dims moves.edit state.facts from.codes)))
+
+  module _ (all : List ViewChange) (all_are : all ≡ changes_by seen.dims (value_at seen.kept.groups) made.groups) where
+    changes-here : all ≡ changes_with state.dims before_here now_here (regrouped (policy_in weigh state) width_here state.dims moves.edit state.facts from.codes)
     changes-here =
-        all_are ∙ ap (λ (s : StateValue P). changes_by (value_at s.kept.groups) made.groups) shown ∙ changes-alike (value_at state.kept.groups) before_here kept-here.groups made.groups
-        ∙ ap (changes_by before_here) from.groups
+        all_are ∙ ap (λ (s : StateValue P). changes_by s.dims (value_at s.kept.groups) made.groups) shown ∙ changes-alike state.dims (value_at state.kept.groups) before_here kept-here.groups made.groups
+        ∙ ap (changes_by state.dims before_here) from.groups
 
     pub follow-seen : FollowBy (rows_in weigh state) (taken all) (given all) (rows_after weigh state moves.edit)
     follow-seen =

@@ -1,16 +1,20 @@
 -- What the groups that an edit changes change in views.
-use Rattle.std.specs.Prelude.{ℕ, true, false, List, map, ◌++◌, Option}
+use Rattle.std.specs.Prelude.{ℕ, All, true, false, List, ◌++◌, Option}
 use Rattle.std.specs.List.{flat_map}
-use Rattle.std.specs.Option.{option_to_list}
+use Rattle.cube_model.specs.Tree.{Dimension}
 use Rattle.fact_groups.specs.Groups.{Group}
-use Rattle.facts_kept.specs.ViewChanges.{change_of}
+use Rattle.facts_kept.specs.ViewChanges.{IsOfRegion, changes_of}
 use Rattle.staged_map.specs.Staged.{Entries}
 use Rattle.view_store.specs.declared.change.ViewChange.{ViewChange}
 
 -- the group before is taken away, where there is one, and the group after is put, where there is one
-abbrev pub changes_at : Option Group → Option Group → List ViewChange
-changes_at before now = map (change_of false) (option_to_list before) ++ map (change_of true) (option_to_list now)
+abbrev pub changes_at : List Dimension → ℕ → Option Group → Option Group → List ViewChange
+changes_at dims code before now = changes_of false dims code before ++ changes_of true dims code now
 
 -- so at each of these codes, which have groups of which these are the ones after
-abbrev pub changes_by : (ℕ → Option Group) → Entries Group → List ViewChange
-changes_by before entries = flat_map (λ entry. changes_at (before entry.0) entry.1) entries
+abbrev pub changes_by : List Dimension → (ℕ → Option Group) → Entries Group → List ViewChange
+changes_by dims before entries = flat_map (λ entry. changes_at dims entry.0 (before entry.0) entry.1) entries
+
+-- where there is a group after, the code is that of a region
+abbrev pub EntriesAreOfRegions : List Dimension → Entries Group → Type 0
+EntriesAreOfRegions dims entries = All (λ entry. IsOfRegion dims entry.0 entry.1) entries

@@ -22,7 +22,7 @@ mod storing;
 mod viewing;
 mod whole;
 
-pub use facts_kept::Group;
+pub use facts_kept::{Group, TooMany};
 pub use fault::{PlanAllFault, PlanFault};
 pub use planning::plan;
 pub use prepared::Plan;

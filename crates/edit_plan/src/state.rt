@@ -1,11 +1,13 @@
 //! The state of a cube.
-ghost use Rattle.std.specs.Prelude.{◌≡◌, ◌+◌, ◌≤◌, [], true, All, IfOk, IfSome, length, map};
+ghost use Rattle.std.specs.Prelude.{◌≡◌, ◌+◌, ◌≤◌, [], true, All, IfErr, IfOk, IfSome, OnOk, length, map};
 ghost use Rattle.std.specs.Option.{option_copied};
-ghost use Rattle.cube_model.specs.Allocation.{allocation_of, row_count};
+ghost use Rattle.cube_model.specs.Allocation.{allocation_of, extended, row_count};
 ghost use Rattle.cube_model.specs.Cells.{AreRows};
 ghost use Rattle.cube_model.specs.Facts.{after};
 ghost use Rattle.cube_model.specs.Limits.{MAX_ROWS};
+ghost use Rattle.fact_records.specs.Shape.{policy_over};
 ghost use Rattle.fact_records.specs.Valid.{AreValid};
+ghost use Rattle.facts_kept.specs.Anew.{IsTooMany};
 ghost use Rattle.edit_plan.specs.Plan.{AreAllFor, IsEditFor, IsPlanFor, facts_after, has_room};
 ghost use Rattle.edit_plan.specs.State.{HasFacts, rows_in};
 
@@ -17,7 +19,7 @@ use cell_weight::{StatIndex, WeightPolicy};
 use cube_base::Memory;
 use cube_model::Edit;
 use fact_records::{FactList, Shape};
-use facts_kept::FactsKept;
+use facts_kept::{FactsKept, TooMany, keep_all};
 use region_algebra::{Space, ViewDef};
 use region_index::{RegionIndex, Steps};
 use staged_map::Staged;
@@ -99,6 +101,50 @@ impl<P: WeightPolicy + Drop> State<P> {
             groups: Staged::new(alloc),
             views,
             rows: 0,
+        })
+    }
+
+    /// The state of these facts, with these views, each of which has a depth for each dimension of the space. It is made in one go: each
+    /// region that facts have is spread once. `Rows` is answered exactly where they have more than 2^21 rows, with their
+    /// number, unless memory is wanting.
+    pub fn of_facts(
+        alloc: Global,
+        space: Space,
+        shape: Shape,
+        policy: P,
+        defs: &[ViewDef],
+        facts: FactList,
+    ) -> Result<Self, TooMany>
+        requires depths { All (λ def. length def.depths ≡ length space) defs.now }
+        requires valid { AreValid shape space facts.facts }
+        ensures policy { IfOk result (λ state. state.policy ≡ policy) }
+        ensures dims { IfOk result (λ state. state.dims ≡ space) }
+        ensures shape { IfOk result (λ state. state.shape ≡ shape) }
+        ensures cuts { IfOk result (λ state. state.cuts ≡ map (λ def. def.depths) defs.now) }
+        ensures facts { IfOk result (λ state. state.facts ≡ facts.facts) }
+        ensures few { OnOk result (row_count (extended (policy_over (P.weigh policy) shape) space facts.facts) ≤ MAX_ROWS) }
+        ensures fault { IfErr result (IsTooMany (policy_over (P.weigh policy) shape) space facts.facts) }
+    {
+        let views = Views::new(alloc, defs, shape.columns())?;
+        let FactsKept {
+            facts,
+            stats,
+            index,
+            groups,
+            views,
+            rows,
+        } = keep_all(alloc, &space, &shape, &policy, views, facts)?;
+        Ok(State {
+            alloc,
+            space,
+            shape,
+            policy,
+            facts,
+            stats,
+            index,
+            groups,
+            views,
+            rows,
         })
     }
 

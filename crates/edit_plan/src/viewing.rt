@@ -6,17 +6,19 @@ ghost use Rattle.region_algebra.specs.Space.{IsRegion};
 ghost use Rattle.staged_map.specs.Staged.{value_at};
 ghost use Rattle.view_store.specs.Changes.{FitsViews, given, taken};
 ghost use Rattle.view_store.specs.Facts.{FollowBy};
+ghost use Rattle.facts_kept.specs.ViewChanges.{AreOfRegions, IsOfRegion};
 ghost use Rattle.edit_plan.specs.Moves.{AreMoves};
 ghost use Rattle.edit_plan.specs.Refreshing.{IsRegrouped};
 ghost use Rattle.edit_plan.specs.State.{policy_in, rows_after, rows_in, view_at};
-ghost use Rattle.edit_plan.specs.ViewChanges.{changes_at, changes_by};
+ghost use Rattle.edit_plan.specs.ViewChanges.{EntriesAreOfRegions, changes_at, changes_by};
 
 use crate::moves::Moves;
 use crate::regrouped::Regrouped;
 use crate::{Group, State};
 use cell_weight::WeightPolicy;
 use cube_base::Memory;
-use facts_kept::change_of;
+use facts_kept::push_change;
+use region_algebra::Space;
 use staged_map::Staged;
 use std::alloc::Global;
 use view_store::{ViewChange, ViewList};
@@ -38,7 +40,12 @@ impl<P: WeightPolicy + Drop> State<P> {
         let _ = self.space.dims();
         let _ = self.shape.columns();
         let _ = self.views.columns();
-        changes_by(self.alloc, &self.groups, regrouped.groups.as_slice())
+        changes_by(
+            self.alloc,
+            &self.space,
+            &self.groups,
+            regrouped.groups.as_slice(),
+        )
     }
 
     /// The view at a place, of which there must be one: each region of the product of its cuts in which the facts have terms, with
@@ -58,31 +65,33 @@ impl<P: WeightPolicy + Drop> State<P> {
 /// The changes that take away the groups that are kept at these codes, and put the groups after.
 fn changes_by(
     alloc: Global,
+    space: &Space,
     kept: &Staged<Group>,
     groups: &[(u64, Option<Group>)],
 ) -> Result<Vec<ViewChange>, Memory>
-    ensures { IfOk result (λ changes. changes.items ≡ changes_by (value_at kept.now) groups.now) }
+    requires kept { AreOfRegions space.now kept.now }
+    requires after { EntriesAreOfRegions space.now groups.now }
+    ensures { IfOk result (λ changes. changes.items ≡ changes_by space.now (value_at kept.now) groups.now) }
 {
     let mut changes = Vec::new(alloc);
     for (code, after) in groups {
-        push_changes(&mut changes, kept.get(*code), after.as_ref())?;
+        push_changes(&mut changes, space, *code, kept.get(*code), after.as_ref())?;
     }
     Ok(changes)
 }
 
-/// Adds the change that takes a group before away, and the one that puts the group after.
+/// Adds the change that takes the group before at a code away, and the one that puts the group after.
 fn push_changes(
     changes: &mut Vec<ViewChange>,
+    space: &Space,
+    code: u64,
     before: Option<&Group>,
     after: Option<&Group>,
 ) -> Result<(), Memory>
-    ensures { OnOk result (changes.new.items ≡ changes.old.items ++ changes_at (option_copied before.entry) (option_copied after.entry)) }
+    requires before { IsOfRegion space.now code (option_copied before) }
+    requires after { IsOfRegion space.now code (option_copied after) }
+    ensures { OnOk result (changes.new.items ≡ changes.old.items ++ changes_at space.now code (option_copied before.entry) (option_copied after.entry)) }
 {
-    if let Some(group) = before {
-        changes.push(change_of(false, group)?)?;
-    }
-    if let Some(group) = after {
-        changes.push(change_of(true, group)?)?;
-    }
-    Ok(())
+    push_change(changes, false, space, code, before)?;
+    push_change(changes, true, space, code, after)
 }

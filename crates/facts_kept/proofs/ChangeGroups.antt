@@ -1,12 +1,15 @@
 -- What changes of views put and take away, as groups of facts.
 use Rattle.std.proofs.Common.{◌≡◌, ℕ, zero, suc, ◌≤◌, Bool, true, false, List, [], ◌∷◌, ◌++◌, map, take, refl, ap, arith}
-use Rattle.std.specs.Prelude.{All, filter, not, if◌then◌else◌}
-use Rattle.std.specs.List.{flat_map}
+use Rattle.std.specs.Prelude.{All, filter, not, if◌then◌else◌, Option, Some, None}
+use Rattle.std.specs.List.{cons_option, flat_map}
 use Rattle.std.proofs.lemmas.List.Elements.{All-cons, All-head, All-nil, All-tail}
 use Rattle.std.proofs.lemmas.List.Sums.{sum_by-cons}
+use Rattle.cube_model.specs.Tree.{Dimension}
 use Rattle.fact_groups.specs.Groups.{Group, group_facts}
 use Rattle.view_store.specs.declared.change.ViewChange.{ViewChange}
 use Rattle.view_store.specs.Changes.{facts_of, given, taken}
+use Rattle.view_store.specs.Views.{region_at}
+use Rattle.facts_kept.specs.ViewChanges.{change_of, changes_of}
 use Rattle.facts_kept.proofs.Modest.{members}
 
 -- the group of a change
@@ -70,3 +73,22 @@ module _ (kind : ViewChange → Bool) where
       either : (b : Bool) → All P (groups_that kind (take n changes)) → All P (map group_of (if b then change ∷ filter kind (take n changes) else filter kind (take n changes)))
       either true rest = All-cons P (group_of change) (groups_that kind (take n changes)) (All-head (λ change. P (group_of change)) change changes each) rest
       either false rest = rest
+
+module _ (dims : List Dimension) where
+  -- what the group at a code, if there is one, puts or takes away
+  pub taken-of : (put : Bool) (code : ℕ) (o : Option Group) (changes : List ViewChange) → groups_that takes_away (changes_of put dims code o ++ changes) ≡ (if put then groups_that takes_away changes else cons_option o (groups_that takes_away changes))
+  taken-of true code None changes = refl
+  taken-of true code (Some g) changes = refl
+  taken-of false code None changes = refl
+  taken-of false code (Some g) changes = refl
+
+  pub given-of : (put : Bool) (code : ℕ) (o : Option Group) (changes : List ViewChange) → groups_that puts (changes_of put dims code o ++ changes) ≡ (if put then cons_option o (groups_that puts changes) else groups_that puts changes)
+  given-of true code None changes = refl
+  given-of true code (Some g) changes = refl
+  given-of false code None changes = refl
+  given-of false code (Some g) changes = refl
+
+  -- what holds of it and its region holds of those of its change
+  pub each-of : (P : List ℕ → Group → Type 0) (put : Bool) (code : ℕ) (o : Option Group) → ((g : Group) → o ≡ Some g → P (region_at dims code) g) → All (λ change. P change.region (group_of change)) (changes_of put dims code o)
+  each-of P put code None each = All-nil (λ change. P change.region (group_of change))
+  each-of P put code (Some g) each = All-cons (λ change. P change.region (group_of change)) (change_of put (region_at dims code) g) [] (each g refl) (All-nil (λ change. P change.region (group_of change)))

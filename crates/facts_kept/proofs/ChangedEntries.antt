@@ -1,5 +1,5 @@
 -- Entries of views can be changed where what is taken away is part of the facts, and there are few facts before and after.
-use Rattle.std.proofs.Common.{◌≡◌, ℕ, ◌+◌, ◌*◌, ◌-◌, ◌<◌, ◌≤◌, List, [], ◌∷◌, take, ap, sym, ◌∙◌, subst, inl, inr, arith, ℤ, ◌+ℤ◌}
+use Rattle.std.proofs.Common.{◌≡◌, ℕ, ◌+◌, ◌*◌, ◌-◌, ◌<◌, ◌≤◌, true, List, [], ◌∷◌, take, ap, sym, ◌∙◌, subst, inl, inr, arith, ℤ, ◌+ℤ◌}
 use Rattle.std.specs.Prelude.{All, nat_abs, ◌-ℤ◌}
 use Rattle.std.specs.List.{flat_map}
 use Rattle.std.proofs.lemmas.Int.{ints}
@@ -7,9 +7,10 @@ use Rattle.std.proofs.lemmas.List.Elements.{All-cons, All-head, All-nil, All-tai
 use Rattle.cube_model.specs.declared.term.Term.{Term}
 use Rattle.cube_model.specs.Allocation.{ExtendedFact}
 use Rattle.cube_model.specs.Answer.{answer, count_at, count_of, merge, numerator_of, sum_at}
-use Rattle.cube_model.specs.Cells.{AreRows, cells_of}
+use Rattle.cube_model.specs.Cells.{AreRows, cells_of, is_among}
 use Rattle.cube_model.specs.Limits.{MAX_FACTS, MAX_VALUE, WIDE}
 use Rattle.cube_model.specs.Tree.{Dimension}
+use Rattle.region_algebra.specs.Space.{IsRegion}
 use Rattle.group_sum.specs.Merge.{Differs, FitsDifference, HasDifference, IsDifference}
 use Rattle.group_sum.specs.Terms.{AreTerms, TermList}
 use Rattle.fact_groups.specs.Groups.{Group, count_in, group_facts, sum_in}
@@ -24,15 +25,17 @@ use Rattle.view_store.proofs.Shares.{AreRegular-answer, count_of-answer, numerat
 use Rattle.facts_kept.proofs.ChangeGroups.{All-first, All-that, given-groups, group_of, groups_that, members-take, puts, taken-groups, takes_away}
 use Rattle.facts_kept.proofs.Modest.{AreModest, IsModest, count-within, members, modest-groups, sum-within}
 
--- a modest group whose rows are of cells
-pub record IsPlaced (dims : List Dimension) (width : ℕ) (g : Group) : Type 0 where
+-- a modest group of a region, whose rows are of cells there
+pub record IsPlaced (dims : List Dimension) (width : ℕ) (region : List ℕ) (g : Group) : Type 0 where
   pub modest : IsModest width g
   pub cells : AreRows dims g.spread.rows
+  pub named : IsRegion dims region
+  pub inside : All (λ row. is_among (cells_of dims region) row.0 ≡ true) g.spread.rows
 
 -- Facts are those of the groups that changes take away and of the others, and they are few, as are those that changes put with
 -- the others.
 pub record StandFor (dims : List Dimension) (width : ℕ) (rows : List ExtendedFact) (changes : List ViewChange) (others : List Group) : Type 0 where
-  pub each : All (λ change. IsPlaced dims width (group_of change)) changes
+  pub each : All (λ change. IsPlaced dims width change.region (group_of change)) changes
   pub stay : All (IsModest width) others
   pub counts : (cells : List ℕ) (d : ℕ) → count_at cells rows d ≡ count_in cells (groups_that takes_away changes) d + count_in cells others d
   pub sums : (cells : List ℕ) (k d : ℕ) → k < width → sum_at cells rows k d ≡ sum_in cells (groups_that takes_away changes) k d +ℤ sum_in cells others k d
@@ -85,7 +88,7 @@ rest-is whole part rest left is merged = omega (arith, ints, is, merged)
 
 module _ (dims : List Dimension) (width : ℕ) (rows : List ExtendedFact) (changes : List ViewChange) (others : List Group) (stand : StandFor dims width rows changes others) where
   modest-each : All (λ change. IsModest width (group_of change)) changes
-  modest-each = All-weaker (λ change. IsPlaced dims width (group_of change)) (λ change. IsModest width (group_of change)) (λ change one. one.modest) changes stand.each
+  modest-each = All-weaker (λ change. IsPlaced dims width change.region (group_of change)) (λ change. IsModest width (group_of change)) (λ change one. one.modest) changes stand.each
 
   -- an entry that has what the facts add up to
   module _ (old : TermList) (code : ℕ) (wide : old.columns ≡ width + 1) (is : old.terms ≡ answer (old.columns - 1) dims rows (region_at dims code)) where
@@ -200,11 +203,14 @@ module _ (dims : List Dimension) (width : ℕ) (rows : List ExtendedFact) (chang
   fits-view : (view : ViewMap) → IsViewOfFacts dims rows view → view.columns ≡ width + 1 → FitsView dims changes view
   fits-view view of wide = record {
     changes_fit =
-        All-weaker (λ change. IsPlaced dims width (group_of change)) (IsChange dims view.columns) (λ change one. record {
+        All-weaker (λ change. IsPlaced dims width change.region (group_of change)) (IsChange dims view.columns) (λ change one. record {
           facts = one.modest.some;
           den = one.modest.spread_is.some;
           width = omega (arith, one.modest.width, wide);
           cells = one.cells;
+          region = one.named;
+          inside = one.inside;
+          whole = one.modest.spread_is.total;
         }) changes stand.each;
     entries_fit = λ code inside.
         can-change (entry_at view code) code (of.columns code ∙ wide) (of.answers code inside ∙ ap (λ n. answer (n - 1) dims rows (region_at dims code)) (sym (of.columns code)));

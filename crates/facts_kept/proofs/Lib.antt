@@ -5,6 +5,7 @@ pub mod Counted
 pub mod Counting
 pub mod EmptyViews
 pub mod FactBounds
+pub mod GroupRegions
 pub mod GroupsSoFar
 pub mod HeldGroups
 pub mod HeldRows

@@ -1,11 +1,11 @@
 -- The groups of facts, put into views of no facts, make them views of these.
-use Rattle.std.proofs.Common.{◌≡◌, ℕ, ◌+◌, ◌*◌, ◌≤◌, true, false, List, [], ◌∷◌, ◌++◌, length, map, refl, ap, sym, ◌∙◌, subst, arith, ◌+ℤ◌}
+use Rattle.std.proofs.Common.{◌≡◌, ℕ, ◌+◌, ◌*◌, ◌≤◌, true, false, List, [], ◌∷◌, ◌++◌, length, append-nil, refl, ap, sym, ◌∙◌, subst, arith, ◌+ℤ◌}
 use Rattle.std.specs.Prelude.{All, is_some, ◌==◌, Option, Some, None}
 use Rattle.std.specs.List.{cons_option, filter_map, flat_map, list_any}
-use Rattle.std.specs.Option.{option_to_list}
 use Rattle.std.proofs.lemmas.Bool.Decides.{nat_tests}
-use Rattle.std.proofs.lemmas.List.{map-append}
-use Rattle.std.proofs.lemmas.List.Elements.{All-cons, All-head, All-nil, All-tail, filter_map-append}
+use Rattle.std.proofs.lemmas.Grind.{flat_map-append}
+use Rattle.std.proofs.lemmas.List.Concat.{flat_map-cons}
+use Rattle.std.proofs.lemmas.List.Elements.{All-append, All-nil}
 use Rattle.cube_model.specs.declared.edit.Fact.{Fact}
 use Rattle.cube_model.specs.declared.statistic.CellStat.{CellStat}
 use Rattle.cube_model.specs.Allocation.{ExtendedFact, Policy, extended}
@@ -24,11 +24,12 @@ use Rattle.fact_records.specs.Valid.{AreValid}
 use Rattle.view_store.specs.declared.change.ViewChange.{ViewChange}
 use Rattle.view_store.specs.Changes.{FitsView, given, taken}
 use Rattle.view_store.specs.Facts.{FollowBy, IsViewOfFacts}
-use Rattle.view_store.specs.Views.{ViewMap}
+use Rattle.view_store.specs.Views.{ViewMap, region_at}
 use Rattle.facts_kept.specs.Anew.{AreGroupsOf}
-use Rattle.facts_kept.specs.ViewChanges.{change_of, puts_at}
-use Rattle.facts_kept.proofs.ChangeGroups.{given-groups, group_of, groups_that, puts, taken-groups, takes_away}
+use Rattle.facts_kept.specs.ViewChanges.{changes_of, puts_at}
+use Rattle.facts_kept.proofs.ChangeGroups.{each-of, given-groups, given-of, group_of, groups_that, puts, taken-groups, taken-of, takes_away}
 use Rattle.facts_kept.proofs.ChangedEntries.{IsPlaced, StandFor, fits-views}
+use Rattle.facts_kept.proofs.GroupRegions.{group-region}
 use Rattle.facts_kept.proofs.HeldGroups.{group-rows}
 use Rattle.facts_kept.proofs.Modest.{IsModest, members}
 use Rattle.facts_kept.proofs.SmallGroups.{group-modest, short-facts}
@@ -36,42 +37,30 @@ use Rattle.facts_kept.proofs.SplitGroups.{members-split}
 use Rattle.facts_kept.proofs.ValidFacts.{valid-regions}
 
 -- the group of one code more is put after the others
-pub puts-more : (groups : Places Group) (codes : List ℕ) (code : ℕ) → puts_at groups (codes ++ code ∷ []) ≡ puts_at groups codes ++ map (change_of true) (option_to_list (value_at groups code))
-puts-more groups codes code =
-    ap (map (change_of true)) (filter_map-append (value_at groups) codes (code ∷ []))
-    ∙ map-append (change_of true) (filter_map (value_at groups) codes) (filter_map (value_at groups) (code ∷ []))
-    ∙ ap (λ (gs : List Group). puts_at groups codes ++ map (change_of true) gs) (alone (value_at groups code))
-  where
-    alone : (o : Option Group) → cons_option o [] ≡ option_to_list o
-    alone None = refl
-    alone (Some g) = refl
+pub puts-more : (dims : List Dimension) (groups : Places Group) (codes : List ℕ) (code : ℕ) → puts_at dims groups (codes ++ code ∷ []) ≡ puts_at dims groups codes ++ changes_of true dims code (value_at groups code)
+puts-more dims groups codes code =
+    let f : ℕ → List ViewChange = λ c. changes_of true dims c (value_at groups c) in
+    flat_map-append f codes (code ∷ []) ∙ ap (λ (more : List ViewChange). puts_at dims groups codes ++ more) (flat_map-cons f code [] ∙ append-nil (f code))
 
--- of groups that are put, these are put, and none is taken away
-put-all : (groups : List Group) → groups_that puts (map (change_of true) groups) ≡ groups
-put-all [] = refl
-put-all (g ∷ groups) = ap (λ (gs : List Group). g ∷ gs) (put-all groups)
+-- the groups at codes are put, and none is taken away
+module _ (dims : List Dimension) (groups : Places Group) where
+  put-all : (codes : List ℕ) → groups_that puts (puts_at dims groups codes) ≡ filter_map (value_at groups) codes
+  put-all [] = refl
+  put-all (code ∷ codes) = given-of dims true code (value_at groups code) (puts_at dims groups codes) ∙ ap (cons_option (value_at groups code)) (put-all codes)
 
-taken-none : (groups : List Group) → groups_that takes_away (map (change_of true) groups) ≡ []
-taken-none [] = refl
-taken-none (g ∷ groups) = taken-none groups
+  taken-none : (codes : List ℕ) → groups_that takes_away (puts_at dims groups codes) ≡ []
+  taken-none [] = refl
+  taken-none (code ∷ codes) = taken-of dims true code (value_at groups code) (puts_at dims groups codes) ∙ taken-none codes
 
-put-each : (P : Group → Type 0) (groups : List Group) → All P groups → All (λ change. P (group_of change)) (map (change_of true) groups)
-put-each P [] each = All-nil (λ change. P (group_of change))
-put-each P (g ∷ groups) each =
-    All-cons (λ change. P (group_of change)) (change_of true g) (map (change_of true) groups) (All-head P g groups each) (put-each P groups (All-tail P g groups each))
+  put-each : (P : List ℕ → Group → Type 0) → ((code : ℕ) (g : Group) → value_at groups code ≡ Some g → P (region_at dims code) g) → (codes : List ℕ) → All (λ change. P change.region (group_of change)) (puts_at dims groups codes)
+  put-each P each [] = All-nil (λ change. P change.region (group_of change))
+  put-each P each (code ∷ codes) =
+      All-append (λ change. P change.region (group_of change)) (changes_of true dims code (value_at groups code)) (puts_at dims groups codes) (each-of dims P true code (value_at groups code) (each code)) (put-each P each codes)
 
--- what codes give, where others give the same, and what holds of each of it
+-- what codes give, where others give the same
 given-alike : (f h : ℕ → Option Group) → ((code : ℕ) → f code ≡ h code) → (codes : List ℕ) → filter_map f codes ≡ filter_map h codes
 given-alike f h same [] = refl
 given-alike f h same (code ∷ codes) = ap (λ (o : Option Group). cons_option o (filter_map f codes)) (same code) ∙ ap (cons_option (h code)) (given-alike f h same codes)
-
-given-each : (P : Group → Type 0) (f : ℕ → Option Group) → ((code : ℕ) (g : Group) → f code ≡ Some g → P g) → (codes : List ℕ) → All P (filter_map f codes)
-given-each P f each [] = All-nil P
-given-each P f each (code ∷ codes) = by (f code) refl (given-each P f each codes)
-  where
-    by : (o : Option Group) → f code ≡ o → All P (filter_map f codes) → All P (cons_option o (filter_map f codes))
-    by None is rest = rest
-    by (Some g) is rest = All-cons P g (filter_map f codes) (each code g is) rest
 
 -- no facts have no groups
 groups-none : (policy : Policy) (columns : ℕ) (dims : List Dimension) (codes : List ℕ) → groups_at policy columns dims [] codes ≡ []
@@ -104,7 +93,7 @@ module _ (weigh : CellStat → ℕ) (bound : (s : CellStat) → IsStat s → wei
   all = filter_map (value_at groups) codes
 
   abbrev changes : List ViewChange
-  changes = puts_at groups codes
+  changes = puts_at dims groups codes
 
   all-are : all ≡ groups_at policy width dims facts codes
   all-are = given-alike (value_at groups) _ kept codes
@@ -128,20 +117,21 @@ module _ (weigh : CellStat → ℕ) (bound : (s : CellStat) → IsStat s → wei
   }
 
   taken-are : taken changes ≡ flat_map group_facts (groups_at policy width dims [] codes)
-  taken-are = taken-groups changes ∙ ap (flat_map group_facts) (taken-none all ∙ sym (groups-none policy width dims codes))
+  taken-are = taken-groups changes ∙ ap (flat_map group_facts) (taken-none dims groups codes ∙ sym (groups-none policy width dims codes))
 
   given-are : given changes ≡ flat_map group_facts (groups_at policy width dims facts codes)
-  given-are = given-groups changes ∙ ap (flat_map group_facts) (put-all all ∙ all-are)
+  given-are = given-groups changes ∙ ap (flat_map group_facts) (put-all dims groups codes ∙ all-are)
 
   pub follow-puts : FollowBy [] (taken changes) (given changes) (extended policy dims facts)
   follow-puts = subst (λ (rows : List ExtendedFact). FollowBy rows (taken changes) (given changes) (extended policy dims facts)) (rows-none policy dims) (rw (taken-are, given-are) follow-groups)
 
   -- and they are few
-  each-placed : All (IsPlaced dims width) all
+  each-placed : All (λ change. IsPlaced dims width change.region (group_of change)) changes
   each-placed =
-      given-each (IsPlaced dims width) (value_at groups) (λ code g there.
+      put-each dims groups (IsPlaced dims width) (λ code g there.
       let its = sym (kept code) ∙ there in
-      record { modest = group-modest weigh bound shape dims facts is trees valid code g its; cells = group-rows policy width dims facts code g its })
+      let lies = group-region policy width dims facts code g trees regions its in
+      record { modest = group-modest weigh bound shape dims facts is trees valid code g its; cells = group-rows policy width dims facts code g its; named = lies.named; inside = lies.inside })
       codes
 
   few : members all ≤ MAX_FACTS
@@ -149,12 +139,12 @@ module _ (weigh : CellStat → ℕ) (bound : (s : CellStat) → IsStat s → wei
 
   stand-for : StandFor dims width [] changes []
   stand-for = record {
-    each = put-each (IsPlaced dims width) all each-placed;
+    each = each-placed;
     stay = All-nil (IsModest width);
-    counts = λ cells d. subst (λ (gs : List Group). count_at cells [] d ≡ count_in cells gs d + count_in cells [] d) (sym (taken-none all)) refl;
-    sums = λ cells k d lt. subst (λ (gs : List Group). sum_at cells [] k d ≡ sum_in cells gs k d +ℤ sum_in cells [] k d) (sym (taken-none all)) refl;
-    few_before = subst (λ (gs : List Group). members gs + members [] ≤ MAX_FACTS) (sym (taken-none all)) (omega arith);
-    few_after = subst (λ (gs : List Group). members gs + members [] ≤ MAX_FACTS) (sym (put-all all)) (let nothing : members [] ≡ 0 = refl in omega (arith, few, nothing));
+    counts = λ cells d. subst (λ (gs : List Group). count_at cells [] d ≡ count_in cells gs d + count_in cells [] d) (sym (taken-none dims groups codes)) refl;
+    sums = λ cells k d lt. subst (λ (gs : List Group). sum_at cells [] k d ≡ sum_in cells gs k d +ℤ sum_in cells [] k d) (sym (taken-none dims groups codes)) refl;
+    few_before = subst (λ (gs : List Group). members gs + members [] ≤ MAX_FACTS) (sym (taken-none dims groups codes)) (omega arith);
+    few_after = subst (λ (gs : List Group). members gs + members [] ≤ MAX_FACTS) (sym (put-all dims groups codes)) (let nothing : members [] ≡ 0 = refl in omega (arith, few, nothing));
   }
 
   -- so no entry passes its limits

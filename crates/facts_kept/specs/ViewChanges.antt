@@ -1,14 +1,30 @@
 -- What groups of facts change in views.
-use Rattle.std.specs.Prelude.{ℕ, Bool, true, List, map}
-use Rattle.std.specs.List.{filter_map}
+use Rattle.std.specs.Prelude.{◌≡◌, ℕ, ◌<◌, Bool, true, List, map, is_some, Option}
+use Rattle.std.specs.List.{flat_map}
+use Rattle.std.specs.Option.{option_to_list}
+use Rattle.cube_model.specs.Tree.{Dimension}
 use Rattle.fact_groups.specs.Groups.{Group}
+use Rattle.region_algebra.specs.Space.{region_total}
 use Rattle.staged_map.specs.Staged.{Places, value_at}
 use Rattle.view_store.specs.declared.change.ViewChange.{ViewChange}
+use Rattle.view_store.specs.Views.{region_at}
 
--- a group is put or taken away
-abbrev pub change_of : Bool → Group → ViewChange
-change_of put g = record { put = put; facts = g.count; den = g.spread.den; rows = g.spread.rows; cols = g.sums }
+-- the group of a region is put or taken away
+abbrev pub change_of : Bool → List ℕ → Group → ViewChange
+change_of put region g = record { put = put; facts = g.count; den = g.spread.den; region = region; rows = g.spread.rows; cols = g.sums }
+
+-- the group at a code is, where there is one
+abbrev pub changes_of : Bool → List Dimension → ℕ → Option Group → List ViewChange
+changes_of put dims code group = map (change_of put (region_at dims code)) (option_to_list group)
 
 -- the groups that there are at these codes are put
-abbrev pub puts_at : Places Group → List ℕ → List ViewChange
-puts_at groups codes = map (change_of true) (filter_map (value_at groups) codes)
+abbrev pub puts_at : List Dimension → Places Group → List ℕ → List ViewChange
+puts_at dims groups codes = flat_map (λ code. changes_of true dims code (value_at groups code)) codes
+
+-- where there is a group, the code is that of a region
+abbrev pub IsOfRegion : List Dimension → ℕ → Option Group → Type 0
+IsOfRegion dims code group = is_some group ≡ true → code < region_total dims
+
+-- so at every code
+abbrev pub AreOfRegions : List Dimension → Places Group → Type 0
+AreOfRegions dims groups = (code : ℕ) → IsOfRegion dims code (value_at groups code)

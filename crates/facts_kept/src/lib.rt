@@ -15,4 +15,4 @@ pub use anew::keep_all;
 pub use fault::TooMany;
 pub use group::Group;
 pub use kept::FactsKept;
-pub use viewing::change_of;
+pub use viewing::push_change;

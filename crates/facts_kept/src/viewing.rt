@@ -1,16 +1,17 @@
 //! The entries of views, made from the groups of facts.
-ghost use Rattle.std.specs.Prelude.{◌≡◌, ◌+◌, ◌++◌, true, IfOk, OnOk, map};
-ghost use Rattle.std.specs.Option.{option_copied, option_to_list};
+ghost use Rattle.std.specs.Prelude.{◌≡◌, ◌+◌, ◌++◌, IfOk, OnOk};
+ghost use Rattle.std.specs.Option.{option_copied};
 ghost use Rattle.cube_model.specs.Allocation.{extended};
 ghost use Rattle.fact_records.specs.Shape.{policy_over, width_of_all};
 ghost use Rattle.fact_records.specs.Valid.{AreValid};
 ghost use Rattle.facts_kept.specs.Anew.{AreEmpty, AreGroupsOf, cuts_of};
 ghost use Rattle.facts_kept.specs.Kept.{AreViewsOfFacts};
-ghost use Rattle.facts_kept.specs.ViewChanges.{change_of, puts_at};
+ghost use Rattle.facts_kept.specs.ViewChanges.{AreOfRegions, IsOfRegion, change_of, changes_of, puts_at};
 
 use crate::Group;
 use cell_weight::WeightPolicy;
 use cube_base::Memory;
+use cube_model::Region;
 use fact_records::{FactList, Shape};
 use region_algebra::Space;
 use staged_map::Staged;
@@ -36,41 +37,58 @@ pub(crate) fn views_of<P: WeightPolicy>(
     let _ = space.dims();
     let _ = shape.columns();
     let codes = groups.keys()?;
-    let changes = puts_at(alloc, groups, codes.as_slice())?;
+    let changes = puts_at(alloc, space, groups, codes.as_slice())?;
     let stage = views.stage(space, &changes)?;
     views.install(stage);
     Ok(views)
 }
 
 /// The changes that put the groups at these codes.
-fn puts_at(alloc: Global, groups: &Staged<Group>, codes: &[u64]) -> Result<Vec<ViewChange>, Memory>
-    ensures { IfOk result (λ changes. changes.items ≡ puts_at groups.now codes.now) }
+fn puts_at(
+    alloc: Global,
+    space: &Space,
+    groups: &Staged<Group>,
+    codes: &[u64],
+) -> Result<Vec<ViewChange>, Memory>
+    requires { AreOfRegions space.now groups.now }
+    ensures { IfOk result (λ changes. changes.items ≡ puts_at space.now groups.now codes.now) }
 {
     let mut changes = Vec::with_capacity(alloc, codes.len())?;
     for code in codes {
-        push_put(&mut changes, groups.get(*code))?;
+        push_change(&mut changes, true, space, *code, groups.get(*code))?;
     }
     Ok(changes)
 }
 
-/// Adds the change that puts a group, where there is one.
-fn push_put(changes: &mut Vec<ViewChange>, group: Option<&Group>) -> Result<(), Memory>
-    ensures { OnOk result (changes.new.items ≡ changes.old.items ++ map (change_of true) (option_to_list (option_copied group.entry))) }
+/// Adds the change that puts the facts of the group at a code, or takes them away, where there is one.
+pub fn push_change(
+    changes: &mut Vec<ViewChange>,
+    put: bool,
+    space: &Space,
+    code: u64,
+    group: Option<&Group>,
+) -> Result<(), Memory>
+    requires { IsOfRegion space.now code (option_copied group) }
+    ensures { OnOk result (changes.new.items ≡ changes.old.items ++ changes_of put space.now code (option_copied group.entry)) }
 {
     if let Some(group) = group {
-        changes.push(change_of(true, group)?)?;
+        let Some(region) = space.uncode(code) else {
+            unreachable!()
+        };
+        changes.push(change_of(put, region, group)?)?;
     }
     Ok(())
 }
 
-/// The change that puts the facts of a group, or takes them away. No row is copied.
-pub fn change_of(put: bool, group: &Group) -> Result<ViewChange, Memory>
-    ensures { IfOk result (λ change. change ≡ change_of put group.now) }
+/// The change that puts the facts of the group of a region, or takes them away. No row is copied.
+fn change_of(put: bool, region: Region, group: &Group) -> Result<ViewChange, Memory>
+    ensures { IfOk result (λ change. change ≡ change_of put region group.now) }
 {
     Ok(ViewChange {
         put,
         facts: group.members,
         den: group.spread.den(),
+        region,
         rows: group.spread.shared_rows()?,
         cols: group.sums,
     })

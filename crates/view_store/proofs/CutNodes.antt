@@ -1,7 +1,7 @@
 -- The nodes of a cut: over each leaf there is one.
 use Rattle.std.proofs.Common.{◌≡◌, ℕ, zero, suc, ◌+◌, ◌<◌, ◌≤◌, ◌≢◌, ◌⊎◌, Bool, true, false, List, [], ◌∷◌, filter, length, map, get_or, refl, sym, ap, ◌∙◌, inl, inr, eq-eqb, ne_eqb, true≢false, arith}
-use Rattle.std.specs.Prelude.{◌↔◌, IsNone, IsSome, if◌then◌else◌, ◌&&◌, ◌==◌, nat_lt, nat_le, Option, Some, None, slice_get}
-use Rattle.std.specs.Option.{option_map}
+use Rattle.std.specs.Prelude.{◌↔◌, IsNone, IsSome, if◌then◌else◌, ◌&&◌, ◌||◌, ◌==◌, nat_lt, nat_le, Option, Some, None, slice_get}
+use Rattle.std.specs.Option.{option_map, option_map_or}
 use Rattle.std.proofs.lemmas.Bool.{cases_eq, cases_lt}
 use Rattle.std.proofs.lemmas.Bool.Decides.{nat_tests}
 use Rattle.std.proofs.lemmas.List.{length-map}
@@ -20,7 +20,7 @@ use Rattle.dim_tree.proofs.Siblings.{parent_at-within}
 use Rattle.view_store.proofs.NearestParents.{ends_from-deeper, nearest_at}
 use Rattle.region_algebra.proofs.Intervals.{end_of, end_of-above, end_of-nested, is_under-interval, nested_or_apart}
 use Rattle.region_algebra.proofs.Numbers.{is_under-plain}
-use Rattle.view_store.specs.Cuts.{IsCutNode}
+use Rattle.view_store.specs.Cuts.{IsCutNode, reaches_cut}
 
 -- how deep a node lies
 abbrev pub depth_of : Dimension → ℕ → ℕ
@@ -81,11 +81,18 @@ pub record IsInCut (dim : Dimension) (depth n : ℕ) : Type 0 where
   pub most : depth_of dim n ≤ depth
   pub leaf : depth_of dim n < depth → is_leaf dim n ≡ true
 
--- What climbing from a leaf has met so far: the leaf itself, or a node that lies no less deep than the cut.
+-- What climbing from a node has met so far: that node itself, or one that lies no less deep than the cut.
 pub record IsAbove (dim : Dimension) (depth leaf node : ℕ) : Type 0 where
   pub within : node < length dim
   pub over : is_under dim leaf node ≡ true
   pub least : (node ≡ leaf) ⊎ (depth ≤ depth_of dim node)
+
+-- the depth that is told of a node, against a cut
+least-test : (found : Option Entry) (deep depth : ℕ) → option_map (λ e. e.depth) found ≡ Some deep → option_map_or (λ e. nat_le depth e.depth) found false ≡ nat_le depth deep
+least-test None deep depth is = absurd (grind arith)
+least-test (Some e) deep depth is =
+    let same : e.depth ≡ deep = grind arith in
+    ap (nat_le depth) same
 
 -- over a leaf there is a node of the cut
 pub record HasCutNode (dim : Dimension) (depth leaf : ℕ) : Type 0 where
@@ -106,6 +113,14 @@ module _ (dim : Dimension) (tree : IsTree dim) where
 
   pub depth-told : (n depth : ℕ) → n < length dim → option_map (λ e. e.depth) (entry_of dim n) ≡ Some depth → depth ≡ depth_of dim n
   depth-told n depth within is = grind (arith, depth_is n within, is)
+
+  -- whether a node reaches the cut
+  pub reaches-is : (depth n : ℕ) → n < length dim → reaches_cut dim depth n ≡ (nat_le depth (depth_of dim n) || is_leaf dim n)
+  reaches-is depth n within = ap (λ b. b || is_leaf dim n) (least-test (entry_of dim n) (depth_of dim n) depth (depth_is n within))
+
+  -- one that reaches it is a leaf where it lies less deep
+  pub reaches-leaf : (depth n : ℕ) → n < length dim → reaches_cut dim depth n ≡ true → depth_of dim n < depth → is_leaf dim n ≡ true
+  reaches-leaf depth n within reaches less = grind (arith, nat_tests, sym (reaches-is depth n within) ∙ reaches, less)
 
   -- the root lies at 0
   pub depth-root : depth_of dim 0 ≡ 0
@@ -260,7 +275,7 @@ module _ (dim : Dimension) (tree : IsTree dim) where
         least = inr (omega (arith, its.depth));
       }
 
-  pub above-last : (depth leaf node : ℕ) → is_leaf dim leaf ≡ true → IsAbove dim depth leaf node → depth_of dim node ≤ depth → IsCutNode dim depth leaf node
+  pub above-last : (depth leaf node : ℕ) → (depth_of dim leaf < depth → is_leaf dim leaf ≡ true) → IsAbove dim depth leaf node → depth_of dim node ≤ depth → IsCutNode dim depth leaf node
   above-last depth leaf node is above most = record {
     within = above.within;
     over = above.over;
@@ -268,20 +283,20 @@ module _ (dim : Dimension) (tree : IsTree dim) where
       within = above.within;
       most = most;
       leaf = λ less. elim above.least [
-        | inl same ↦ ap (is_leaf dim) same ∙ is
+        | inl same ↦ ap (is_leaf dim) same ∙ is (omega (arith, less, ap (depth_of dim) same))
         | inr least ↦ absurd (omega (arith, least, less))
       ];
     });
   }
 
   climbed-from : (depth leaf fuel node : ℕ) → is_leaf dim leaf ≡ true → IsAbove dim depth leaf node → depth_of dim node ≤ depth + fuel → HasCutNode dim depth leaf
-  climbed-from depth leaf zero node is above most = record { node = node; is_cut_node = above-last depth leaf node is above (omega (arith, most)) }
+  climbed-from depth leaf zero node is above most = record { node = node; is_cut_node = above-last depth leaf node (λ less. is) above (omega (arith, most)) }
   climbed-from depth leaf (suc fuel) node is above most = elim (cases_lt depth (depth_of dim node)) [
     | inl deeper ↦
         let up = parent_of node above.within (omega (arith, deeper)) in
         let its = is_parent node (parent_number node) above.within up in
         climbed-from depth leaf fuel (parent_number node) is (above-next depth leaf node (parent_number node) above deeper up) (omega (arith, its.depth, most))
-    | inr least ↦ record { node = node; is_cut_node = above-last depth leaf node is above (omega (arith, least)) }
+    | inr least ↦ record { node = node; is_cut_node = above-last depth leaf node (λ less. is) above (omega (arith, least)) }
   ]
 
   -- over each leaf there is a node of the cut

@@ -19,9 +19,9 @@ use Rattle.region_algebra.proofs.Numbers.{found-passes, number-at}
 use Rattle.view_store.proofs.LeafTuples.{are_leaves, cells-are, is_among-inside, is_node_leaf}
 use Rattle.region_algebra.proofs.Spaces.{uncode-region}
 use Rattle.region_algebra.proofs.Turns.{is_region-length, region_total-some}
-use Rattle.view_store.specs.Cuts.{IsCodeOver, IsCutNode}
+use Rattle.view_store.specs.Cuts.{HoldsCells, HoldsRegion, IsCodeOver, IsCutNode}
 use Rattle.view_store.specs.Views.{is_in_cuts, region_at}
-use Rattle.view_store.proofs.CutNodes.{in_cut-from, one_in_cut}
+use Rattle.view_store.proofs.CutNodes.{above-first, in_cut-from, one_in_cut, under-under}
 
 -- one node in each dimension, of the cut there, and the leaf is under it
 pub record AreLifted (dims : List Dimension) (depths leaves nodes : List ℕ) (n : ℕ) : Type 0 where
@@ -81,21 +81,6 @@ lifted_first dims depths leaves nodes n d count most room deep names are =
 -- each dimension is a tree
 pub tree-at : (dims : List Dimension) (d : ℕ) (dim : Dimension) → All IsTree dims → slice_get dims d ≡ Some dim → IsTree dim
 tree-at dims d dim trees is = subst IsTree (get_or_from_slice_get dims d dim dim is) (All-get_or IsTree dims d dim (slice_get_within dims d dim is) trees)
-
--- a leaf of a cell
-pub leaf-at : (dims : List Dimension) (cell : List ℕ) (d : ℕ) (dim : Dimension) (leaf : ℕ) → are_leaves dims cell ≡ true → slice_get dims d ≡ Some dim → slice_get cell d ≡ Some leaf → (is_leaf dim leaf ≡ true) × (leaf < length dim)
-leaf-at [] cell d dim leaf are is at = absurd (grind arith)
-leaf-at (e ∷ dims) [] d dim leaf are is at = absurd (grind arith)
-leaf-at (e ∷ dims) (z ∷ cell) zero dim leaf are is at =
-    let same : e ≡ dim = grind arith in
-    let it : z ≡ leaf = grind arith in
-    let first = both (is_leaf e z) (nat_lt z (length e)) (both (is_node_leaf e z) (are_leaves dims cell) are).0 in
-    (rw (← same, ← it) first.0, rw (← same, ← it) (grind (arith, nat_tests, first.1)))
-leaf-at (e ∷ dims) (z ∷ cell) (suc d) dim leaf are is at = leaf-at dims cell d dim leaf (both (is_node_leaf e z) (are_leaves dims cell) are).1 is at
-
-pub leaf-of_cell : (dims : List Dimension) (cell : ℕ) (leaves : List ℕ) (d : ℕ) (dim : Dimension) (leaf : ℕ) → All IsTree dims → slice_get (all_cells dims) cell ≡ Some leaves → slice_get dims d ≡ Some dim → slice_get leaves d ≡ Some leaf
-    → (is_leaf dim leaf ≡ true) × (leaf < length dim)
-leaf-of_cell dims cell leaves d dim leaf trees found is at = leaf-at dims leaves d dim leaf (found-passes (are_leaves dims) (all_cells dims) cell leaves (cells-are dims trees) found) is at
 
 -- two regions of the product of the cuts that a cell is in are one
 one_lifted : (dims : List Dimension) (depths leaves a b : List ℕ) → All IsTree dims → are_leaves dims leaves ≡ true → is_in_cuts dims depths a ≡ true → is_in_cuts dims depths b ≡ true → is_inside dims a leaves ≡ true → is_inside dims b leaves ≡ true → a ≡ b
@@ -198,3 +183,64 @@ over_cell dims depths leaves nodes cell code trees at is_at below lifts =
         let are = found-passes (are_leaves dims) (all_cells dims) cell leaves (cells-are dims trees) at in
         let same : region_at dims other ≡ nodes = one_lifted dims depths leaves (region_at dims other) nodes trees are cuts lifts.cuts is lifts.inside in
         absurd (differs (sym there.coded ∙ ap (code_of dims) same ∙ code_of-region dims code nodes trees is_at))
+
+-- the region of such nodes holds the region that they were climbed from
+pub lifted-holds : (dims : List Dimension) (depths region nodes : List ℕ) (code : ℕ) → slice_get (all_regions dims) code ≡ Some nodes → code < region_total dims → IsLifted dims depths region nodes → HoldsRegion dims depths region code
+lifted-holds dims depths region nodes code is_at below lifts =
+    let its = region_at-is dims code nodes is_at in
+    record {
+      in_view = together (grind (arith, nat_tests, below)) (ap (is_in_cuts dims depths) its ∙ lifts.cuts);
+      under = ap (λ r. is_inside dims r region) its ∙ lifts.inside;
+    }
+
+-- what is inside a region that is inside another is inside that
+inside-inside : (dims : List Dimension) (a b c : List ℕ) → All IsTree dims → is_region dims a ≡ true → is_region dims b ≡ true → is_inside dims a b ≡ true → is_inside dims b c ≡ true → is_inside dims a c ≡ true
+unfolding is_inside
+inside-inside [] [] [] [] trees named_a named_b upper lower = refl
+inside-inside [] [] [] (z ∷ c) trees named_a named_b upper lower = absurd (true≢false (sym lower))
+inside-inside [] [] (y ∷ b) c trees named_a named_b upper lower = absurd (true≢false (sym named_b))
+inside-inside [] (x ∷ a) b c trees named_a named_b upper lower = absurd (true≢false (sym named_a))
+inside-inside (dim ∷ dims) [] b c trees named_a named_b upper lower = absurd (true≢false (sym named_a))
+inside-inside (dim ∷ dims) (x ∷ a) [] c trees named_a named_b upper lower = absurd (true≢false (sym named_b))
+inside-inside (dim ∷ dims) (x ∷ a) (y ∷ b) [] trees named_a named_b upper lower = absurd (true≢false (sym lower))
+inside-inside (dim ∷ dims) (x ∷ a) (y ∷ b) (z ∷ c) trees named_a named_b upper lower =
+    let tree = All-head IsTree dim dims trees in
+    let first = both (nat_lt x (length dim)) (is_region dims a) named_a in
+    let second = both (nat_lt y (length dim)) (is_region dims b) named_b in
+    let high = both (is_under dim y x) (is_inside dims a b) upper in
+    let low = both (is_under dim z y) (is_inside dims b c) lower in
+    together (under-under dim tree z y x (grind (arith, nat_tests, second.0)) (grind (arith, nat_tests, first.0)) low.0 high.0)
+    (inside-inside dims a b c (All-tail IsTree dim dims trees) first.1 second.1 high.1 low.1)
+
+module _ (dims : List Dimension) (depths region : List ℕ) (code : ℕ) (trees : All IsTree dims) (named : is_region dims region ≡ true) (holds : HoldsRegion dims depths region code) where
+  -- a cell of a region is in the region of the cuts that holds this
+  pub holds-cell : (leaves : List ℕ) (cell : ℕ) → slice_get (all_cells dims) cell ≡ Some leaves → is_inside dims region leaves ≡ true → IsCodeOver dims depths cell code
+  holds-cell leaves cell at inside =
+      let parts = both (nat_lt code (region_total dims)) (is_in_cuts dims depths (region_at dims code)) holds.in_view in
+      let below : code < region_total dims = grind (arith, nat_tests, parts.0) in
+      let there = region_at-below dims code trees below in
+      over_cell dims depths leaves (region_at dims code) cell code trees at there.found below (record {
+        region = there.region;
+        cuts = parts.1;
+        inside = inside-inside dims (region_at dims code) region leaves trees there.region named holds.under inside;
+      })
+
+  pub holds-cells : HoldsCells dims depths region code
+  holds-cells = record { in_view = holds.in_view; each = λ cell among. by cell (slice_get (all_cells dims) cell) refl (sym (is_among-inside dims region cell) ∙ among) }
+    where
+      by : (cell : ℕ) (o : Option (List ℕ)) → slice_get (all_cells dims) cell ≡ o → option_map_or (is_inside dims region) o false ≡ true → IsCodeOver dims depths cell code
+      by cell None at inside = absurd (true≢false (sym inside))
+      by cell (Some leaves) at inside = holds-cell leaves cell at inside
+
+-- a cell is inside the region of its leaves
+inside-self : (dims : List Dimension) (nodes : List ℕ) → All IsTree dims → is_region dims nodes ≡ true → is_inside dims nodes nodes ≡ true
+unfolding is_inside
+inside-self [] [] trees named = refl
+inside-self [] (x ∷ nodes) trees named = absurd (true≢false (sym named))
+inside-self (dim ∷ dims) [] trees named = absurd (true≢false (sym named))
+inside-self (dim ∷ dims) (x ∷ nodes) trees named =
+    let first = both (nat_lt x (length dim)) (is_region dims nodes) named in
+    together (above-first dim (All-head IsTree dim dims trees) 0 x (grind (arith, nat_tests, first.0))).over (inside-self dims nodes (All-tail IsTree dim dims trees) first.1)
+
+pub holds-own_cell : (dims : List Dimension) (depths leaves : List ℕ) (cell code : ℕ) → All IsTree dims → is_region dims leaves ≡ true → slice_get (all_cells dims) cell ≡ Some leaves → HoldsRegion dims depths leaves code → IsCodeOver dims depths cell code
+holds-own_cell dims depths leaves cell code trees named at holds = holds-cell dims depths leaves code trees named holds leaves cell at (inside-self dims leaves trees named)

@@ -1,13 +1,14 @@
 -- Drafts of entries: copies of terms, and the shares of rows that are added to them.
-use Rattle.std.proofs.Common.{◌≡◌, ℕ, zero, suc, ◌+◌, ◌*◌, ◌-◌, ◌<◌, ◌≤◌, Bool, true, false, List, [], ◌∷◌, ◌++◌, filter, length, get_or, refl, ap, sym, ◌∙◌, inl, inr, arith, pos, nat_abs, take, drop, Option, Some, None, is_some, unwrap_or, add-one}
-use Rattle.std.specs.Prelude.{if◌then◌else◌, ◌==◌, ◌&&◌, nat_le}
+use Rattle.std.proofs.Common.{◌≡◌, ℕ, zero, suc, ◌+◌, ◌*◌, ◌-◌, ◌<◌, ◌≤◌, Bool, true, false, List, [], ◌∷◌, ◌++◌, filter, length, get_or, refl, ap, sym, ◌∙◌, inl, inr, arith, ℤ, pos, nat_abs, subst, take, drop, Option, Some, None, is_some, unwrap_or, add-one}
+use Rattle.std.specs.Prelude.{All, Err, Ok, OnOk, Result, if◌then◌else◌, ◌==◌, ◌&&◌, nat_le}
 use Rattle.std.specs.List.{list_all, sum_by}
 use Rattle.std.proofs.lemmas.Bool.{cases_eq}
 use Rattle.std.proofs.lemmas.Bool.Decides.{nat_tests}
 use Rattle.std.proofs.lemmas.Int.{ints}
 use Rattle.std.proofs.lemmas.List.{take_more, take-append-drop}
-use Rattle.std.proofs.lemmas.List.Elements.{filter-append}
-use Rattle.std.proofs.lemmas.List.Sums.{sum_by-append}
+use Rattle.std.proofs.lemmas.List.Elements.{All-head, All-tail, All-weaker, filter-append}
+use Rattle.std.proofs.lemmas.List.Sums.{sum_by-append, sum_by-cons}
+use Rattle.cube_base.specs.declared.fault.Memory.{Memory}
 use Rattle.cube_model.specs.declared.term.Term.{Term}
 use Rattle.cube_model.specs.Answer.{count_of, merge, numerator_of}
 use Rattle.cube_model.specs.Cells.{cells_of, is_among}
@@ -19,9 +20,9 @@ use Rattle.group_sum.proofs.Ascending.{first_is}
 use Rattle.group_sum.proofs.MergeLaws.{merge_commutes, merge_nothing}
 use Rattle.staged_map.specs.Staged.{Places, value_at}
 use Rattle.view_store.specs.declared.change.ViewChange.{ViewChange}
-use Rattle.view_store.specs.Changes.{IsWithin}
-use Rattle.view_store.specs.Cuts.{IsCodeOver}
-use Rattle.view_store.specs.Drafts.{AreOver, KeepsToView, draft_at}
+use Rattle.view_store.specs.Changes.{IsChange, IsWithin}
+use Rattle.view_store.specs.Cuts.{HoldsCells, IsCodeOver}
+use Rattle.view_store.specs.Drafts.{AddsChange, AreOver, KeepsToView, draft_at, weight_at}
 use Rattle.view_store.specs.Views.{held_at, is_in_view, no_terms, region_at}
 use Rattle.view_store.proofs.Merges.{AreRegular}
 use Rattle.view_store.proofs.Shares.{AddsUnits-more, AddsUnits-none, FitsUnits-part}
@@ -192,3 +193,96 @@ module _ (dims : List Dimension) (depths : List ℕ) (columns : ℕ) (entries : 
     ];
     over = adds.over;
   }
+
+-- rows whose cells are all among these, and rows of which none is
+weight-all : (cells : List ℕ) (rows : List (ℕ × ℕ)) → All (λ row. is_among cells row.0 ≡ true) rows → weight_of_rows cells rows ≡ sum_by (λ row. row.1) rows
+weight-all cells [] each = refl
+weight-all cells (row ∷ rows) each =
+    let here : is_among cells row.0 ≡ true = All-head (λ (r : ℕ × ℕ). is_among cells r.0 ≡ true) row rows each in
+    let rest = weight-all cells rows (All-tail (λ (r : ℕ × ℕ). is_among cells r.0 ≡ true) row rows each) in
+    rw here (omega (arith, rest, sum_by-cons (λ (r : ℕ × ℕ). r.1) row (filter (λ r. is_among cells r.0) rows), sum_by-cons (λ (r : ℕ × ℕ). r.1) row rows))
+
+weight-no : (cells : List ℕ) (rows : List (ℕ × ℕ)) → All (λ row. is_among cells row.0 ≡ false) rows → weight_of_rows cells rows ≡ 0
+weight-no cells [] each = refl
+weight-no cells (row ∷ rows) each =
+    let here : is_among cells row.0 ≡ false = All-head (λ (r : ℕ × ℕ). is_among cells r.0 ≡ false) row rows each in
+    rw here (weight-no cells rows (All-tail (λ (r : ℕ × ℕ). is_among cells r.0 ≡ false) row rows each))
+
+-- The whole of a change was added to the draft of a code.
+pub record AddsWhole (columns : ℕ) (entries : Places TermList) (change : ViewChange) (code : ℕ) (old new : Places TermList) : Type 0 where
+  pub share : AddsUnits (draft_at columns entries old code) (draft_at columns entries new code) change.den (change.den * change.facts) change.den change.cols
+  pub others : (k : ℕ) → (code == k) ≡ false → value_at new k ≡ value_at old k
+
+-- a change whose region is held by one region of the product of the cuts
+module _ (dims : List Dimension) (depths : List ℕ) (columns : ℕ) (entries : Places TermList) (change : ViewChange) (is : IsChange dims columns change) (code : ℕ) (holds : HoldsCells dims depths change.region code) where
+  -- all of it lies there, and nothing elsewhere
+  pub weight-whole : weight_at dims change code ≡ change.den
+  weight-whole =
+      let same : (code == code) ≡ true = grind (arith, nat_tests) in
+      let there : All (λ row. is_among (cells_of dims (region_at dims code)) row.0 ≡ true) change.rows =
+      All-weaker (λ (row : ℕ × ℕ). is_among (cells_of dims change.region) row.0 ≡ true) (λ row. is_among (cells_of dims (region_at dims code)) row.0 ≡ true) (λ row among. (holds.each row.0 among).only code holds.in_view ∙ same) change.rows is.inside in
+      weight-all (cells_of dims (region_at dims code)) change.rows there ∙ is.whole
+
+  weight-elsewhere : (k : ℕ) → is_in_view dims depths k ≡ true → (k == code) ≡ false → weight_at dims change k ≡ 0
+  weight-elsewhere k in_view other =
+      weight-no (cells_of dims (region_at dims k)) change.rows
+      (All-weaker (λ (row : ℕ × ℕ). is_among (cells_of dims change.region) row.0 ≡ true) (λ row. is_among (cells_of dims (region_at dims k)) row.0 ≡ false) (λ row among. (holds.each row.0 among).only k in_view ∙ other) change.rows is.inside)
+
+  -- so the whole of it fits where its share does
+  pub whole-fits : (draft : TermList) → FitsUnits draft.terms change.den (weight_at dims change code * change.facts) (weight_at dims change code) change.cols → FitsUnits draft.terms change.den (change.den * change.facts) change.den change.cols
+  whole-fits draft fits = subst (λ (n : ℕ). FitsUnits draft.terms change.den (n * change.facts) n change.cols) weight-whole fits
+
+  module _ (old new : Places TermList) (adds : AddsWhole columns entries change code old new) where
+    -- and once it was added, its shares in all regions were
+    whole-shares : (k : ℕ) → is_in_view dims depths k ≡ true → AddsChange dims change k (draft_at columns entries old k) (draft_at columns entries new k)
+    whole-shares k in_view = elim (cases_eq k code) [
+      | inl same ↦
+          let all = subst (λ (n : ℕ). AddsUnits (draft_at columns entries old code) (draft_at columns entries new code) change.den (n * change.facts) n change.cols) (sym weight-whole) adds.share in
+          subst (λ (c : ℕ). AddsChange dims change c (draft_at columns entries old c) (draft_at columns entries new c)) (sym same) all
+      | inr other ↦
+          let test : (k == code) ≡ false = grind (arith, nat_tests) in
+          let apart : (code == k) ≡ false = grind (arith, nat_tests) in
+          let stays : draft_at columns entries new k ≡ draft_at columns entries old k = ap (λ o. unwrap_or o (held_at columns entries k)) (adds.others k apart) in
+          let none = weight-elsewhere k in_view test in
+          subst (λ (n : ℕ). AddsUnits (draft_at columns entries old k) (draft_at columns entries new k) change.den (n * change.facts) n change.cols) (sym none)
+          (subst (λ (draft : TermList). AddsUnits (draft_at columns entries old k) draft change.den (0 * change.facts) 0 change.cols) (sym stays) (AddsUnits-none change.den (0 * change.facts) change.cols (draft_at columns entries old k) (omega arith)))
+    ]
+
+    whole-keys : KeepsToView dims depths old new
+    whole-keys k there = elim (cases_eq k code) [
+      | inl same ↦
+          let view : is_in_view dims depths k ≡ true = ap (is_in_view dims depths) same ∙ holds.in_view in
+          rw view (grind (arith, view))
+      | inr other ↦
+          let apart : (code == k) ≡ false = grind (arith, nat_tests) in
+          let was : is_some (value_at old k) ≡ true = sym (ap is_some (adds.others k apart)) ∙ there in
+          grind (arith, was)
+    ]
+
+  -- so where adding it ended well
+  module _ (old new : Places TermList) (result : Result (Unit {0}) Memory)
+      (share : OnOk result (AddsUnits (draft_at columns entries old code) (draft_at columns entries new code) change.den (change.den * change.facts) change.den change.cols))
+      (others : OnOk result ((k : ℕ) → (code == k) ≡ false → value_at new k ≡ value_at old k)) where
+    pub shares-whole : OnOk result ((k : ℕ) → is_in_view dims depths k ≡ true → AddsChange dims change k (draft_at columns entries old k) (draft_at columns entries new k))
+    shares-whole = by result share others
+      where
+        by : (r : Result (Unit {0}) Memory) → OnOk r (AddsUnits (draft_at columns entries old code) (draft_at columns entries new code) change.den (change.den * change.facts) change.den change.cols)
+            → OnOk r ((k : ℕ) → (code == k) ≡ false → value_at new k ≡ value_at old k)
+            → OnOk r ((k : ℕ) → is_in_view dims depths k ≡ true → AddsChange dims change k (draft_at columns entries old k) (draft_at columns entries new k))
+        by (Ok u) one all = whole-shares old new (record { share = one; others = all })
+        by (Err e) one all = tt
+
+    pub keys-whole : OnOk result (KeepsToView dims depths old new)
+    keys-whole = by result share others
+      where
+        by : (r : Result (Unit {0}) Memory) → OnOk r (AddsUnits (draft_at columns entries old code) (draft_at columns entries new code) change.den (change.den * change.facts) change.den change.cols)
+            → OnOk r ((k : ℕ) → (code == k) ≡ false → value_at new k ≡ value_at old k) → OnOk r (KeepsToView dims depths old new)
+        by (Ok u) one all = whole-keys old new (record { share = one; others = all })
+        by (Err e) one all = tt
+
+-- a share fits what is held of a draft that was begun, where it fits the draft
+pub begun-fits : (columns : ℕ) (entries : Places TermList) (code den units weight : ℕ) (values : List ℤ) (old mid : Places TermList) → ((k : ℕ) → draft_at columns entries mid k ≡ draft_at columns entries old k) → is_some (value_at mid code) ≡ true
+    → FitsUnits (draft_at columns entries old code).terms den units weight values → FitsUnits (held_at columns mid code).terms den units weight values
+begun-fits columns entries code den units weight values old mid same there fits =
+    let held : draft_at columns entries old code ≡ held_at columns mid code = sym (same code) ∙ draft-held columns entries mid code there in
+    subst (λ (list : TermList). FitsUnits list.terms den units weight values) held fits

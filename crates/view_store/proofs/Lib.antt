@@ -4,6 +4,7 @@ pub mod NearestParents
 pub mod LeafTuples
 pub mod CutNodes
 pub mod CutRegions
+pub mod Reaching
 pub mod Drafting
 pub mod AllChanges
 pub mod Ascending

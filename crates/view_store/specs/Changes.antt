@@ -1,14 +1,15 @@
 -- What changes of facts' shares make of the entries of views.
 use Rattle.std.specs.Prelude.{◌≡◌, ℕ, ◌+◌, ◌-◌, ◌<◌, ◌≤◌, true, false, List, ◌∷◌, All, IfSome, length, filter, not, nat_abs, None, replicate, slice_get, take, unwrap_or, ℤ, pos}
-use Rattle.std.specs.List.{flat_map}
+use Rattle.std.specs.List.{flat_map, sum_by}
 use Rattle.cube_model.specs.declared.term.Term.{Term}
 use Rattle.cube_model.specs.Allocation.{ExtendedFact}
 use Rattle.cube_model.specs.Answer.{answer, count_of, merge, numerator_of}
-use Rattle.cube_model.specs.Cells.{AreRows}
+use Rattle.cube_model.specs.Cells.{AreRows, cells_of, is_among}
 use Rattle.cube_model.specs.Limits.{WIDE}
 use Rattle.cube_model.specs.Tree.{Dimension}
 use Rattle.group_sum.specs.Merge.{FitsDifference, HasDifference, IsDifference}
 use Rattle.group_sum.specs.Terms.{AreTerms, TermList}
+use Rattle.region_algebra.specs.Space.{IsRegion}
 use Rattle.staged_map.specs.Staged.{AreOfDifferentKeys, Entries, PutsAll, entry_of, has_place, have_places, value_at}
 use Rattle.view_store.specs.declared.change.ViewChange.{ViewChange}
 use Rattle.view_store.specs.Views.{IsEntry, ViewMap, ViewMaps, entry_at, is_in_view, no_terms, region_at}
@@ -60,12 +61,15 @@ pub record CanChange (dims : List Dimension) (changes : List ViewChange) (old : 
       → (n : ℕ) → IsWithin old.columns (together rest (shares old.columns dims (given (take n changes)) code))
 
 -- a change over columns: at least one fact, a denominator of at least 1, a value for each column but the count's, and cells of
--- the space
+-- the space, which are those of a region; the weights add up to the denominator
 pub record IsChange (dims : List Dimension) (columns : ℕ) (change : ViewChange) : Type 0 where
   pub facts : 1 ≤ change.facts
   pub den : 1 ≤ change.den
   pub width : length change.cols + 1 ≡ columns
   pub cells : AreRows dims change.rows
+  pub region : IsRegion dims change.region
+  pub inside : All (λ row. is_among (cells_of dims change.region) row.0 ≡ true) change.rows
+  pub whole : sum_by (λ row. row.1) change.rows ≡ change.den
 
 -- each of the changes is one, and each entry of the view can be changed by them
 pub record FitsView (dims : List Dimension) (changes : List ViewChange) (view : ViewMap) : Type 0 where

@@ -1,22 +1,43 @@
 -- The nodes of a cut over leaves, the regions of a product of cuts over cells, and all regions where the cuts of a view meet.
-use Rattle.std.specs.Prelude.{◌≡◌, ℕ, ◌<◌, true, List, [], ◌∷◌, length, map, filter, nat_lt, ◌==◌}
+use Rattle.std.specs.Prelude.{◌≡◌, ℕ, ◌<◌, Bool, true, false, List, [], ◌∷◌, length, map, filter, nat_le, nat_lt, ◌==◌, ◌&&◌, ◌||◌}
 use Rattle.std.specs.List.{flat_map}
-use Rattle.cube_model.specs.Cells.{cells_of, is_among}
+use Rattle.std.specs.Option.{option_map_or}
+use Rattle.cube_model.specs.Cells.{cells_of, is_among, is_inside}
 use Rattle.cube_model.specs.Cut.{cut}
-use Rattle.cube_model.specs.Tree.{Dimension, is_under}
+use Rattle.cube_model.specs.Tree.{Dimension, entry_of, is_leaf, is_under}
 use Rattle.group_sum.specs.Terms.{TermList}
 use Rattle.view_store.specs.Views.{is_in_view, region_at}
 
--- a node of the cut at a depth, and the leaf is under it
-pub record IsCutNode (dim : Dimension) (depth leaf node : ℕ) : Type 0 where
+-- a node of the cut at a depth, and another is under it
+pub record IsCutNode (dim : Dimension) (depth low node : ℕ) : Type 0 where
   pub within : node < length dim
-  pub over : is_under dim leaf node ≡ true
+  pub over : is_under dim low node ≡ true
   pub in_cut : is_among (cut dim depth) node ≡ true
+
+-- a node reaches the cut at a depth where it lies there or deeper, or is a leaf
+abbrev pub reaches_cut : Dimension → ℕ → ℕ → Bool
+reaches_cut dim depth node = option_map_or (λ e. nat_le depth e.depth) (entry_of dim node) false || is_leaf dim node
+
+-- the nodes of a region reach the cuts in every dimension
+abbrev pub reaches_cuts : List Dimension → List ℕ → List ℕ → Bool
+reaches_cuts [] [] [] = true
+reaches_cuts (dim ∷ dims) (depth ∷ depths) (node ∷ nodes) = reaches_cut dim depth node && reaches_cuts dims depths nodes
+reaches_cuts dims depths nodes = false
 
 -- the code of a region of the product of the cuts, and of all these regions it is the one that holds the cell
 pub record IsCodeOver (dims : List Dimension) (depths : List ℕ) (cell code : ℕ) : Type 0 where
   pub in_view : is_in_view dims depths code ≡ true
   pub only : (other : ℕ) → is_in_view dims depths other ≡ true → is_among (cells_of dims (region_at dims other)) cell ≡ (other == code)
+
+-- the code of a region of the product of the cuts under which a region lies
+pub record HoldsRegion (dims : List Dimension) (depths region : List ℕ) (code : ℕ) : Type 0 where
+  pub in_view : is_in_view dims depths code ≡ true
+  pub under : is_inside dims (region_at dims code) region ≡ true
+
+-- the code of a region of the product of the cuts, and of all these regions it is the one that holds each cell of a region
+pub record HoldsCells (dims : List Dimension) (depths region : List ℕ) (code : ℕ) : Type 0 where
+  pub in_view : is_in_view dims depths code ≡ true
+  pub each : (cell : ℕ) → is_among (cells_of dims region) cell ≡ true → IsCodeOver dims depths cell code
 
 -- nodes before each of these regions
 abbrev pub regions_behind : List ℕ → List (List ℕ) → List (List ℕ)

@@ -16,9 +16,10 @@ entry den count sum = record { columns = 2; terms = one_sum den count sum ∷ []
 abbrev pub small_view : ViewMap
 small_view = record { columns = 2; depths = 1 ∷ 0 ∷ []; entries = (18, Some (entry 3 1 (pos 200))) ∷ (12, None) ∷ (3, Some (entry 1 2 (pos 400))) ∷ [] }
 
--- facts with the rows of a fact that is two thirds in cell 0 and one third in cell 2, with their values added up
+-- facts of the region of the family's node 1 and the pair's root with the rows of a fact that is two thirds in cell 0 and one third
+-- in cell 2, with their values added up
 abbrev pub put_of : ℕ → ℤ → ViewChange
-put_of facts sum = record { put = true; facts = facts; den = 3; rows = (0, 2) ∷ (2, 1) ∷ []; cols = sum ∷ [] }
+put_of facts sum = record { put = true; facts = facts; den = 3; region = 1 ∷ 0 ∷ []; rows = (0, 2) ∷ (2, 1) ∷ []; cols = sum ∷ [] }
 
 -- three such facts put at once
 abbrev pub three_at_once : List ViewChange

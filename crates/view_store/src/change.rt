@@ -2,12 +2,13 @@
 ghost use Rattle.std.specs.Prelude.{◌≡◌, ◌*◌};
 
 use cube_base::{Cols, PlainList};
+use cube_model::Region;
 use group_sum::Terms;
 use shared_list::SharedPairs;
 use std::marker::Model;
 
-/// Rows that are put or taken away for one fact, or at once for several that all have these rows: each a cell and its weight,
-/// over a denominator, with what the values of the facts add up to.
+/// Rows that are put or taken away for one fact, or at once for several that all have these rows: each a cell of a region and its
+/// weight, over a denominator, to which the weights add up, with what the values of the facts add up to.
 #[derive(Debug, Drop)]
 pub struct ViewChange {
     /// Whether the rows are put; else they are taken away.
@@ -16,6 +17,8 @@ pub struct ViewChange {
     pub facts: u64,
     /// The denominator of the weights.
     pub den: u64,
+    /// The region of the facts, in which all cells of the rows lie.
+    pub region: Region,
     /// The cells with their weights.
     pub rows: SharedPairs,
     /// The values of all these facts added up, one for each column but the count.

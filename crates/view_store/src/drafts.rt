@@ -11,7 +11,7 @@ ghost use Rattle.view_store.specs.Views.{AreEntries, held_at, is_in_view, IsOver
 ghost use Rattle.view_store.specs.Drafts.{AddsChange, AreLeftOver, AreOver, AreRemade, AreWithout, CanTake, FitsChange, FitsShares, HasShares, KeepsToView, draft_at, facts_of_kind, kept, kept_of};
 
 use crate::ViewChange;
-use crate::cut::cut_code;
+use crate::cut::{code_over, cut_code};
 use cube_base::{Ids, Memory};
 use group_sum::{SubFault, Terms};
 use region_algebra::Space;
@@ -95,8 +95,33 @@ fn add_share(
     Ok(())
 }
 
-/// Adds the shares of a change to the drafts of the regions of the product of the cuts.
-fn add_change(
+/// Adds the whole of a change, all of whose rows lie in the region of a code, to the draft there.
+fn add_whole(
+    alloc: Global,
+    columns: u32,
+    entries: &Staged<Terms>,
+    drafts: &mut Staged<Terms>,
+    code: u64,
+    change: &ViewChange,
+) -> Result<(), Memory>
+    requires some { 1 ≤ columns }
+    requires most { columns ≤ MAX_COLS + 1 }
+    requires facts { 1 ≤ change.now.facts }
+    requires den { 1 ≤ change.now.den }
+    requires width { length change.now.cols + 1 ≡ columns }
+    requires entries { AreOver columns entries.now }
+    requires drafts { AreOver columns drafts.old }
+    requires within { FitsUnits (draft_at columns entries.now drafts.old code).terms change.now.den (change.now.den * change.now.facts) change.now.den change.now.cols }
+    ensures share { OnOk result (AddsUnits (draft_at columns entries.now drafts.old code) (draft_at columns entries.now drafts.new code) change.now.den (change.now.den * change.now.facts) change.now.den change.now.cols) }
+    ensures others { OnOk result ((k : ℕ) → (code == k) ≡ false → value_at drafts.new k ≡ value_at drafts.old k) }
+    ensures over { OnOk result (AreOver columns drafts.new) }
+{
+    begin(alloc, columns, entries, drafts, code)?;
+    add_share(alloc, columns, drafts, code, change, change.den)
+}
+
+/// Adds the shares of a change, row by row, to the drafts of the regions of the product of the cuts.
+fn add_rows(
     alloc: Global,
     space: &Space,
     depths: &[u8],
@@ -123,6 +148,35 @@ fn add_change(
         add_share(alloc, columns, drafts, code, change, *weight)?;
     }
     Ok(())
+}
+
+/// Adds the shares of a change to the drafts of the regions of the product of the cuts.
+fn add_change(
+    alloc: Global,
+    space: &Space,
+    depths: &[u8],
+    columns: u32,
+    entries: &Staged<Terms>,
+    drafts: &mut Staged<Terms>,
+    change: &ViewChange,
+) -> Result<(), Memory>
+    requires some { 1 ≤ columns }
+    requires most { columns ≤ MAX_COLS + 1 }
+    requires depths { length depths.now ≡ length space.now }
+    requires change { IsChange space.now columns change.now }
+    requires entries { AreOver columns entries.now }
+    requires drafts { AreOver columns drafts.old }
+    requires within { (code : ℕ) → is_in_view space.now depths.now code ≡ true → FitsChange columns space.now change.now code (draft_at columns entries.now drafts.old code) }
+    ensures shares { OnOk result ((code : ℕ) → is_in_view space.now depths.now code ≡ true
+        → AddsChange space.now change.now code (draft_at columns entries.now drafts.old code) (draft_at columns entries.now drafts.new code)) }
+    ensures keys { OnOk result (KeepsToView space.now depths.now drafts.old drafts.new) }
+    ensures over { OnOk result (AreOver columns drafts.new) }
+{
+    // Where one region of the product holds all rows, their weights need not be added up.
+    match code_over(space, depths, change.region) {
+        Some(code) => add_whole(alloc, columns, entries, drafts, code, change),
+        None => add_rows(alloc, space, depths, columns, entries, drafts, change),
+    }
 }
 
 /// Adds the shares of the changes that put, or of those that take away, to the drafts of the regions of the product of the

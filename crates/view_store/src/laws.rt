@@ -11,7 +11,7 @@ ghost use Rattle.region_algebra.specs.Space.{IsRegion};
 ghost use Rattle.region_algebra.specs.declared.view_def.ViewDef.{ViewDef};
 ghost use Rattle.view_store.specs.declared.change.ViewChange.{ViewChange};
 ghost use Rattle.view_store.specs.Changes.{IsAfter, given, taken};
-ghost use Rattle.view_store.specs.Cuts.{cut_regions, entries_of};
+ghost use Rattle.view_store.specs.Cuts.{cut_regions, entries_of, reaches_cuts};
 ghost use Rattle.view_store.specs.Examples.{entry, one_by_one, put_at, small_view, three_at_once};
 ghost use Rattle.view_store.specs.Facts.{FollowBy, IsViewOfFacts};
 ghost use Rattle.view_store.specs.Rolling.{rolled_up, serves};
@@ -44,7 +44,8 @@ pub fn views_list_in_the_order_of_their_cuts()
 {}
 
 /// The regions of products of cuts, and a view, that were worked out by hand: a leaf that lies less deep than a cut is in it, a
-/// region is served where its nodes lie no deeper than the cuts, and entries under a region are merged.
+/// region is served where its nodes lie no deeper than the cuts, and entries under a region are merged. A region reaches the cuts
+/// where its nodes lie no less deep or are leaves.
 pub fn worked_views()
     ensures leaves { filter (is_in_view small_space (2 ∷ 1 ∷ [])) (range_with_len 0 21) ≡ 7 ∷ 8 ∷ 10 ∷ 11 ∷ 16 ∷ 17 ∷ 19 ∷ 20 ∷ [] }
     ensures inner { filter (is_in_view small_space (1 ∷ 0 ∷ [])) (range_with_len 0 21) ≡ 3 ∷ 12 ∷ 18 ∷ [] }
@@ -55,6 +56,7 @@ pub fn worked_views()
     ensures whole { rolled_up small_space small_view (0 ∷ 0 ∷ []) ≡ one_sum 1 2 (pos 400) ∷ one_sum 3 1 (pos 200) ∷ [] }
     ensures part { rolled_up small_space small_view (1 ∷ 0 ∷ []) ≡ one_sum 1 2 (pos 400) ∷ [] }
     ensures nothing { rolled_up small_space small_view (4 ∷ 0 ∷ []) ≡ [] }
+    ensures reached { map (reaches_cuts small_space (2 ∷ 0 ∷ [])) ((1 ∷ 0 ∷ []) ∷ (2 ∷ 1 ∷ []) ∷ (6 ∷ 0 ∷ []) ∷ []) ≡ false ∷ true ∷ true ∷ [] }
 {}
 
 /// A change of three facts that was worked out by hand: two thirds of each lie in cell 0, and a third in cell 2. Put at once they

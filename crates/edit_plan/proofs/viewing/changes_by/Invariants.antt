@@ -5,4 +5,4 @@ use Rattle.edit_plan.specs.ViewChanges.{changes_by}
 use Rattle.edit_plan.proofs.viewing.changes_by.Given as goal
 
 abbrev pub invariant-loop-code : goal.invariant-loop-code
-invariant-loop-code l = l.changes.items ≡ changes_by (value_at l.kept) (take l.code-index l.groups)
+invariant-loop-code l = l.changes.items ≡ changes_by l.space (value_at l.kept) (take l.code-index l.groups)

@@ -4,4 +4,4 @@ use Rattle.facts_kept.specs.ViewChanges.{puts_at}
 use Rattle.facts_kept.proofs.viewing.puts_at.Given as goal
 
 abbrev pub invariant-loop-code : goal.invariant-loop-code
-invariant-loop-code l = l.changes.items ≡ puts_at l.groups (take l.code-index l.codes)
+invariant-loop-code l = l.changes.items ≡ puts_at l.space l.groups (take l.code-index l.codes)

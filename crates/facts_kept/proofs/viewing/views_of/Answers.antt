@@ -2,18 +2,25 @@
 use Rattle.std.proofs.Common.{◌≡◌, ◌∙◌, [], List, ap, subst, sym}
 use Rattle.std.specs.Prelude.{All}
 use Rattle.cube_model.specs.Allocation.{extended}
-use Rattle.fact_records.specs.Shape.{policy_over}
+use Rattle.fact_records.specs.Shape.{policy_over, width_of_all}
 use Rattle.view_store.specs.declared.change.ViewChange.{ViewChange}
 use Rattle.view_store.specs.Changes.{FitsView, given, taken}
 use Rattle.view_store.specs.Facts.{FollowBy}
 use Rattle.facts_kept.specs.ViewChanges.{puts_at}
 use Rattle.facts_kept.proofs.EmptyViews.{answers-none, views-put}
+use Rattle.facts_kept.proofs.GroupRegions.{of-regions}
 use Rattle.facts_kept.proofs.PutGroups.{fit-puts, follow-puts}
+use Rattle.facts_kept.proofs.ValidFacts.{valid-regions}
 use Rattle.facts_kept.proofs.viewing.views_of.Goals as goal
+
+pub puts_at-requires : goal.puts_at-requires
+puts_at-requires g c =
+    of-regions (policy_over (g.P.WeightPolicy.weigh c.args.policy.now) c.args.shape.now) (width_of_all c.args.shape.now.measures) c.args.space.now c.args.facts.now.facts c.dims.ensures.trees
+    (valid-regions c.args.shape.now c.args.space.now c.args.facts.now.facts c.requires.valid) c.args.groups.now c.requires.groups
 
 pub stage-requires-clause-changes : goal.stage-requires-clause-changes
 stage-requires-clause-changes g c =
-    let puts : c.deref.result.now ≡ puts_at c.args.groups.now c.in_ok-codes.codes = c.deref.ensures.value ∙ c.in_ok-changes.ensures ∙ ap (puts_at c.args.groups.now) c.as_slice.ensures in
+    let puts : c.deref.result.now ≡ puts_at c.args.space.now c.args.groups.now c.in_ok-codes.codes = c.deref.ensures.value ∙ c.in_ok-changes.ensures ∙ ap (puts_at c.args.space.now c.args.groups.now) c.as_slice.ensures in
     subst (λ (changes : List ViewChange). All (FitsView c.args.space.now changes) c.args.views.views) (sym puts)
     (fit-puts (g.P.WeightPolicy.weigh c.args.policy.now) (g.met.P.WeightPolicy.bound c.args.policy.now) c.args.shape.now c.args.space.now c.args.facts.now.facts
     c.columns.ensures.shape c.dims.ensures.trees c.requires.valid c.args.groups.now c.requires.groups c.in_ok-codes.codes c.in_ok-codes.ensures
@@ -21,7 +28,7 @@ stage-requires-clause-changes g c =
 
 pub returns : goal.returns
 returns g c =
-    let puts : c.deref.result.now ≡ puts_at c.args.groups.now c.in_ok-codes.codes = c.deref.ensures.value ∙ c.in_ok-changes.ensures ∙ ap (puts_at c.args.groups.now) c.as_slice.ensures in
+    let puts : c.deref.result.now ≡ puts_at c.args.space.now c.args.groups.now c.in_ok-codes.codes = c.deref.ensures.value ∙ c.in_ok-changes.ensures ∙ ap (puts_at c.args.space.now c.args.groups.now) c.as_slice.ensures in
     let rows = extended (policy_over (g.P.WeightPolicy.weigh c.args.policy.now) c.args.shape.now) c.args.space.now c.args.facts.now.facts in
     let follow : FollowBy [] (taken c.deref.result.now) (given c.deref.result.now) rows =
     subst (λ (changes : List ViewChange). FollowBy [] (taken changes) (given changes) rows) (sym puts)

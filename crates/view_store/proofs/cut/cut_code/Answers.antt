@@ -1,39 +1,15 @@
--- The nodes over the leaves make the region.
-use Rattle.std.proofs.Common.{◌≡◌, Some, take, refl, ap, ◌∙◌, arith}
-use Rattle.std.proofs.lemmas.List.{length-set}
-use Rattle.region_algebra.proofs.Spaces.{accepted-few}
-use Rattle.region_algebra.proofs.Turns.{is_region-length, node-within}
-use Rattle.view_store.proofs.CutRegions.{leaf-of_cell, lifted-next, lifted_first, over_cell, tree-at}
+-- The leaves of a cell reach every cut, and the region over them holds the cell.
+use Rattle.cube_model.specs.Cells.{all_cells}
+use Rattle.region_algebra.proofs.Numbers.{found-passes}
+use Rattle.view_store.proofs.CutRegions.{holds-own_cell}
+use Rattle.view_store.proofs.LeafTuples.{are_leaves, cells-are}
+use Rattle.view_store.proofs.Reaching.{leaves-reach}
 use Rattle.view_store.proofs.cut.cut_code.Goals as goal
 
-pub node-requires : goal.node-requires
-node-requires c = omega (arith, is_region-length c.args.space.now c.cell_at-leaves.result c.cell_at-leaves.ensures.region, c.loop-d-test.true, c.dims-dims.ensures.count)
-
-pub cut_node-requires-clause-tree : goal.cut_node-requires-clause-tree
-cut_node-requires-clause-tree c = tree-at c.args.space.now c.loop-d.d c.dim.result.now c.dims-dims.ensures.trees c.dim.ensures
-
-pub cut_node-requires-clause-within : goal.cut_node-requires-clause-within
-cut_node-requires-clause-within c = node-within c.args.space.now c.cell_at-leaves.result c.loop-d.d c.dim.result.now c.node.result c.cell_at-leaves.ensures.region c.dim.ensures c.node.ensures
-
-pub cut_node-requires-clause-leaf : goal.cut_node-requires-clause-leaf
-cut_node-requires-clause-leaf c = (leaf-of_cell c.args.space.now c.args.cell c.cell_at-leaves.result c.loop-d.d c.dim.result.now c.node.result c.dims-dims.ensures.trees c.cell_at-leaves.ensures.cell c.dim.ensures c.node.ensures).0
-
-pub loop-d-preserved : goal.loop-d-preserved
-loop-d-preserved c = record {
-  room = length-set c.loop-d.nodes c.loop-d.d c.cut_node.result ∙ c.loop-d.invariant.room;
-  lifted = lifted-next c.args.space.now c.args.depths.now c.cell_at-leaves.result c.loop-d.nodes c.loop-d.d c.dim.result.now _ c.node.result c.cut_node.result c.loop-d.invariant.lifted (omega (arith, c.loop-d-test.true, c.loop-d.invariant.room, c.dims-dims.ensures.count, (accepted-few c.args.space.now c.dims-dims.ensures.accepted).1)) c.dim.ensures refl c.node.ensures c.cut_node.ensures;
-}
-
-pub unwrap-region-requires : goal.unwrap-region-requires
-unwrap-region-requires c =
-    let few = (accepted-few c.args.space.now c.dims-dims.ensures.accepted).1 in
-    let lifts = lifted_first c.args.space.now c.args.depths.now c.cell_at-leaves.result c.loop-d.nodes c.dims-dims.result c.loop-d.d c.dims-dims.ensures.count c.loop-d-test.false (omega (arith, few, c.dims-dims.ensures.count, c.loop-d.invariant.room)) c.requires.depths c.cell_at-leaves.ensures.region c.loop-d.invariant.lifted in
-    c.region.ensures.regions.1 lifts.region
+pub code_above-requires-clause-reaches : goal.code_above-requires-clause-reaches
+code_above-requires-clause-reaches c =
+    leaves-reach c.args.space.now c.args.depths.now c.cell_at.result c.requires.depths
+    (found-passes (are_leaves c.args.space.now) (all_cells c.args.space.now) c.args.cell c.cell_at.result (cells-are c.args.space.now c.dims.ensures.trees) c.cell_at.ensures.cell)
 
 pub returns : goal.returns
-returns c =
-    let few = (accepted-few c.args.space.now c.dims-dims.ensures.accepted).1 in
-    let lifts = lifted_first c.args.space.now c.args.depths.now c.cell_at-leaves.result c.loop-d.nodes c.dims-dims.result c.loop-d.d c.dims-dims.ensures.count c.loop-d-test.false (omega (arith, few, c.dims-dims.ensures.count, c.loop-d.invariant.room)) c.requires.depths c.cell_at-leaves.ensures.region c.loop-d.invariant.lifted in
-    let held = c.region.ensures.held in
-    let it : c.unwrap-region.result ≡ take c.dims-dims.result c.loop-d.nodes = rw c.unwrap-region.ensures at held in
-    over_cell c.args.space.now c.args.depths.now c.cell_at-leaves.result (take c.dims-dims.result c.loop-d.nodes) c.args.cell c.code.result c.dims-dims.ensures.trees c.cell_at-leaves.ensures.cell (c.code.ensures.place ∙ ap Some it) c.code.ensures.within lifts
+returns c = holds-own_cell c.args.space.now c.args.depths.now c.cell_at.result c.args.cell c.code_above.result c.dims.ensures.trees c.cell_at.ensures.region c.cell_at.ensures.cell c.code_above.ensures

@@ -1,6 +1,6 @@
 -- Climbing ends at the cut.
 use Rattle.std.proofs.Common.{arith, sym, ◌∙◌}
-use Rattle.view_store.proofs.CutNodes.{above-first, above-last, above-next, depth-told, some_parent}
+use Rattle.view_store.proofs.CutNodes.{above-first, above-last, above-next, depth-told, reaches-leaf, some_parent}
 use Rattle.view_store.proofs.cut.cut_node.Goals as goal
 
 pub loop-node-init : goal.loop-node-init
@@ -14,9 +14,9 @@ unwrap-node-requires c =
 pub loop-node-preserved : goal.loop-node-preserved
 loop-node-preserved c =
     let deep = depth-told c.args.dim.now c.requires.tree c.loop-node.node c.depth.result c.loop-node.invariant.within c.depth.ensures.depth in
-    above-next c.args.dim.now c.requires.tree c.args.depth c.args.leaf c.loop-node.node c.unwrap-node.result c.loop-node.invariant (omega (arith, deep, c.loop-node-test.true)) (sym c.parent.ensures.parent ∙ c.unwrap-node.ensures)
+    above-next c.args.dim.now c.requires.tree c.args.depth c.args.low c.loop-node.node c.unwrap-node.result c.loop-node.invariant (omega (arith, deep, c.loop-node-test.true)) (sym c.parent.ensures.parent ∙ c.unwrap-node.ensures)
 
 pub returns : goal.returns
 returns c =
     let deep = depth-told c.args.dim.now c.requires.tree c.loop-node.node c.depth.result c.loop-node.invariant.within c.depth.ensures.depth in
-    above-last c.args.dim.now c.requires.tree c.args.depth c.args.leaf c.loop-node.node c.requires.leaf c.loop-node.invariant (omega (arith, deep, c.loop-node-test.false))
+    above-last c.args.dim.now c.requires.tree c.args.depth c.args.low c.loop-node.node (reaches-leaf c.args.dim.now c.requires.tree c.args.depth c.args.low c.requires.within c.requires.reaches) c.loop-node.invariant (omega (arith, deep, c.loop-node-test.false))

@@ -1,18 +1,17 @@
--- The share of the next row is added to the draft of the region over its cell.
-use Rattle.view_store.proofs.Drafting.{HasRows-next, HasRows-none, row-fits}
+-- The whole of the change is added to the draft of the region that holds it.
+use Rattle.view_store.proofs.Drafting.{keys-whole, shares-whole, whole-fits}
+use Rattle.view_store.specs.Drafts.{draft_at}
 use Rattle.view_store.proofs.drafts.add_change.Goals as goal
 
-pub loop-cell-init : goal.loop-cell-init
-loop-cell-init c = HasRows-none _ _ _ _ _ _ c.requires.drafts
+pub add_whole-requires-clause-within : goal.add_whole-requires-clause-within
+add_whole-requires-clause-within c =
+    let holds = c.in-Some.ensures.over in
+    whole-fits c.args.space.now c.args.depths.now c.args.columns c.args.entries.now c.args.change.now c.requires.change c.in-Some.code holds (draft_at c.args.columns c.args.entries.now c.args.drafts.now c.in-Some.code) (c.requires.within c.in-Some.code holds.in_view).share
 
-pub add_share-requires-clause-within : goal.add_share-requires-clause-within
-add_share-requires-clause-within c =
-    let fits = c.requires.within c.cut_code-code.result c.cut_code-code.ensures.in_view in
-    row-fits c.args.space.now c.args.depths.now c.args.columns c.args.entries.now c.args.change.now c.as_slice-cell-items.result.now c.args.drafts.now c.loop-cell.drafts c.begin.new.drafts c.loop-cell.cell-index c.cut_code-code.result c.loop-cell-test.true
-    c.loop-cell.invariant c.cut_code-code.ensures (record { same = c.in_ok-begin.ensures.same; others = c.in_ok-begin.ensures.others; there = c.in_ok-begin.ensures.there }) c.requires.change.width fits.held (rw c.as_slice-cell-items.ensures fits.share)
+pub returns-in-Some-clause-shares : goal.returns-in-Some-clause-shares
+returns-in-Some-clause-shares c =
+    shares-whole c.args.space.now c.args.depths.now c.args.columns c.args.entries.now c.args.change.now c.requires.change c.in-Some.code c.in-Some.ensures.over c.args.drafts.now c.add_whole.new.drafts c.add_whole.result c.add_whole.ensures.share c.add_whole.ensures.others
 
-pub loop-cell-preserved : goal.loop-cell-preserved
-loop-cell-preserved c =
-    HasRows-next c.args.space.now c.args.depths.now c.args.columns c.args.entries.now c.args.change.now c.as_slice-cell-items.result.now c.args.drafts.now c.loop-cell.drafts c.begin.new.drafts c.loop-cell.cell-index c.cut_code-code.result c.loop-cell-test.true
-    c.loop-cell.invariant c.cut_code-code.ensures (record { same = c.in_ok-begin.ensures.same; others = c.in_ok-begin.ensures.others; there = c.in_ok-begin.ensures.there }) c.add_share.new.drafts
-    (record { share = c.in_ok-add_share.ensures.share; others = c.in_ok-add_share.ensures.others; stays = c.in_ok-add_share.ensures.stays; over = c.in_ok-add_share.ensures.over })
+pub returns-in-Some-clause-keys : goal.returns-in-Some-clause-keys
+returns-in-Some-clause-keys c =
+    keys-whole c.args.space.now c.args.depths.now c.args.columns c.args.entries.now c.args.change.now c.requires.change c.in-Some.code c.in-Some.ensures.over c.args.drafts.now c.add_whole.new.drafts c.add_whole.result c.add_whole.ensures.share c.add_whole.ensures.others

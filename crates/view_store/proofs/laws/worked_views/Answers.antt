@@ -19,4 +19,5 @@ returns c = record {
   whole = refl;
   part = refl;
   nothing = refl;
+  reached = refl;
 }
