@@ -13,7 +13,8 @@ ghost use Rattle.fact_records.specs.Outcomes.{AllAddUp};
 ghost use Rattle.fact_records.specs.Shape.{width_of_all};
 ghost use Rattle.fact_records.specs.Valid.{IsEditOver};
 ghost use Rattle.region_algebra.specs.Space.{IsRegion};
-ghost use Rattle.schema_text.specs.Schema.{view_named};
+ghost use Rattle.schema_text.specs.Schema.{policy_in, shape_of, view_named};
+ghost use Rattle.stored_state.specs.Sound.{IsLoadFault, IsSound, facts_told};
 ghost use Rattle.world_law.specs.Additive.{AddUpOverChildren};
 ghost use Rattle.world_law.specs.Placed.{fault_of};
 ghost use Rattle.cube_core.specs.Cube.{AreFactsOf, CountsEditFault, IsBounded, IsFaultOf, answer_in, difference_in, edited, judge_in, refreshed_in, rows_in, step_bound_in};
@@ -28,7 +29,7 @@ use cell_weight::WeightPolicy;
 use cube_base::{Ids, Memory};
 use cube_model::{Edit, Region};
 use edit_plan::{State, plan};
-use fact_keeper::Keeper;
+use fact_keeper::{Keeper, Stored};
 use fact_records::FactList;
 use group_sum::Terms;
 use region_index::Steps;
@@ -36,6 +37,7 @@ use schema_text::Schema;
 use std::alloc::Global;
 use std::marker::{Brand, Model};
 use std::sync::ledger::{Blank, Ledger};
+use stored_state::{LoadFault, load_state};
 use view_store::ViewList;
 use world_law::{WorldFault, WorldSum, enumerate};
 
@@ -80,6 +82,31 @@ impl<P: WeightPolicy + Drop> Cube<P> {
         let space = schema.space().copy()?;
         let shape = schema.shape().copy()?;
         let state = State::new(alloc, space, shape, policy, schema.views())?;
+        Ok(Cube {
+            alloc,
+            schema,
+            state,
+        })
+    }
+
+    /// The cube of the facts of a stored content, which weighs cells by this policy. `Bad` is answered exactly where the facts or the
+    /// rows of the content are not sound over the schema, with what is found first, and the one other error is want of memory. The
+    /// text of the content's schema, which must read as this one, is not looked at. It takes time in proportion to the facts and rows.
+    pub fn from_stored(
+        alloc: Global,
+        schema: Schema,
+        stored: &Stored,
+        policy: P,
+    ) -> Result<Self, LoadFault>
+        ensures schema { IfOk result (λ cube. cube.schema ≡ schema) }
+        ensures policy { IfOk result (λ cube. cube.policy ≡ policy) }
+        ensures facts { IfOk result (λ cube. cube.facts ≡ facts_told stored.now) }
+        ensures sound { OnOk result (IsSound (policy_in (P.weigh policy) schema) (shape_of schema) schema.dims stored.now) }
+        ensures fault { IfErr result (IsLoadFault (policy_in (P.weigh policy) schema) (shape_of schema) schema.dims stored.now) }
+    {
+        let space = schema.space().copy()?;
+        let shape = schema.shape().copy()?;
+        let state = load_state(alloc, space, shape, policy, schema.views(), stored)?;
         Ok(Cube {
             alloc,
             schema,

@@ -10,5 +10,6 @@ pub use cube::{Cube, Receipt};
 pub use fault::EditFault;
 pub use laws::{worked_cube, worked_sums};
 pub use place::PlacedList;
+pub use stored_state::{Finding, LoadFault};
 pub use view_store::ViewList;
 pub use world_law::{Placed, WorldFault, WorldSum};

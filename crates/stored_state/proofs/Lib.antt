@@ -1,0 +1,5 @@
+pub mod Comparing
+pub mod Judging
+pub mod Loaded
+pub mod Once
+pub mod Reading

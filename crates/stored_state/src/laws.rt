@@ -1,0 +1,41 @@
+//! A law of findings, and examples that are computed from the definitions. The functions do nothing: each law is the contract.
+ghost use Rattle.std.specs.Prelude.{◌≡◌, [], ◌∷◌, List, None, Some, map};
+ghost use Rattle.cube_base.specs.declared.code.Code.TheVariants as code;
+ghost use Rattle.cube_model.specs.Allocation.{Policy, by_count};
+ghost use Rattle.cube_model.specs.Tree.{Dimension};
+ghost use Rattle.fact_keeper.specs.declared.content.Stored.{Stored};
+ghost use Rattle.fact_records.specs.Examples.{one_number};
+ghost use Rattle.fact_records.specs.Shape.{ShapeValue};
+ghost use Rattle.region_algebra.specs.Examples.{small_space};
+ghost use Rattle.stored_state.specs.Examples.{content_of, facts_of, kept_at, over_two, two_facts, whole_at};
+ghost use Rattle.stored_state.specs.Sound.{IsFinding, IsSound, fact_fault, fault_at};
+ghost use Rattle.stored_state.specs.declared.finding.Finding.{Finding};
+ghost use Rattle.stored_state.specs.declared.finding.Finding.TheVariants as finding;
+
+/// Two findings of one content are the same, and a sound content has none.
+pub fn one_finding()
+    ensures same { (policy : Policy) (shape : ShapeValue) (dims : List Dimension) (content : Stored) (a b : Finding)
+        → IsFinding policy shape dims content a → IsFinding policy shape dims content b → a ≡ b }
+    ensures none { (policy : Policy) (shape : ShapeValue) (dims : List Dimension) (content : Stored) (found : Finding)
+        → IsSound policy shape dims content → IsFinding policy shape dims content found → ⊥ }
+{}
+
+/// Kept facts that were judged by hand. An id of 0, and one that is not above the one before, is refused at its place, also where a
+/// later one is refused too. Of several reasons the first is told.
+pub fn worked_facts()
+    ensures ascending { map (fault_at one_number small_space (facts_of (1 ∷ 2 ∷ 5 ∷ []))) (0 ∷ 1 ∷ 2 ∷ 3 ∷ []) ≡ None ∷ None ∷ None ∷ None ∷ [] }
+    ensures zero { IsFinding by_count one_number small_space (content_of (facts_of (0 ∷ 2 ∷ [])) []) (finding.Fact 0 0 code.Id) }
+    ensures repeated { IsFinding by_count one_number small_space (content_of (facts_of (1 ∷ 2 ∷ 2 ∷ [])) []) (finding.Fact 2 2 code.Id) }
+    ensures reasons { map (fact_fault one_number small_space 1048576 3) (kept_at 3 (2 ∷ 7 ∷ []) 1000000000001 ∷ kept_at 4 (2 ∷ 7 ∷ []) 1000000000001 ∷ kept_at 4 (2 ∷ 1 ∷ []) 1000000000001 ∷ kept_at 4 (2 ∷ 1 ∷ []) 5 ∷ [])
+        ≡ Some code.Id ∷ Some code.Node ∷ Some code.Value ∷ Some code.Facts ∷ [] }
+{}
+
+/// Kept rows that were compared by hand with those of two facts on the first cell. They are as they must be, or differ where a
+/// cell or a denominator is another, where the last rows are missing, and where there are more.
+pub fn worked_rows()
+    ensures sound { IsSound by_count one_number small_space (content_of two_facts (whole_at 1 0 ∷ whole_at 2 0 ∷ [])) }
+    ensures cell { IsFinding by_count one_number small_space (content_of two_facts (whole_at 1 0 ∷ whole_at 2 1 ∷ [])) (finding.Rows 1 (Some (whole_at 2 1)) (Some (whole_at 2 0))) }
+    ensures den { IsFinding by_count one_number small_space (content_of two_facts (over_two 1 0 ∷ whole_at 2 0 ∷ [])) (finding.Rows 0 (Some (over_two 1 0)) (Some (whole_at 1 0))) }
+    ensures missing { IsFinding by_count one_number small_space (content_of two_facts (whole_at 1 0 ∷ [])) (finding.Rows 1 None (Some (whole_at 2 0))) }
+    ensures more { IsFinding by_count one_number small_space (content_of two_facts (whole_at 1 0 ∷ whole_at 2 0 ∷ whole_at 3 0 ∷ [])) (finding.Rows 2 (Some (whole_at 3 0)) None) }
+{}
