@@ -1,8 +1,9 @@
 //! The program `cube`: the words of its command line, the standard streams, and the status with which it ends.
 #![tactic(auto)]
 
-use cube_base::{StdSink, StdSource};
+use cube_base::{Ids, StdSink, StdSource};
 use cube_cli::{End, cube};
+use fact_keeper::{MemKeeper, Stored};
 use std::env::Env;
 use std::io::ErrorKind;
 use std::process::ExitCode;
@@ -32,5 +33,6 @@ fn run(rt: &(impl Env + AllocGlobal + Input + Print)) -> End {
     };
     let mut source = StdSource::new(rt.reader());
     let mut sink = StdSink::new(io::writer(rt));
-    cube(alloc, &words, &mut source, &mut sink)
+    let mut keeper = MemKeeper::new(alloc, Stored::empty(alloc), Ids::new(alloc));
+    cube(alloc, &words, &mut source, &mut sink, &mut keeper)
 }

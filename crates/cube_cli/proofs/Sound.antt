@@ -1,21 +1,28 @@
 -- The dimensions of a run are trees, and its facts lie at regions of them; so its answers are exact expectations.
-use Rattle.std.proofs.Common.{◌≡◌, ℕ, ◌≤◌, List, length, [], ◌∷◌, take, refl, Option, Some, None, Result, Ok, Err}
-use Rattle.std.specs.Prelude.{All, IfSome}
-use Rattle.std.specs.Option.{option_map_or}
+use Rattle.std.proofs.Common.{◌≡◌, ℕ, suc, ◌≤◌, Bool, true, false, List, length, [], ◌∷◌, map, take, refl, sym, ap, ◌∙◌, subst, Option, Some, None, Result, Ok, Err}
+use Rattle.std.specs.Prelude.{All, IfOk, IfSome, nat_le, not, slice_get}
+use Rattle.std.specs.Option.{option_and_then, option_map_or}
 use Rattle.std.specs.Result.{result_ok}
-use Rattle.std.proofs.lemmas.List.Elements.{All-nil}
+use Rattle.std.proofs.lemmas.List.Elements.{All-cons, All-nil}
 use Rattle.cube_base.specs.declared.code.Code.{Code}
+use Rattle.cube_base.specs.declared.code.Code.TheVariants as code
 use Rattle.cube_model.specs.declared.edit.Edit.{Edit}
 use Rattle.cube_model.specs.declared.edit.Edit.TheVariants.{Put, Change, Withdraw}
 use Rattle.cube_model.specs.declared.edit.Fact.{Fact}
 use Rattle.cube_model.specs.declared.statistic.CellStat.{CellStat}
+use Rattle.cube_model.specs.Accepted.{first_refusal, first_that_holds}
 use Rattle.cube_model.specs.Allocation.{ExtendedFact}
 use Rattle.cube_model.specs.Answer.{answer}
 use Rattle.cube_model.specs.Facts.{after}
+use Rattle.cube_model.specs.Limits.{MAX_FACTS}
 use Rattle.cube_model.specs.Tree.{Dimension, IsTree}
+use Rattle.text_lines.specs.Text.{lines_of}
+use Rattle.fact_keeper.specs.declared.content.KeptFact.{KeptFact}
+use Rattle.fact_keeper.specs.declared.content.Stored.{Stored}
+use Rattle.fact_records.specs.Accepted.{cols_refusal, region_refusal}
 use Rattle.fact_records.specs.Judge.{judge}
-use Rattle.fact_records.specs.Shape.{width_of_all}
-use Rattle.region_algebra.specs.Space.{IsRegion}
+use Rattle.fact_records.specs.Shape.{ShapeValue, width_of_all}
+use Rattle.region_algebra.specs.Space.{IsRegion, is_region}
 use Rattle.schema_text.specs.Schema.{SchemaValue, policy_in, shape_of, weigh_of}
 use Rattle.schema_text.specs.SchemaText.{BadLine, ReadSchema, schema_of}
 use Rattle.script_text.specs.declared.line.Line.{Line}
@@ -31,9 +38,12 @@ use Rattle.cube_core.specs.Expected.{AreExpected}
 use Rattle.cube_core.proofs.Expecting.{are_expected}
 use Rattle.fact_groups.specs.Edits.{given}
 use Rattle.fact_groups.proofs.Edits.{All-after}
+use Rattle.stored_state.specs.Sound.{AreGood, fact_fault, fact_told, has_wrong_id, id_before}
+use Rattle.script_run.specs.Run.{State, accepted, edited, empty_state, replied, rows_at, run, schema_at, step, step_from, step_of}
 use Rattle.cube_cli.specs.End.{script_of}
-use Rattle.cube_cli.specs.Expectations.{AddsUpAfterEachLine, AfterEachLine, AtEachRegion, ExpectsAfterEachLine, Saying, state_after}
-use Rattle.cube_cli.specs.Run.{State, accepted, edited, empty_state, replied, rows_at, run, schema_at, step, step_from, step_of}
+use Rattle.cube_cli.specs.Expectations.{AddsUpAfterEachLine, AddsUpOverStore, AfterEachLine, AfterEachLineOver, AtEachRegion, ExpectsAfterEachLine, ExpectsOverStore, Saying, state_after, state_over_after}
+use Rattle.cube_cli.specs.SchemaAlone.{schema_alone, tail_line, without_tail}
+use Rattle.cube_cli.specs.Store.{IsSoundOver, state_over}
 use Rattle.cube_cli.proofs.SchemaTrees.{schema_of-trees}
 
 -- the dimensions of a state are trees, and its facts lie at regions of them
@@ -79,20 +89,27 @@ module _ (weigh : CellStat → ℕ) (schema : SchemaValue) where
   run-sound state [] sound = sound
   run-sound state (line ∷ lines) sound = run-sound (step weigh schema state line).state lines (step-sound state line sound)
 
--- what holds of the answers over any facts whose weights add up to their denominators holds after each line
-after_each_line : (Says : Saying)
-    → ((columns : ℕ) (dims : List Dimension) (region : List ℕ) (facts : List ExtendedFact) → All IsTree dims → IsRegion dims region → All IsShared facts → Says columns dims region facts (answer columns dims facts region))
-    → (input : List ℕ) → AfterEachLine Says input
+-- What may be said of the answers over any facts whose weights add up to their denominators.
+abbrev IsLaw : Saying → Type 0
+IsLaw Says =
+    (columns : ℕ) (dims : List Dimension) (region : List ℕ) (facts : List ExtendedFact) → All IsTree dims → IsRegion dims region → All IsShared facts → Says columns dims region facts (answer columns dims facts region)
+
+-- it holds in each such state
+at_each_region : (Says : Saying) → IsLaw Says → (schema : SchemaValue) (state : State) → IsSound state → AtEachRegion Says schema state
+at_each_region Says law schema state sound = λ region named.
+    let weigh = weigh_of schema.policy in
+    law (width_of_all schema.measures) state.dims region (rows_at weigh schema state) sound.trees named
+    (shared-extended (policy_in weigh (schema_at schema state)) state.dims state.facts sound.trees sound.named)
+
+-- and so after each line of an input's script
+after_each_line : (Says : Saying) → IsLaw Says → (input : List ℕ) → AfterEachLine Says input
 after_each_line Says law input = by_read (schema_of input) refl
   where
     by_read : (read : Result ReadSchema BadLine) → schema_of input ≡ read → IfSome (result_ok read) (λ read. (n : ℕ) → n ≤ length (script_of input read) → AtEachRegion Says read.schema (state_after input read n))
     by_read (Err bad) is = tt
-    by_read (Ok read) is = λ n within region named.
-        let weigh = weigh_of read.schema.policy in
-        let state = state_after input read n in
-        let sound : IsSound state = run-sound weigh read.schema (empty_state read.schema) (take n (script_of input read)) (record { trees = schema_of-trees input read is; named = All-nil _ }) in
-        law (width_of_all read.schema.measures) state.dims region (rows_at weigh read.schema state) sound.trees named
-        (shared-extended (policy_in weigh (schema_at read.schema state)) state.dims state.facts sound.trees sound.named)
+    by_read (Ok read) is = λ n within.
+        at_each_region Says law read.schema (state_after input read n)
+        (run-sound (weigh_of read.schema.policy) read.schema (empty_state read.schema) (take n (script_of input read)) (record { trees = schema_of-trees input read is; named = All-nil _ }))
 
 pub expects : (left : Option (List ℕ)) → IfSome left ExpectsAfterEachLine
 expects None = tt
@@ -101,3 +118,65 @@ expects (Some input) = after_each_line AreExpected (λ columns dims region facts
 pub adds_up : (left : Option (List ℕ)) → IfSome left AddsUpAfterEachLine
 adds_up None = tt
 adds_up (Some input) = after_each_line AddUpOverChildren (λ columns dims region facts trees named are. add_up_over_children columns dims region facts trees named) input
+
+-- the dimensions of a schema that a text holds alone are trees
+schema_alone-trees : (text : List ℕ) (schema : SchemaValue) → schema_alone text ≡ Ok schema → All IsTree schema.dims
+schema_alone-trees text schema alone = by_read (schema_of text) refl alone
+  where
+    by_tail : (read : ReadSchema) (tail : Option ℕ) → All IsTree read.schema.dims → option_map_or {U = Result SchemaValue BadLine} (λ line. Err (record { line = line; reason = code.Tail })) tail (Ok read.schema) ≡ Ok schema → All IsTree schema.dims
+    by_tail read (Some line) trees e = cc
+    by_tail read None trees e =
+        let same : read.schema ≡ schema = cc in
+        subst (λ (s : SchemaValue). All IsTree s.dims) same trees
+
+    by_read : (read : Result ReadSchema BadLine) → schema_of text ≡ read → without_tail text read ≡ Ok schema → All IsTree schema.dims
+    by_read (Err bad) is e = cc
+    by_read (Ok read) is e = by_tail read (tail_line text read.size) (schema_of-trees text read is) e
+
+-- a kept fact that is not refused lies at a region
+named_fact : (wrong named : Bool) (rest : List (Option Code)) → first_refusal (first_that_holds ((wrong, code.Id) ∷ (not named, code.Node) ∷ []) ∷ rest) ≡ None → named ≡ true
+named_fact true named rest none = cc
+named_fact false false rest none = cc
+named_fact false true rest none = refl
+
+good-named : (shape : ShapeValue) (dims : List Dimension) (facts : List KeptFact) → AreGood shape dims facts → (place : ℕ) (fact : KeptFact) → slice_get facts place ≡ Some fact → IsRegion dims fact.nodes
+good-named shape dims facts good place fact at =
+    let before = id_before facts place in
+    let none : fact_fault shape dims place before fact ≡ None = ap (option_and_then (fact_fault shape dims place before)) (sym at) ∙ good place in
+    named_fact (has_wrong_id before fact) (is_region dims fact.nodes) (cols_refusal shape fact.cols ∷ region_refusal dims fact.nodes ∷ first_that_holds ((nat_le MAX_FACTS place, code.Facts) ∷ []) ∷ []) none
+
+all-named : (dims : List Dimension) (facts : List KeptFact) → ((place : ℕ) (fact : KeptFact) → slice_get facts place ≡ Some fact → IsRegion dims fact.nodes) → All (λ f. IsRegion dims f.region) (map fact_told facts)
+all-named dims [] each = All-nil (λ f. IsRegion dims f.region)
+all-named dims (fact ∷ facts) each =
+    All-cons (λ f. IsRegion dims f.region) (fact_told fact) (map fact_told facts) (each 0 fact refl) (all-named dims facts (λ place other at. each (suc place) other at))
+
+stored-sound : (content : Stored) (schema : SchemaValue) → schema_alone content.schema ≡ Ok schema → IsSoundOver schema content → IsSound (state_over schema content)
+stored-sound content schema alone sound = record {
+  trees = schema_alone-trees content.schema schema alone;
+  named = all-named schema.dims content.facts (good-named (shape_of schema) schema.dims content.facts sound.good);
+}
+
+-- and so after each line of a script over a content
+after_each_line_over : (Says : Saying) → IsLaw Says → (content : Stored) (input : List ℕ) → AfterEachLineOver Says content input
+after_each_line_over Says law content input = by_read (schema_alone content.schema) refl
+  where
+    by_read : (read : Result SchemaValue BadLine) → schema_alone content.schema ≡ read
+        → IfOk read (λ schema. IsSoundOver schema content → (n : ℕ) → n ≤ length (lines_of input) → AtEachRegion Says schema (state_over_after schema content input n))
+    by_read (Err bad) is = tt
+    by_read (Ok schema) is = λ sound n within.
+        at_each_region Says law schema (state_over_after schema content input n)
+        (run-sound (weigh_of schema.policy) schema (state_over schema content) (take n (lines_of input)) (stored-sound content schema is sound))
+
+-- where the keeper tells its content, and the source its input
+of_both : (kept : Option Stored) (left : Option (List ℕ)) (P : Stored → List ℕ → Type 0) → ((content : Stored) (input : List ℕ) → P content input) → IfSome kept (λ content. IfSome left (P content))
+of_both None left P each = tt
+of_both (Some content) None P each = tt
+of_both (Some content) (Some input) P each = each content input
+
+pub expects_over : (kept : Option Stored) (left : Option (List ℕ)) → IfSome kept (λ content. IfSome left (ExpectsOverStore content))
+expects_over kept left =
+    of_both kept left ExpectsOverStore (λ content input. after_each_line_over AreExpected (λ columns dims region facts trees named are. are_expected columns dims region facts are) content input)
+
+pub adds_up_over : (kept : Option Stored) (left : Option (List ℕ)) → IfSome kept (λ content. IfSome left (AddsUpOverStore content))
+adds_up_over kept left =
+    of_both kept left AddsUpOverStore (λ content input. after_each_line_over AddUpOverChildren (λ columns dims region facts trees named are. add_up_over_children columns dims region facts trees named) content input)

@@ -6,18 +6,32 @@ use Rattle.std.specs.Str.{bytes_eq}
 use Rattle.text_lines.specs.Text.{number_in}
 use Rattle.drill_run.specs.Edits.{MAX_DRILL}
 use Rattle.cube_cli.specs.declared.command.Command.{Command}
-use Rattle.cube_cli.specs.declared.command.Command.TheVariants.{Drill, Try}
+use Rattle.cube_cli.specs.declared.command.Command.TheVariants.{Drill, Store, Try}
+use Rattle.cube_cli.specs.declared.command.StoreCommand.{StoreCommand}
+use Rattle.cube_cli.specs.declared.command.StoreCommand.TheVariants.{Init, Run, Check}
 
 -- the drill of the number that bytes spell
 abbrev pub drill_named : List ℕ → Option Command
 drill_named number = option_map (λ n. Drill n) (number_in 1 MAX_DRILL number)
 
+-- the command over a store that a word names
+abbrev pub store_command : List ℕ → Option StoreCommand
+store_command word =
+    if bytes_eq word (codes "init") then Some Init
+    else (if bytes_eq word (codes "run") then Some Run
+    else (if bytes_eq word (codes "check") then Some Check else None))
+
+-- that over the store of a name, which is not empty
+abbrev pub store_named : List ℕ → List ℕ → Option Command
+store_named word [] = None
+store_named word (byte ∷ name) = option_map (λ command. Store command) (store_command word)
+
 -- the command of two words
 abbrev pub command_of_two : List (List ℕ) → Option Command
 command_of_two [] = None
 command_of_two (word ∷ []) = None
-command_of_two (word ∷ number ∷ []) = if bytes_eq word (codes "drill") then drill_named number else None
-command_of_two (word ∷ number ∷ other ∷ words) = None
+command_of_two (word ∷ name ∷ []) = if bytes_eq word (codes "drill") then drill_named name else store_named word name
+command_of_two (word ∷ name ∷ other ∷ words) = None
 
 -- the command, if the words are those of one
 abbrev pub command_of : List (List ℕ) → Option Command

@@ -1,23 +1,34 @@
--- What each end of a run says of the words, of the input and of what was written.
-use Rattle.std.specs.Prelude.{◌≡◌, ℕ, ◌+◌, ◌-◌, ◌<◌, ◌≤◌, List, [], ◌⊎◌, length, take, drop, ⊤, Option, Some, None, IfSome, IsSome, IsSomeAnd, Err}
+-- What each end of a run says of the words, of the input, of the store and of what was written.
+use Rattle.std.specs.Prelude.{◌≡◌, ◌≢◌, ℕ, ◌+◌, ◌≤◌, List, [], ◌∷◌, ◌⊎◌, length, take, drop, codes, ⊤, Option, Some, None, IfSome, IsSome, IsSomeAnd, IsOk, IsOkAnd, Ok, Err}
 use Rattle.std.specs.Option.{option_map, option_map_or}
 use Rattle.std.specs.Result.{result_ok}
 use Rattle.std.specs.List.{concat}
-use Rattle.std.specs.Io.{StartsWith}
+use Rattle.std.specs.Fmt.{decimal}
 use Rattle.std.specs.Io.KnownBytes.{Appends}
 use Rattle.cube_base.specs.Outside.{TakesPart}
-use Rattle.text_lines.specs.Text.{lines_of}
+use Rattle.text_lines.specs.Text.{line_text, lines_of}
 use Rattle.schema_text.specs.SchemaText.{ReadSchema, schema_of}
 use Rattle.drill_run.specs.Doing.{drill_of}
 use Rattle.drill_run.specs.Summary.{summary_of}
+use Rattle.fact_keeper.specs.declared.content.Stored.{Stored}
+use Rattle.fact_keeper.specs.Batch.{empty_content}
+use Rattle.schema_text.specs.Schema.{SchemaValue}
+use Rattle.stored_state.specs.Sound.{rows_counted}
+use Rattle.script_run.specs.Kept.{Commits}
+use Rattle.script_run.specs.Run.{Outcome, run_of}
+use Rattle.script_run.specs.Seen.{KeepFailed, KeeperSeen, NoKeepFault, NoWriteFault, SinkSeen, WriteFailed, Wrote, WroteNothing}
+use Rattle.script_run.specs.Written.{Answered, Broken, Stopped}
 use Rattle.cube_cli.specs.Command.{command_of}
-use Rattle.cube_cli.specs.Run.{Outcome, run_of}
 use Rattle.cube_cli.specs.Input.{INPUT_LIMIT, GoesOn, TakesAtMost}
-use Rattle.cube_cli.specs.Seen.{NoFault, NoReadFault, NoWriteFault, ReadFailed, ReadNothing, Seen, SinkSeen, SourceSeen, WasRead, WriteFailed, Wrote, WroteNothing}
+use Rattle.cube_cli.specs.SchemaAlone.{schema_alone}
+use Rattle.cube_cli.specs.Seen.{NoFault, NoReadFault, ReadFailed, ReadNothing, Seen, SourceSeen, WasRead}
+use Rattle.cube_cli.specs.Store.{CommitsSchema, Finds, Holds, IsSoundContent, IsSoundOver, IsUntouched, batches_over, outcome_over, policy_of, replies_over}
 use Rattle.cube_cli.specs.declared.command.Command.{Command}
-use Rattle.cube_cli.specs.declared.command.Command.TheVariants.{Drill, Try}
+use Rattle.cube_cli.specs.declared.command.Command.TheVariants.{Drill, Store, Try}
+use Rattle.cube_cli.specs.declared.command.StoreCommand.{StoreCommand}
+use Rattle.cube_cli.specs.declared.command.StoreCommand.TheVariants.{Init, Run, Check}
 use Rattle.cube_cli.specs.declared.end.End.{End}
-use Rattle.cube_cli.specs.declared.end.End.TheVariants.{Finished, Usage, Schema, ReadFault, WriteFault, Memory, TooLong}
+use Rattle.cube_cli.specs.declared.end.End.TheVariants.{Finished, Usage, Schema, NoCube, HasCube, BadStore, ReadFault, WriteFault, KeepFault, Memory, TooLong}
 
 -- the schema of an input, where it is accepted
 abbrev pub schema_in : List ℕ → Option ReadSchema
@@ -35,28 +46,6 @@ outcome_of input = option_map (λ read. run_of read.schema (script_of input read
 abbrev pub replies_of : List ℕ → List (List ℕ)
 replies_of input = option_map_or (λ outcome. outcome.replies) (outcome_of input) []
 
--- What was written of these replies when the run stopped: a part of the first so many, with all but the last of
--- them whole.
-pub record Stopped (replies : List (List ℕ)) (done : ℕ) (written : List ℕ) : Type 0 where
-  pub among : done ≤ length replies
-  pub prefix : StartsWith (concat (take done replies)) written
-  pub holds : StartsWith written (concat (take (done - 1) replies))
-
--- the last of them is not whole
-pub record Broken (replies : List (List ℕ)) (done : ℕ) (written : List ℕ) : Type 0 where
-  pub stopped : Stopped replies done written
-  pub part : length written < length (concat (take done replies))
-
--- Of the first so many replies all were written, or all but the last.
-pub record Gathered (replies : List (List ℕ)) (done : ℕ) (written : List ℕ) : Type 0 where
-  pub among : done ≤ length replies
-  pub whole : (written ≡ concat (take done replies)) ⊎ (written ≡ concat (take (done - 1) replies))
-
--- the first so many replies were written, all of them, and nothing behind them
-pub record Answered (replies : List (List ℕ)) (done : ℕ) (sink : SinkSeen) : Type 0 where
-  pub among : done ≤ length replies
-  pub bytes : Appends sink.taken sink.taken_after (concat (take done replies))
-
 -- the whole input is read before a line is done
 pub record NoneDone (done : ℕ) (sink : SinkSeen) : Type 0 where
   pub none : done ≡ 0
@@ -66,6 +55,10 @@ pub record NoneDone (done : ℕ) (sink : SinkSeen) : Type 0 where
 abbrev pub SaysOfNone : Seen → End → Type 0
 SaysOfNone seen Usage = NoFault seen × ReadNothing seen.source × WroteNothing seen.sink
 SaysOfNone seen (Schema _ _) = ⊥
+SaysOfNone seen NoCube = ⊥
+SaysOfNone seen HasCube = ⊥
+SaysOfNone seen (BadStore _) = ⊥
+SaysOfNone seen (KeepFault _) = ⊥
 SaysOfNone seen (Finished _) = ⊥
 SaysOfNone seen (ReadFault _) = ⊥
 SaysOfNone seen (TooLong _) = ⊥
@@ -75,6 +68,10 @@ SaysOfNone seen (Memory _) = ⊥
 -- What each end says of a run of `try`.
 abbrev pub SaysOfTry : Seen → End → Type 0
 SaysOfTry seen Usage = ⊥
+SaysOfTry seen NoCube = ⊥
+SaysOfTry seen HasCube = ⊥
+SaysOfTry seen (BadStore _) = ⊥
+SaysOfTry seen (KeepFault _) = ⊥
 -- the input's schema is refused: this is its first line at fault, and why
 SaysOfTry seen (Schema line why) = NoFault seen × WroteNothing seen.sink × WasRead seen.source (λ input. schema_of input ≡ Err (record { line = line; reason = why }))
 -- the bytes written are the replies of the run, which refuses so many lines
@@ -90,33 +87,266 @@ SaysOfTry seen (WriteFault done) = WriteFailed seen.sink × NoReadFault seen.sou
 -- memory was wanting
 SaysOfTry seen (Memory done) = NoFault seen × IfSome seen.source.left (λ input. Wrote seen.sink.taken seen.sink.taken_after (Stopped (replies_of input) done))
 
+-- What the end of a command says that wrote one line, of which so many edits were refused.
+abbrev pub WritesLine : List ℕ → ℕ → ℕ → SinkSeen → End → Type 0
+WritesLine line refused done sink (Finished count) = NoWriteFault sink × (count ≡ refused) × Appends sink.taken sink.taken_after line
+-- a write failed: a part of the line is written, and not the whole
+WritesLine line refused done sink (WriteFault count) = WriteFailed sink × (count ≡ done) × TakesPart sink.taken sink.taken_after line
+WritesLine line refused done sink (Memory count) = NoWriteFault sink × (count ≡ done) × TakesPart sink.taken sink.taken_after line
+WritesLine line refused done sink Usage = ⊥
+WritesLine line refused done sink (Schema _ _) = ⊥
+WritesLine line refused done sink NoCube = ⊥
+WritesLine line refused done sink HasCube = ⊥
+WritesLine line refused done sink (BadStore _) = ⊥
+WritesLine line refused done sink (ReadFault _) = ⊥
+WritesLine line refused done sink (KeepFault _) = ⊥
+WritesLine line refused done sink (TooLong _) = ⊥
+
 -- What each end says of the line of a drill.
 abbrev pub SaysOfDrillLine : ℕ → SinkSeen → End → Type 0
--- the line is written, and so many edits were refused
-SaysOfDrillLine n sink (Finished refused) = NoWriteFault sink × (refused ≡ (drill_of n).refused) × Appends sink.taken sink.taken_after (summary_of n)
--- a write failed: a part of the line is written, and not the whole
-SaysOfDrillLine n sink (WriteFault done) = WriteFailed sink × (done ≡ 0) × TakesPart sink.taken sink.taken_after (summary_of n)
--- memory was wanting, before the line or for it
-SaysOfDrillLine n sink (Memory done) = NoWriteFault sink × (done ≡ 0) × TakesPart sink.taken sink.taken_after (summary_of n)
-SaysOfDrillLine n sink Usage = ⊥
-SaysOfDrillLine n sink (Schema _ _) = ⊥
-SaysOfDrillLine n sink (ReadFault _) = ⊥
-SaysOfDrillLine n sink (TooLong _) = ⊥
+SaysOfDrillLine n sink end = WritesLine (summary_of n) (drill_of n).refused 0 sink end
 
 -- The drill of a number reads nothing.
 abbrev pub SaysOfDrill : ℕ → Seen → End → Type 0
 SaysOfDrill n seen end = NoReadFault seen.source × ReadNothing seen.source × SaysOfDrillLine n seen.sink end
 
+-- no fault of the outside was met, the keeper's neither
+pub record NoFaultAtAll (seen : Seen) (keeper : KeeperSeen) : Type 0 where
+  pub outside : NoFault seen
+  pub keep : NoKeepFault keeper
+
+-- nothing was written, and nothing kept
+pub record DidNothing (seen : Seen) (keeper : KeeperSeen) : Type 0 where
+  pub wrote : WroteNothing seen.sink
+  pub kept : IsUntouched keeper
+
+-- and nothing was read, and no fault was met
+pub record LeftAll (seen : Seen) (keeper : KeeperSeen) : Type 0 where
+  pub no_fault : NoFaultAtAll seen keeper
+  pub nothing : DidNothing seen keeper
+  pub read : ReadNothing seen.source
+
+-- a read failed before anything was done
+pub record FailedReading (seen : Seen) (keeper : KeeperSeen) (done : ℕ) : Type 0 where
+  pub cause : ReadFailed seen.source
+  pub write : NoWriteFault seen.sink
+  pub keep : NoKeepFault keeper
+  pub none : done ≡ 0
+  pub nothing : DidNothing seen keeper
+
+-- 2^30 bytes were taken, and one more came, before anything was done
+pub record TookLong (seen : Seen) (keeper : KeeperSeen) (done : ℕ) : Type 0 where
+  pub no_fault : NoFaultAtAll seen keeper
+  pub long : GoesOn INPUT_LIMIT seen.source.left seen.source.left_after
+  pub none : done ≡ 0
+  pub nothing : DidNothing seen keeper
+
+-- a write failed, and nothing else
+pub record FailedWriting (seen : Seen) (keeper : KeeperSeen) : Type 0 where
+  pub cause : WriteFailed seen.sink
+  pub read : NoReadFault seen.source
+  pub keep : NoKeepFault keeper
+
+-- the keeper failed, and nothing else
+pub record FailedKeeping (seen : Seen) (keeper : KeeperSeen) : Type 0 where
+  pub cause : KeepFailed keeper
+  pub outside : NoFault seen
+
+-- nothing was read, written or kept, and no line done
+pub record StoppedFirst (seen : Seen) (keeper : KeeperSeen) (done : ℕ) : Type 0 where
+  pub none : done ≡ 0
+  pub nothing : DidNothing seen keeper
+  pub read : ReadNothing seen.source
+
+-- A store was loaded: this is its content, in which there is something, and the schema that its text holds alone.
+pub record Opened (schema : SchemaValue) (content : Stored) (keeper : KeeperSeen) : Type 0 where
+  pub told : Holds keeper (λ kept. content ≡ kept)
+  pub schema_is : schema_alone content.schema ≡ Ok schema
+  pub some : content ≢ empty_content
+  pub kept : IsUntouched keeper
+  pub count : NoKeepFault keeper
+
+-- what the end says where it was not, whatever it holds, and of what it holds
+abbrev pub EndsOpening : KeeperSeen → End → Type 0
+EndsOpening keeper NoCube = IsUntouched keeper × NoKeepFault keeper
+EndsOpening keeper (BadStore found) = IsUntouched keeper × NoKeepFault keeper
+EndsOpening keeper (KeepFault done) = IsUntouched keeper × KeepFailed keeper × (done ≡ 0)
+EndsOpening keeper (Memory done) = IsUntouched keeper × NoKeepFault keeper × (done ≡ 0)
+EndsOpening keeper Usage = ⊥
+EndsOpening keeper HasCube = ⊥
+EndsOpening keeper (Schema _ _) = ⊥
+EndsOpening keeper (Finished _) = ⊥
+EndsOpening keeper (ReadFault _) = ⊥
+EndsOpening keeper (WriteFault _) = ⊥
+EndsOpening keeper (TooLong _) = ⊥
+
+abbrev pub OpeningOver : Stored → End → Type 0
+OpeningOver content NoCube = content ≡ empty_content
+OpeningOver content (BadStore found) = (content ≢ empty_content) × Finds content found
+OpeningOver content end = ⊤
+
+abbrev pub SaysOfOpening : KeeperSeen → End → Type 0
+SaysOfOpening keeper end = EndsOpening keeper end × Holds keeper (λ content. OpeningOver content end)
+
+-- the reply of `init`
+abbrev pub INIT_LINE : List ℕ
+INIT_LINE = line_text (codes "ok") (codes "0" ∷ [])
+
+-- What each end says of a run of `init`, whatever the store holds.
+abbrev pub EndsInit : Seen → KeeperSeen → End → Type 0
+EndsInit seen keeper Usage = ⊥
+EndsInit seen keeper NoCube = ⊥
+EndsInit seen keeper (BadStore _) = ⊥
+EndsInit seen keeper HasCube = LeftAll seen keeper
+-- the input is no schema alone: this is its first line at fault, and why
+EndsInit seen keeper (Schema line why) = NoFaultAtAll seen keeper × DidNothing seen keeper × WasRead seen.source (λ input. schema_alone input ≡ Err (record { line = line; reason = why }))
+-- the schema is kept, and the reply written
+EndsInit seen keeper (Finished refused) = NoFaultAtAll seen keeper × (refused ≡ 0) × WasRead seen.source (λ input. CommitsSchema input keeper) × Appends seen.sink.taken seen.sink.taken_after INIT_LINE
+EndsInit seen keeper (ReadFault done) = FailedReading seen keeper done
+EndsInit seen keeper (TooLong done) = TookLong seen keeper done
+-- the schema is kept, and the reply is not whole
+EndsInit seen keeper (WriteFault done) = FailedWriting seen keeper × (done ≡ 1) × WasRead seen.source (λ input. CommitsSchema input keeper) × TakesPart seen.sink.taken seen.sink.taken_after INIT_LINE
+EndsInit seen keeper (KeepFault done) = FailedKeeping seen keeper × (done ≡ 0) × DidNothing seen keeper
+-- memory was wanting, before the schema was kept or behind
+EndsInit seen keeper (Memory done) = NoFaultAtAll seen keeper × (((done ≡ 0) × DidNothing seen keeper) ⊎ ((done ≡ 1) × WasRead seen.source (λ input. CommitsSchema input keeper) × TakesPart seen.sink.taken seen.sink.taken_after INIT_LINE))
+
+-- and of what the store held: it was there, or nothing was; a fault of the keeper and want of memory may come before that is known
+abbrev pub InitOver : Stored → End → Type 0
+InitOver content HasCube = content ≢ empty_content
+InitOver content (KeepFault _) = ⊤
+InitOver content (Memory _) = ⊤
+InitOver content end = content ≡ empty_content
+
+-- What each end says of a run of `run`, whatever the store holds.
+abbrev pub EndsRun : Seen → KeeperSeen → End → Type 0
+EndsRun seen keeper Usage = ⊥
+EndsRun seen keeper HasCube = ⊥
+EndsRun seen keeper (Schema _ _) = ⊥
+EndsRun seen keeper NoCube = LeftAll seen keeper
+EndsRun seen keeper (BadStore found) = LeftAll seen keeper
+EndsRun seen keeper (Finished refused) = NoFaultAtAll seen keeper
+EndsRun seen keeper (ReadFault done) = FailedReading seen keeper done
+EndsRun seen keeper (TooLong done) = TookLong seen keeper done
+EndsRun seen keeper (WriteFault done) = FailedWriting seen keeper
+EndsRun seen keeper (KeepFault done) = FailedKeeping seen keeper
+EndsRun seen keeper (Memory done) = NoFaultAtAll seen keeper
+
+-- What lines did over a content: so many are refused, all replies are written, and what they commit is kept.
+pub record Ran (content : Stored) (lines : List (List ℕ)) (refused : ℕ) (seen : Seen) (keeper : KeeperSeen) : Type 0 where
+  pub outcome : IsSomeAnd (outcome_over content lines) (λ outcome. (refused ≡ outcome.refused) × Appends seen.sink.taken seen.sink.taken_after (concat outcome.replies))
+  pub kept : Commits (batches_over content lines) keeper.told keeper.told_after
+
+-- what the first so many of them commit is kept
+abbrev pub KeptFirst : Stored → List (List ℕ) → ℕ → KeeperSeen → Type 0
+KeptFirst content lines done keeper = Commits (batches_over content (take done lines)) keeper.told keeper.told_after
+
+-- A write failed among them: the last of the first `done` replies is not whole.
+pub record BrokeOff (content : Stored) (lines : List (List ℕ)) (done : ℕ) (seen : Seen) (keeper : KeeperSeen) : Type 0 where
+  pub wrote : Wrote seen.sink.taken seen.sink.taken_after (Broken (replies_over content lines) done)
+  pub kept : KeptFirst content lines done keeper
+
+-- Memory was wanting.
+pub record WantedMemory (content : Stored) (lines : List (List ℕ)) (done : ℕ) (seen : Seen) (keeper : KeeperSeen) : Type 0 where
+  pub wrote : Wrote seen.sink.taken seen.sink.taken_after (Stopped (replies_over content lines) done)
+  pub kept : KeptFirst content lines done keeper
+
+-- They stopped at the keeper behind the first so many, whose replies are all written: the line behind these commits.
+pub record StoppedAtEdit (content : Stored) (lines : List (List ℕ)) (done : ℕ) (seen : Seen) (keeper : KeeperSeen) : Type 0 where
+  pub answered : Answered (replies_over content lines) done seen.sink
+  pub kept : KeptFirst content lines done keeper
+  pub next : length (batches_over content (take (done + 1) lines)) ≡ length (batches_over content (take done lines)) + 1
+
+-- What each end of `run` says of a content that the store held.
+abbrev pub RunOver : Stored → Seen → KeeperSeen → End → Type 0
+RunOver content seen keeper Usage = ⊥
+RunOver content seen keeper HasCube = ⊥
+RunOver content seen keeper (Schema _ _) = ⊥
+-- there was nothing in it
+RunOver content seen keeper NoCube = content ≡ empty_content
+-- this is found in it first
+RunOver content seen keeper (BadStore found) = (content ≢ empty_content) × Finds content found
+RunOver content seen keeper (Finished refused) = IsSoundContent content × WasRead seen.source (λ input. Ran content (lines_of input) refused seen keeper)
+RunOver content seen keeper (ReadFault done) = IsSoundContent content
+RunOver content seen keeper (TooLong done) = IsSoundContent content
+RunOver content seen keeper (WriteFault done) = IsSoundContent content × WasRead seen.source (λ input. BrokeOff content (lines_of input) done seen keeper)
+-- the keeper failed at the load, or at an edit
+RunOver content seen keeper (KeepFault done) = StoppedFirst seen keeper done ⊎ (IsSoundContent content × WasRead seen.source (λ input. StoppedAtEdit content (lines_of input) done seen keeper))
+RunOver content seen keeper (Memory done) = IfSome seen.source.left (λ input. WantedMemory content (lines_of input) done seen keeper)
+
+-- the reply of `check` to so many facts and rows
+abbrev pub sound_text : ℕ → ℕ → List ℕ
+sound_text facts rows = line_text (codes "sound") (decimal facts ∷ decimal rows ∷ [])
+
+-- that over a schema: how many facts a content has, and how many rows
+abbrev pub sound_line : SchemaValue → Stored → List ℕ
+sound_line schema content = sound_text (length content.facts) (rows_counted (policy_of schema) schema.dims content)
+
+-- a content is sound, and of its line this holds
+abbrev pub IsSoundWith : (List ℕ → Type 0) → Stored → Type 0
+IsSoundWith P content = IsOkAnd (schema_alone content.schema) (λ schema. IsSoundOver schema content × P (sound_line schema content))
+
+-- nothing was read, and nothing kept
+pub record LeftStore (seen : Seen) (keeper : KeeperSeen) : Type 0 where
+  pub read : ReadNothing seen.source
+  pub kept : IsUntouched keeper
+
+-- What each end says of a run of `check`, whatever the store holds.
+abbrev pub EndsCheck : Seen → KeeperSeen → End → Type 0
+EndsCheck seen keeper Usage = ⊥
+EndsCheck seen keeper HasCube = ⊥
+EndsCheck seen keeper (Schema _ _) = ⊥
+EndsCheck seen keeper (ReadFault _) = ⊥
+EndsCheck seen keeper (TooLong _) = ⊥
+EndsCheck seen keeper NoCube = LeftAll seen keeper
+EndsCheck seen keeper (BadStore found) = LeftAll seen keeper
+EndsCheck seen keeper (Finished refused) = NoFaultAtAll seen keeper × (refused ≡ 0) × LeftStore seen keeper
+EndsCheck seen keeper (WriteFault done) = FailedWriting seen keeper × (done ≡ 0) × LeftStore seen keeper
+EndsCheck seen keeper (KeepFault done) = FailedKeeping seen keeper × StoppedFirst seen keeper done
+EndsCheck seen keeper (Memory done) = NoFaultAtAll seen keeper × (done ≡ 0) × LeftStore seen keeper
+
+-- What each end of `check` says of a content that the store held.
+abbrev pub CheckOver : Stored → SinkSeen → End → Type 0
+CheckOver content sink Usage = ⊥
+CheckOver content sink HasCube = ⊥
+CheckOver content sink (Schema _ _) = ⊥
+CheckOver content sink (ReadFault _) = ⊥
+CheckOver content sink (TooLong _) = ⊥
+CheckOver content sink NoCube = content ≡ empty_content
+CheckOver content sink (BadStore found) = (content ≢ empty_content) × Finds content found
+-- it is sound, and the reply says how much it holds
+CheckOver content sink (Finished refused) = IsSoundWith (Appends sink.taken sink.taken_after) content
+-- the reply is not whole
+CheckOver content sink (WriteFault done) = IsSoundWith (TakesPart sink.taken sink.taken_after) content
+CheckOver content sink (KeepFault done) = ⊤
+-- memory was wanting, before the reply or for it
+CheckOver content sink (Memory done) = WroteNothing sink ⊎ IsSoundWith (TakesPart sink.taken sink.taken_after) content
+
+-- what an end says of a run of a command over a store, and of what the store held, where the keeper tells it
+abbrev pub SaysOfStore : StoreCommand → Seen → KeeperSeen → End → Type 0
+SaysOfStore Init seen keeper end = EndsInit seen keeper end × Holds keeper (λ content. InitOver content end)
+SaysOfStore Run seen keeper end = EndsRun seen keeper end × Holds keeper (λ content. RunOver content seen keeper end)
+SaysOfStore Check seen keeper end = EndsCheck seen keeper end × Holds keeper (λ content. CheckOver content seen.sink end)
+
+-- the keeper was not called: what it holds and its count of faults are as they were
+pub record WasNotCalled (keeper : KeeperSeen) : Type 0 where
+  pub kept : IsUntouched keeper
+  pub count : NoKeepFault keeper
+
 -- what an end says of a run of a command, if one is named
-abbrev pub SaysOf : Option Command → Seen → End → Type 0
-SaysOf None seen end = SaysOfNone seen end
-SaysOf (Some Try) seen end = SaysOfTry seen end
-SaysOf (Some (Drill n)) seen end = SaysOfDrill n seen end
+abbrev pub SaysOf : Option Command → Seen → KeeperSeen → End → Type 0
+SaysOf None seen keeper end = SaysOfNone seen end × WasNotCalled keeper
+SaysOf (Some Try) seen keeper end = SaysOfTry seen end × WasNotCalled keeper
+SaysOf (Some (Drill n)) seen keeper end = SaysOfDrill n seen end × WasNotCalled keeper
+SaysOf (Some (Store command)) seen keeper end = SaysOfStore command seen keeper end
 
 -- the most bytes of the source that a run takes which ends so
 abbrev pub most_taken : End → ℕ
 most_taken (TooLong _) = INPUT_LIMIT + 1
 most_taken Usage = INPUT_LIMIT
+most_taken NoCube = INPUT_LIMIT
+most_taken HasCube = INPUT_LIMIT
+most_taken (BadStore _) = INPUT_LIMIT
+most_taken (KeepFault _) = INPUT_LIMIT
 most_taken (Schema _ _) = INPUT_LIMIT
 most_taken (Finished _) = INPUT_LIMIT
 most_taken (ReadFault _) = INPUT_LIMIT
@@ -128,8 +358,8 @@ abbrev pub TookFew : SourceSeen → End → Type 0
 TookFew source end = TakesAtMost (most_taken end) source.left source.left_after
 
 -- what the end of a run says, by the words of the command line
-abbrev pub Says : List (List ℕ) → Seen → End → Type 0
-Says words seen end = SaysOf (command_of words) seen end
+abbrev pub Says : List (List ℕ) → Seen → KeeperSeen → End → Type 0
+Says words seen keeper end = SaysOf (command_of words) seen keeper end
 
 -- the run was done to its end, or memory was wanting
 abbrev pub IsDone : End → Type 0
@@ -140,6 +370,10 @@ IsDone (ReadFault done) = ⊥
 IsDone (WriteFault done) = ⊥
 IsDone (Memory done) = ⊤
 IsDone (TooLong done) = ⊥
+IsDone NoCube = ⊥
+IsDone HasCube = ⊥
+IsDone (BadStore found) = ⊥
+IsDone (KeepFault done) = ⊥
 
 -- Where the input of `try` is not too long and its schema is accepted, and no fault of the outside comes, the run is done to its
 -- end unless memory is wanting.
@@ -150,11 +384,32 @@ IsCompleteTry seen end = (ReadFailed seen.source → ⊥) → (WriteFailed seen.
 abbrev pub IsCompleteDrill : SinkSeen → End → Type 0
 IsCompleteDrill sink end = (WriteFailed sink → ⊥) → IsDone end
 
--- the same of the command, if one is named
-abbrev pub IsCompleteOf : Option Command → Seen → End → Type 0
-IsCompleteOf None seen end = ⊤
-IsCompleteOf (Some Try) seen end = IsCompleteTry seen end
-IsCompleteOf (Some (Drill n)) seen end = IsCompleteDrill seen.sink end
+-- Where there is no store of the name, the input of `init` is not too long and a schema alone, and no fault of the outside comes, the run is
+-- done to its end unless memory is wanting.
+abbrev pub IsCompleteInit : Seen → KeeperSeen → End → Type 0
+IsCompleteInit seen keeper end = (ReadFailed seen.source → ⊥) → (WriteFailed seen.sink → ⊥) → (KeepFailed keeper → ⊥)
+    → Holds keeper (λ content. content ≡ empty_content → IfSome seen.source.left (λ input. length input ≤ INPUT_LIMIT → IsOk (schema_alone input) → IsDone end))
 
-abbrev pub IsComplete : List (List ℕ) → Seen → End → Type 0
-IsComplete words seen end = IsCompleteOf (command_of words) seen end
+-- The same of `run` where the store is sound and the input not too long,
+abbrev pub IsCompleteRun : Seen → KeeperSeen → End → Type 0
+IsCompleteRun seen keeper end = (ReadFailed seen.source → ⊥) → (WriteFailed seen.sink → ⊥) → (KeepFailed keeper → ⊥)
+    → Holds keeper (λ content. IsSoundContent content → IfSome seen.source.left (λ input. length input ≤ INPUT_LIMIT → IsDone end))
+
+-- and of `check` where the store is sound.
+abbrev pub IsCompleteCheck : Seen → KeeperSeen → End → Type 0
+IsCompleteCheck seen keeper end = (WriteFailed seen.sink → ⊥) → (KeepFailed keeper → ⊥) → Holds keeper (λ content. IsSoundContent content → IsDone end)
+
+abbrev pub IsCompleteStore : StoreCommand → Seen → KeeperSeen → End → Type 0
+IsCompleteStore Init seen keeper end = IsCompleteInit seen keeper end
+IsCompleteStore Run seen keeper end = IsCompleteRun seen keeper end
+IsCompleteStore Check seen keeper end = IsCompleteCheck seen keeper end
+
+-- the same of the command, if one is named
+abbrev pub IsCompleteOf : Option Command → Seen → KeeperSeen → End → Type 0
+IsCompleteOf None seen keeper end = ⊤
+IsCompleteOf (Some Try) seen keeper end = IsCompleteTry seen end
+IsCompleteOf (Some (Drill n)) seen keeper end = IsCompleteDrill seen.sink end
+IsCompleteOf (Some (Store command)) seen keeper end = IsCompleteStore command seen keeper end
+
+abbrev pub IsComplete : List (List ℕ) → Seen → KeeperSeen → End → Type 0
+IsComplete words seen keeper end = IsCompleteOf (command_of words) seen keeper end

@@ -3,9 +3,9 @@ pub mod End
 pub mod Examples
 pub mod Expectations
 pub mod Input
-pub mod Progress
-pub mod ReplyEnds
-pub mod Run
 pub mod RunEnd
+pub mod SchemaAlone
 pub mod Seen
 pub mod Status
+pub mod Steps
+pub mod Store

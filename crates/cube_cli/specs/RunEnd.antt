@@ -1,17 +1,25 @@
--- The end of a run of the program by that of its script.
+-- The end of a run of the program by that of its script, or by why a content is not loaded.
 use Rattle.std.specs.Prelude.{ℕ, Result, Ok, Err}
-use Rattle.cube_cli.specs.declared.break_off.BreakOff.{BreakOff}
-use Rattle.cube_cli.specs.declared.break_off.BreakOff.TheVariants as break_off
+use Rattle.script_run.specs.declared.break_off.BreakOff.{BreakOff}
+use Rattle.script_run.specs.declared.break_off.BreakOff.TheVariants as break_off
 use Rattle.cube_cli.specs.declared.end.End.{End}
-use Rattle.cube_cli.specs.declared.end.End.TheVariants.{Finished, WriteFault, Memory}
+use Rattle.stored_state.specs.declared.finding.LoadFault.{LoadFault}
+use Rattle.stored_state.specs.declared.finding.LoadFault.TheVariants as load_fault
+use Rattle.cube_cli.specs.declared.end.End.TheVariants.{BadStore, Finished, WriteFault, KeepFault, Memory}
 
 -- the end where a script broke off
 abbrev pub end_of_break_off : BreakOff → End
 end_of_break_off (break_off.Write line) = WriteFault line
 end_of_break_off (break_off.SinkMemory line) = Memory line
 end_of_break_off (break_off.Memory done) = Memory done
+end_of_break_off (break_off.Keep done) = KeepFault done
 
 -- the end of a script's run, which refused so many lines or broke off
 abbrev pub end_of_run : Result ℕ BreakOff → End
 end_of_run (Ok refused) = Finished refused
 end_of_run (Err off) = end_of_break_off off
+
+-- the end where a content is not loaded
+abbrev pub end_of_load : LoadFault → End
+end_of_load (load_fault.Bad found) = BadStore found
+end_of_load load_fault.Memory = Memory 0

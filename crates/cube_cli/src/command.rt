@@ -1,25 +1,21 @@
 //! The commands, and the top call.
-ghost use Rattle.std.specs.Prelude.{◌≡◌, ◌≤◌, length, map, string_bytes, IfErr, IfOk, IfSome};
-ghost use Rattle.text_lines.specs.Text.{lines_of};
-ghost use Rattle.cube_cli.specs.Command.{command_of, drill_named};
-ghost use Rattle.cube_cli.specs.End.{IsComplete, IsCompleteTry, Says, SaysOfTry, TookFew};
-ghost use Rattle.cube_cli.specs.Expectations.{AddsUpAfterEachLine, ExpectsAfterEachLine};
-ghost use Rattle.cube_cli.specs.Progress.{BreaksOff, Done};
-ghost use Rattle.cube_cli.specs.Run.{empty_state, run, run_of};
-ghost use Rattle.cube_cli.specs.Seen.{seen_of, sink_seen, source_seen};
+ghost use Rattle.std.specs.Prelude.{◌≡◌, map, string_bytes, IfSome};
+ghost use Rattle.cube_cli.specs.Command.{command_of, drill_named, store_command, store_named};
+ghost use Rattle.cube_cli.specs.End.{IsComplete, Says, TookFew};
+ghost use Rattle.cube_cli.specs.Expectations.{AddsUpAfterEachLine, AddsUpOverStore, ExpectsAfterEachLine, ExpectsOverStore};
+ghost use Rattle.cube_cli.specs.Seen.{seen_of, source_seen};
+ghost use Rattle.script_run.specs.Seen.{keeper_seen};
 
 use crate::End;
-use crate::break_off::{BreakOff, end_of_run};
 use crate::drill::drill;
-use crate::input::{InputStop, MAX_INPUT, take_input};
-use crate::script_run::ScriptRun;
-use cell_weight::{ByCount, BySum, Uniform, WeightPolicy};
+use crate::init::init;
+use crate::store::{check, run};
+use crate::trying::try_input;
 use cube_base::{Sink, Source};
-use cube_core::Cube;
 use drill_run::MAX_DRILL;
-use schema_text::{PolicyWord, Schema, SchemaFault, read_schema};
+use fact_keeper::Keeper;
 use std::alloc::Global;
-use text_lines::{first_line_of, number_in};
+use text_lines::{is_text, number_in};
 
 /// A command of the program.
 #[derive(Clone, Copy, Debug, PartialEq, Eq)]
@@ -28,9 +24,23 @@ pub enum Command {
     Try,
     /// The drill of this number, from 1 to 100,000.
     Drill(u64),
+    /// A command over the store that the second word names.
+    Store(StoreCommand),
 }
 
-/// Runs the program: the words of the command line without the program's name, the input, and where replies go.
+/// A command over a store.
+#[derive(Clone, Copy, Debug, PartialEq, Eq)]
+pub enum StoreCommand {
+    /// A schema is kept in a new store.
+    Init,
+    /// A script, done on the cube of the store.
+    Run,
+    /// The store is audited.
+    Check,
+}
+
+/// Runs the program: the words of the command line without the program's name, the input, where replies go, and where cubes are
+/// kept.
 ///
 /// The word `try` takes the whole input, at most 2^30 bytes. It begins with a schema, and each line behind it is done
 /// in order on a cube of that schema and its policy, and answered unless it is skipped. Replies are gathered into writes
@@ -38,22 +48,43 @@ pub enum Command {
 /// but the last of them whole.
 ///
 /// The words `drill` and a number from 1 to 100,000, which has one spelling, do the drill of the number, and write its line. No input
-/// is taken.
+/// is taken. Neither of these calls the keeper.
+///
+/// The words `init`, `run` and `check` each take the name of a store, which is not empty, and load it first. `init` takes a schema
+/// alone, keeps its one canonical text as the batch of a store in which there was nothing, and answers `ok` and 0. `run` does the lines of the
+/// whole input on the cube of the store. Each edit that is accepted commits one batch before it is answered, and all replies before it are
+/// written by then: the store holds at each stop what the first `done` lines made of it. `check` takes no input and answers `sound` with
+/// the numbers of the facts and of their rows. A store with nothing in it has no cube, and one that is not sound is left as it is.
 ///
 /// What is answered over the facts, after each number of lines, is the exact expectation over all possible worlds of these,
 /// in each of which every fact stands in one cell of its allocation; and where a node of a region has children, the answers
 /// at the regions with each child in its place merge to that at the region.
-pub fn cube<S: Source, K: Sink>(alloc: Global, words: &[String], source: &mut S, out: &mut K) -> End
-    ensures says { Says (map string_bytes words.now) (seen_of S.left S.faults K.taken K.faults source.old source.new out.old out.new) result }
-    ensures complete { IsComplete (map string_bytes words.now) (seen_of S.left S.faults K.taken K.faults source.old source.new out.old out.new) result }
+pub fn cube<S: Source, K: Sink, Q: Keeper>(
+    alloc: Global,
+    words: &[String],
+    source: &mut S,
+    out: &mut K,
+    keeper: &mut Q,
+) -> End
+    ensures says { Says (map string_bytes words.now) (seen_of S.left S.faults K.taken K.faults source.old source.new out.old out.new) (keeper_seen Q.content Q.journal Q.faults keeper.old keeper.new) result }
+    ensures complete { IsComplete (map string_bytes words.now) (seen_of S.left S.faults K.taken K.faults source.old source.new out.old out.new) (keeper_seen Q.content Q.journal Q.faults keeper.old keeper.new) result }
     ensures few { TookFew (source_seen S.left S.faults source.old source.new) result }
     ensures expectations { IfSome (S.left source.old) ExpectsAfterEachLine }
     ensures children { IfSome (S.left source.old) AddsUpAfterEachLine }
+    ensures expectations_over_store { IfSome (Q.content keeper.old) (λ content. IfSome (S.left source.old) (ExpectsOverStore content)) }
+    ensures children_over_store { IfSome (Q.content keeper.old) (λ content. IfSome (S.left source.old) (AddsUpOverStore content)) }
 {
     match command_of(words) {
         None => End::Usage,
         Some(Command::Try) => try_input(alloc, source, out),
         Some(Command::Drill(n)) => drill(alloc, n, out),
+        Some(Command::Store(StoreCommand::Init)) => {
+            init(alloc, second_of(words), source, out, keeper)
+        }
+        Some(Command::Store(StoreCommand::Run)) => {
+            run(alloc, second_of(words), source, out, keeper)
+        }
+        Some(Command::Store(StoreCommand::Check)) => check(alloc, second_of(words), out, keeper),
     }
 }
 
@@ -64,6 +95,7 @@ fn command_of(words: &[String]) -> Option<Command>
     match words {
         [word] if word.as_str() == "try" => Some(Command::Try),
         [word, number] if word.as_str() == "drill" => drill_named(number.as_bytes()),
+        [word, name] => store_named(word.as_bytes(), name.as_bytes()),
         _ => None,
     }
 }
@@ -76,63 +108,36 @@ fn drill_named(number: &[u8]) -> Option<Command>
     Some(Command::Drill(n))
 }
 
-// Takes the input, and does the script behind its schema.
-fn try_input<S: Source, K: Sink>(alloc: Global, source: &mut S, out: &mut K) -> End
-    ensures says { SaysOfTry (seen_of S.left S.faults K.taken K.faults source.old source.new out.old out.new) result }
-    ensures complete { IsCompleteTry (seen_of S.left S.faults K.taken K.faults source.old source.new out.old out.new) result }
-    ensures few { TookFew (source_seen S.left S.faults source.old source.new) result }
+// The command over a store that a word names, where the name of the store is not empty.
+fn store_named(word: &[u8], name: &[u8]) -> Option<Command>
+    ensures { result ≡ store_named word.now name.now }
 {
-    let input = match take_input(alloc, source, MAX_INPUT) {
-        Ok(input) => input,
-        Err(InputStop::Fault) => return End::ReadFault { done: 0 },
-        Err(InputStop::TooLong) => return End::TooLong { done: 0 },
-        Err(InputStop::Memory) => return End::Memory { done: 0 },
-    };
-    match read_schema(alloc, &input) {
-        Ok((schema, size)) => end_of_run(run_schema_script(alloc, schema, &input[size..], out)),
-        Err(SchemaFault::Bad { line, code }) => End::Schema { line, code },
-        Err(SchemaFault::Memory) => End::Memory { done: 0 },
+    if name.is_empty() {
+        return None;
+    }
+    let command = store_command(word)?;
+    Some(Command::Store(command))
+}
+
+// The command over a store that a word names.
+fn store_command(word: &[u8]) -> Option<StoreCommand>
+    ensures { result ≡ store_command word.now }
+{
+    if is_text(word, "init") {
+        Some(StoreCommand::Init)
+    } else if is_text(word, "run") {
+        Some(StoreCommand::Run)
+    } else if is_text(word, "check") {
+        Some(StoreCommand::Check)
+    } else {
+        None
     }
 }
 
-// Does the lines of a script on a cube of the schema and its policy, writes their replies, and says how many are refused.
-fn run_schema_script<K: Sink>(
-    alloc: Global,
-    schema: Schema,
-    script: &[u8],
-    out: &mut K,
-) -> Result<u64, BreakOff>
-    requires { length script.now ≤ MAX_INPUT }
-    ensures done { IfOk result (Done (run_of schema (lines_of script.now)) (sink_seen K.taken K.faults out.old out.new)) }
-    ensures broken { IfErr result (BreaksOff (run_of schema (lines_of script.now)).replies (sink_seen K.taken K.faults out.old out.new)) }
-{
-    match schema.policy() {
-        PolicyWord::Uniform => run_script(alloc, schema, Uniform, script, out),
-        PolicyWord::Count => run_script(alloc, schema, ByCount, script, out),
-        PolicyWord::Weight(_) => run_script(alloc, schema, BySum, script, out),
+// The second of the words, if there is one: the name of a store.
+fn second_of(words: &[String]) -> &str {
+    match words {
+        [_, name, ..] => name.as_str(),
+        _ => "",
     }
-}
-
-// Does the lines of a script on a cube of the schema under a policy, writes their replies, and says how many are refused.
-fn run_script<P: WeightPolicy + Drop, K: Sink>(
-    alloc: Global,
-    schema: Schema,
-    policy: P,
-    script: &[u8],
-    out: &mut K,
-) -> Result<u64, BreakOff>
-    requires { length script.now ≤ MAX_INPUT }
-    ensures done { IfOk result (Done (run (P.weigh policy) schema (empty_state schema) (lines_of script.now)) (sink_seen K.taken K.faults out.old out.new)) }
-    ensures broken { IfErr result (BreaksOff (run (P.weigh policy) schema (empty_state schema) (lines_of script.now)).replies (sink_seen K.taken K.faults out.old out.new)) }
-{
-    let Ok(cube) = Cube::new(alloc, schema, policy) else {
-        return Err(BreakOff::Memory { done: 0 });
-    };
-    let mut run = ScriptRun::new(alloc, cube);
-    let mut rest = script;
-    while let Some((line, after)) = first_line_of(rest) {
-        run.do_line(line, out)?;
-        rest = after;
-    }
-    run.finish(out)
 }

@@ -1,11 +1,12 @@
 //! The drill of a number as a command.
-ghost use Rattle.std.specs.Prelude.{◌≡◌, ◌≤◌};
+ghost use Rattle.std.specs.Prelude.{◌≤◌};
 ghost use Rattle.drill_run.specs.Edits.{MAX_DRILL};
 ghost use Rattle.cube_cli.specs.End.{IsCompleteDrill, SaysOfDrillLine};
-ghost use Rattle.cube_cli.specs.Seen.{sink_seen};
+ghost use Rattle.script_run.specs.Seen.{sink_seen};
 
 use crate::End;
-use cube_base::{Sink, SinkError, write_whole};
+use crate::saying::write_line;
+use cube_base::Sink;
 use drill_run::run_drill;
 use std::alloc::Global;
 
@@ -18,11 +19,5 @@ pub fn drill<K: Sink>(alloc: Global, n: u64, out: &mut K) -> End
     let Ok(summary) = run_drill(alloc, n) else {
         return End::Memory { done: 0 };
     };
-    match write_whole(out, summary.line.as_slice()) {
-        Ok(()) => End::Finished {
-            refused: summary.refused,
-        },
-        Err(SinkError::Failed) => End::WriteFault { done: 0 },
-        Err(SinkError::Memory) => End::Memory { done: 0 },
-    }
+    write_line(out, summary.line.as_slice(), summary.refused, 0)
 }

@@ -3,14 +3,15 @@ ghost use Rattle.std.specs.Prelude.{◌≡◌, ◌≤◌, ◌↔◌, IfSome, IsS
 ghost use Rattle.cube_cli.specs.Status.{status_of};
 
 use cube_base::Code;
+use cube_core::Finding;
 use std::fmt;
 
 /// The last status of a run that was done to its end.
 const LAST_DONE: u8 = 1;
 
 /// How a run ended. Of a run that stops, a part of the replies to the first `done` script lines is written, with all
-/// but the last of them whole.
-#[derive(Clone, Copy, Debug, PartialEq, Eq)]
+/// but the last of them whole. Of a command without a script, `done` is 1 where a batch was committed to the store, and else 0.
+#[derive(Debug, Drop)]
 pub enum End {
     /// The input was read to its end, and this many of its lines were answered `error`.
     Finished { refused: u64 },
@@ -18,11 +19,19 @@ pub enum End {
     Usage,
     /// The schema is refused: its first faulty line, counted from 1, and why.
     Schema { line: u64, code: Code },
+    /// There is no store of the name.
+    NoCube,
+    /// There is a store of the name.
+    HasCube,
+    /// What the store holds is not sound: what is found first in it.
+    BadStore(Finding),
     /// Reading failed when `done` lines were done, and their replies are written. The whole input is read before a line
     /// is done, so `done` is 0.
     ReadFault { done: u64 },
     /// Writing failed. The reply to line `done`, counted from 1, is not whole; lines behind it may have been done.
     WriteFault { done: u64 },
+    /// The store failed when `done` lines were done, and their replies are written: at the edit behind them, or before anything was read.
+    KeepFault { done: u64 },
     /// An allocation was refused. Lines behind the first `done` may have been done.
     Memory { done: u64 },
     /// The input has more than 2^30 bytes. The replies to the `done` lines that were done are written. The whole input is
@@ -36,13 +45,16 @@ impl End {
     pub fn status(&self) -> u8
         ensures { result ≡ status_of self.now }
     {
-        match *self {
+        match self {
             End::Finished { refused: 0 } => 0,
             End::Finished { refused: _ } => 1,
             End::Usage => 2,
             End::Schema { line: _, code: _ } => 3,
+            End::NoCube | End::HasCube => 4,
+            End::BadStore(_) => 5,
             End::ReadFault { done: _ } => 6,
             End::WriteFault { done: _ } => 7,
+            End::KeepFault { done: _ } => 8,
             End::Memory { done: _ } => 9,
             End::TooLong { done: _ } => 10,
         }
@@ -65,7 +77,7 @@ impl End {
 }
 
 /// The line on standard error that tells of an end.
-#[derive(Clone, Copy, Debug, PartialEq, Eq)]
+#[derive(Debug, Drop)]
 pub struct ErrorLine(End);
 
 impl fmt::Display for ErrorLine {
@@ -77,7 +89,7 @@ impl fmt::Display for ErrorLine {
 /// What the program says of the end on standard error.
 impl fmt::Display for End {
     fn fmt<W: fmt::Write>(&self, f: &mut fmt::Formatter<W>) -> fmt::Result {
-        match *self {
+        match self {
             End::Finished { refused } => write!(f, "finished, {refused} lines refused"),
             End::Usage => f.write_str(
                 "usage: cube try, init NAME, run NAME, check NAME, import NAME, export NAME, drill N",
@@ -86,10 +98,33 @@ impl fmt::Display for End {
                 let word = code.word();
                 write!(f, "schema line {line}: {word}")
             }
+            End::NoCube => f.write_str("no cube"),
+            End::HasCube => f.write_str("cube exists"),
+            End::BadStore(finding) => {
+                f.write_str("bad store: ")?;
+                say_finding(finding, f)
+            }
             End::ReadFault { done } => write!(f, "read fault after line {done}"),
             End::WriteFault { done } => write!(f, "write fault after line {done}"),
+            End::KeepFault { done } => write!(f, "store fault after line {done}"),
             End::Memory { done } => write!(f, "out of memory after line {done}"),
             End::TooLong { done } => write!(f, "input too long after line {done}"),
         }
+    }
+}
+
+/// What the program says of what is found in a store.
+fn say_finding<W: fmt::Write>(finding: &Finding, f: &mut fmt::Formatter<W>) -> fmt::Result {
+    match finding {
+        Finding::Schema { line, code } => {
+            let word = code.word();
+            write!(f, "schema line {line}: {word}")
+        }
+        Finding::Fact { place, id, code } => {
+            let word = code.word();
+            write!(f, "fact {id} at place {place}: {word}")
+        }
+        Finding::TooManyRows { would } => write!(f, "{would} rows"),
+        Finding::Rows { place, .. } => write!(f, "rows differ at place {place}"),
     }
 }

@@ -3,7 +3,7 @@ ghost use Rattle.std.specs.Prelude.{◌≡◌, ◌<◌, ◌≤◌, ◌^◌, ℕ,
 ghost use Rattle.std.specs.Io.KnownBytes.{Consumes};
 ghost use Rattle.cube_cli.specs.Input.{Reads, StopsReading, Taken};
 
-use cube_base::{Failed, Source};
+use cube_base::Source;
 use std::alloc::{AllocError, Global};
 
 /// The most bytes of an input.

@@ -1,8 +1,4 @@
 //! Runs that are computed from the definitions. The function does nothing: the law is its contract.
-ghost use Rattle.std.specs.Prelude.{ℕ, List};
-ghost use Rattle.cube_model.specs.declared.statistic.CellStat.{CellStat};
-ghost use Rattle.schema_text.specs.Schema.{SchemaValue};
-ghost use Rattle.cube_cli.specs.Run.{RunsInParts, State};
 ghost use Rattle.cube_cli.specs.Examples.{Gives, city_and_state, city_and_state_replies, hours, hours_replies, listed_worlds, listed_worlds_replies, nothing_to_divide, nothing_to_divide_replies, parts_of_outcomes, parts_of_outcomes_replies, refused_and_skipped, refused_and_skipped_replies, told_in_fractions, told_in_fractions_replies};
 
 /// Two inputs worked out by hand. A fact in a city and one somewhere in its state: the count at the city has a term for
@@ -31,9 +27,4 @@ pub fn worked_questions()
 /// One more: a fact of which two thirds are in a city, and the two worlds in which it stands there or in the other city.
 pub fn worked_listing()
     ensures { Gives listed_worlds listed_worlds_replies 0 }
-{}
-
-/// The state after some lines is that of the run of these lines, and the other lines are done from there.
-pub fn run_in_two_parts()
-    ensures { (weigh : CellStat → ℕ) (schema : SchemaValue) (first : State) (lines more : List (List ℕ)) → RunsInParts weigh schema first lines more }
 {}

@@ -1,20 +1,20 @@
-//! The program as a library: the top call, from the bytes that come in to the bytes that go out.
+//! The program as a library: the top call, from the bytes that come in to the bytes that go out and the store.
 #![tactic(auto)]
 
-mod break_off;
 mod command;
 mod drill;
 mod end;
+mod init;
 mod input;
 mod laws;
-mod outbox;
-mod questions;
-mod script;
-mod script_run;
+mod run_end;
+mod saying;
+mod schema_alone;
+mod store;
+mod trying;
 
-pub use command::{Command, cube};
+pub use command::{Command, StoreCommand, cube};
 pub use end::{End, ErrorLine};
 pub use input::{InputStop, take_input};
-pub use laws::{
-    run_in_two_parts, worked_examples, worked_listing, worked_measures, worked_questions,
-};
+pub use laws::{worked_examples, worked_listing, worked_measures, worked_questions};
+pub use schema_alone::read_schema_alone;

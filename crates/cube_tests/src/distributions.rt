@@ -1,6 +1,5 @@
 //! Facts with distributions.
-use crate::runs::{Case, expect_each};
-use cube_cli::End;
+use crate::runs::{Case, Ending, expect_each};
 use std::test::Fail;
 
 /// Places with a distribution over two outcomes.
@@ -16,14 +15,14 @@ const CASES: [Case; 2] = [
         QUALITY,
         "insert\t1\tAustin\t80:20\ninsert\t2\tTX\t50:50\ninsert\t3\tLA\t80:21\ninsert\t3\tLA\t80\ninsert\t3\tLA\t80:20:0\ninsert\t3\tLA\t080:20\ninsert\t3\tLA\t120:-20\ninsert\t2\tLA\t1:1\ninsert\t2\tLA\t100:0\nterms\tAustin\nterms\tLA\npool\tQuality\tAustin\npool\tQuality\tLA\nsum\tQuality\tAustin\navg\tQuality\tLA\n",
         "ok\t1\nok\t1\nerror\tparts\nerror\tparts\nerror\tparts\nerror\tparts\nerror\tparts\nerror\tparts\nerror\texists\nterms\t2\t1\t1\t80\t20\t2\t1\t50\t50\nterms\t0\npool\t0.700000000\t0.700000000\t7/10\t0.300000000\t0.300000000\t3/10\nerror\tundefined\nerror\tmeasure\nerror\tmeasure\n",
-        End::Finished { refused: 10 },
+        Ending::Finished { refused: 10 },
     ),
     // A wrong number is told before wrong parts, and a wrong line before both.
     (
         GRADED,
         "insert\t1\tAustin\tCamry\t80:20\t5\ninsert\t1\tAustin\tCamry\t80:21\t+5\ninsert\t1\tAustin\tCamry\t80:21\t5\ninsert\t1\tAustin\tCamry\t80:20\t+5\ninsert\t1\tWaco\tCamry\t80:21\t5\ninsert\t0\tAustin\tCamry\t80:21\t5\ninsert\t1\tAustin\tCamry\t80:21\nchange\t1\tAustin\tCamry\t80:20\t5\nchange\t1\tAustin\tCamry\t80:21\t+5\nchange\t1\tAustin\tCamry\t80:21\t5\n",
         "ok\t1\nerror\tvalue\nerror\tparts\nerror\tvalue\nerror\tnode\nerror\tid\nerror\tfields\nok\t0\nerror\tvalue\nerror\tparts\n",
-        End::Finished { refused: 8 },
+        Ending::Finished { refused: 8 },
     ),
 ];
 

@@ -1,6 +1,5 @@
 //! Drills.
-use crate::runs::{Outside, REPAIRS, Ran, WHOLE, run};
-use cube_cli::End;
+use crate::runs::{Ending, Outside, REPAIRS, Ran, WHOLE, run};
 use std::alloc::{AllocError, Global};
 use std::test::Fail;
 
@@ -33,7 +32,7 @@ fn drill(alloc: Global, number: &str, outside: &Outside) -> Result<(Ran, bool), 
 fn writes_line(alloc: Global, row: &Drill) -> Result<bool, AllocError> {
     let (number, line) = *row;
     let (ran, unread) = drill(alloc, number, &WHOLE)?;
-    Ok(ran.is(End::Finished { refused: 0 }, line) && unread)
+    Ok(ran.is(Ending::Finished { refused: 0 }, line) && unread)
 }
 
 #[test]
@@ -63,7 +62,7 @@ fn breaks_at(alloc: Global, row: &(u64, &str)) -> Result<bool, AllocError> {
         ..WHOLE
     };
     let (ran, unread) = drill(alloc, "1", &outside)?;
-    Ok(ran.is(End::WriteFault { done: 0 }, front) && unread)
+    Ok(ran.is(Ending::WriteFault { done: 0 }, front) && unread)
 }
 
 #[test]

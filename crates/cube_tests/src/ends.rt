@@ -1,13 +1,18 @@
 //! Command lines, and what is told of each end.
-use crate::runs::{ALL, REPAIRS, WHOLE, run};
+use crate::runs::{ALL, Ending, REPAIRS, WHOLE, run};
 use cube_base::{Bytes, Code, Ids, MemSource};
 use cube_cli::{End, InputStop, take_input};
+use cube_core::Finding;
 use std::alloc::{AllocError, Global};
 use std::test::Fail;
 
 /// Words of no command.
-const NO_COMMANDS: [&[&str]; 14] = [
+const NO_COMMANDS: [&[&str]; 18] = [
     &["run"],
+    &["init"],
+    &["init", "s", "t"],
+    &["check", ""],
+    &["export", "s"],
     &["help"],
     &["drill", "0"],
     &["drill", "01"],
@@ -26,7 +31,7 @@ const NO_COMMANDS: [&[&str]; 14] = [
 /// Whether the words are refused before anything is read or written.
 fn is_usage(alloc: Global, words: &[&str]) -> Result<bool, AllocError> {
     let ran = run(alloc, words, REPAIRS.as_bytes(), &WHOLE)?;
-    Ok(ran.is(End::Usage, "") && ran.left == REPAIRS.len())
+    Ok(ran.is(Ending::Usage, "") && ran.left == REPAIRS.len())
 }
 
 #[test]
@@ -39,48 +44,73 @@ fn words_of_no_command(rt: HostRuntime) -> Result<(), Fail> {
 }
 
 /// Each end, its status, and the line on standard error; no line is written where it is empty.
-const ENDS: [(End, u8, &str); 8] = [
-    (End::Finished { refused: 0 }, 0, ""),
-    (End::Finished { refused: 2 }, 1, ""),
+const ENDS: [(Ending, u8, &str); 12] = [
+    (Ending::Finished { refused: 0 }, 0, ""),
+    (Ending::Finished { refused: 2 }, 1, ""),
     (
-        End::Usage,
+        Ending::Usage,
         2,
         "cube: usage: cube try, init NAME, run NAME, check NAME, import NAME, export NAME, drill N",
     ),
     (
-        End::Schema {
+        Ending::Schema {
             line: 7,
             code: Code::Depth,
         },
         3,
         "cube: schema line 7: depth",
     ),
+    (Ending::NoCube, 4, "cube: no cube"),
+    (Ending::HasCube, 4, "cube: cube exists"),
+    (Ending::BadStore, 5, "cube: bad store: 2097153 rows"),
     (
-        End::ReadFault { done: 2 },
+        Ending::ReadFault { done: 2 },
         6,
         "cube: read fault after line 2",
     ),
     (
-        End::WriteFault { done: 2 },
+        Ending::WriteFault { done: 2 },
         7,
         "cube: write fault after line 2",
     ),
     (
-        End::Memory { done: 2 },
+        Ending::KeepFault { done: 2 },
+        8,
+        "cube: store fault after line 2",
+    ),
+    (
+        Ending::Memory { done: 2 },
         9,
         "cube: out of memory after line 2",
     ),
     (
-        End::TooLong { done: 2 },
+        Ending::TooLong { done: 2 },
         10,
         "cube: input too long after line 2",
     ),
 ];
 
+/// The end that ends so.
+fn end_of(ending: Ending) -> End {
+    match ending {
+        Ending::Finished { refused } => End::Finished { refused },
+        Ending::Usage => End::Usage,
+        Ending::Schema { line, code } => End::Schema { line, code },
+        Ending::NoCube => End::NoCube,
+        Ending::HasCube => End::HasCube,
+        Ending::BadStore => End::BadStore(Finding::TooManyRows { would: 2_097_153 }),
+        Ending::ReadFault { done } => End::ReadFault { done },
+        Ending::WriteFault { done } => End::WriteFault { done },
+        Ending::KeepFault { done } => End::KeepFault { done },
+        Ending::Memory { done } => End::Memory { done },
+        Ending::TooLong { done } => End::TooLong { done },
+    }
+}
+
 /// Whether this is told of an end.
-fn is_told(alloc: Global, row: &(End, u8, &str)) -> Result<bool, AllocError> {
-    let (end, status, text) = *row;
-    let (told, line) = end.told();
+fn is_told(alloc: Global, row: &(Ending, u8, &str)) -> Result<bool, AllocError> {
+    let (ending, status, text) = *row;
+    let (told, line) = end_of(ending).told();
     let said = match line {
         Some(line) => line.to_string(alloc)?,
         None => String::new(alloc),

@@ -1,6 +1,5 @@
 //! Faults of the outside.
-use crate::runs::{ALL, Outside, REPAIRS, WHOLE, joined, run};
-use cube_cli::End;
+use crate::runs::{ALL, Ending, Outside, REPAIRS, WHOLE, joined, run};
 use std::alloc::{AllocError, Global};
 use std::test::Fail;
 
@@ -26,7 +25,7 @@ fn fails_at_each(alloc: Global, row: &(usize, u64)) -> Result<bool, AllocError> 
             ..WHOLE
         };
         let ran = run(alloc, &["try"], input.as_bytes(), &outside)?;
-        if !ran.is(End::ReadFault { done: 0 }, "") {
+        if !ran.is(Ending::ReadFault { done: 0 }, "") {
             return Ok(false);
         }
     }
@@ -36,7 +35,7 @@ fn fails_at_each(alloc: Global, row: &(usize, u64)) -> Result<bool, AllocError> 
         ..WHOLE
     };
     let ran = run(alloc, &["try"], input.as_bytes(), &outside)?;
-    Ok(ran.is(End::Finished { refused: 2 }, REPLIES))
+    Ok(ran.is(Ending::Finished { refused: 2 }, REPLIES))
 }
 
 #[test]
@@ -94,7 +93,7 @@ fn breaks_at(alloc: Global, row: &(u64, usize, u64)) -> Result<bool, AllocError>
     let Some(front) = REPLIES.get(..taken) else {
         return Ok(false);
     };
-    Ok(ran.is(End::WriteFault { done }, front))
+    Ok(ran.is(Ending::WriteFault { done }, front))
 }
 
 #[test]

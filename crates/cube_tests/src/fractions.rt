@@ -1,6 +1,5 @@
 //! Counts, sums and means as fractions, and as bounds where they are too wide for one.
-use crate::runs::{Case, REPAIRS, WHOLE, expect_each, run};
-use cube_cli::End;
+use crate::runs::{Case, Ending, REPAIRS, WHOLE, expect_each, run};
 use std::alloc::{AllocError, Global};
 use std::fmt::Write;
 use std::test::Fail;
@@ -14,35 +13,35 @@ const CASES: [Case; 5] = [
         REPAIRS,
         "insert\t1\tAustin\tCamry\t100\ninsert\t2\tAustin\tCamry\t300\ninsert\t3\tDallas\tCamry\t50\ninsert\t4\tTX\tCamry\t600\ncount\tAustin\tCamry\nsum\tRepair\tAustin\tCamry\navg\tRepair\tTX\tAll\nchange\t2\tAustin\tCamry\t301\nsum\tRepair\tAustin\tCamry\n",
         "ok\t1\nok\t1\nok\t1\nok\t1\ncount\t2.666666666\t2.666666667\t8/3\nsum\t800.000000000\t800.000000000\t800\navg\t262.500000000\t262.500000000\t525/2\nok\t0\nsum\t801.000000000\t801.000000000\t801\n",
-        End::Finished { refused: 0 },
+        Ending::Finished { refused: 0 },
     ),
     // Below 0 a bound is the whole number of units on the outer side.
     (
         REPAIRS,
         "insert\t1\tAustin\tCamry\t0\ninsert\t2\tDallas\tCamry\t0\ninsert\t3\tHouston\tCamry\t0\ninsert\t4\tTX\tCamry\t-1\nsum\tRepair\tAustin\tCamry\navg\tRepair\tAustin\tCamry\n",
         "ok\t1\nok\t1\nok\t1\nok\t1\nsum\t-0.333333334\t-0.333333333\t-1/3\navg\t-0.250000000\t-0.250000000\t-1/4\n",
-        End::Finished { refused: 0 },
+        Ending::Finished { refused: 0 },
     ),
     // Without facts there is a count and a sum, and no mean.
     (
         REPAIRS,
         "count\tAll\tAll\nterms\tAll\tAll\nsum\tRepair\tAll\tAll\navg\tRepair\tAll\tAll\n",
         "count\t0.000000000\t0.000000000\t0\nterms\t0\nsum\t0.000000000\t0.000000000\t0\nerror\tundefined\n",
-        End::Finished { refused: 1 },
+        Ending::Finished { refused: 1 },
     ),
     // A sum of 0 has a mean.
     (
         REPAIRS,
         "insert\t1\tAustin\tCamry\t5\ninsert\t2\tTX\tCamry\t-5\nsum\tRepair\tTX\tAll\navg\tRepair\tTX\tAll\navg\tRepair\tCA\tAll\n",
         "ok\t1\nok\t1\nsum\t0.000000000\t0.000000000\t0\navg\t0.000000000\t0.000000000\t0\nerror\tundefined\n",
-        End::Finished { refused: 1 },
+        Ending::Finished { refused: 1 },
     ),
     // The denominators are four primes just below 10^12, so what adds up shares of all four is too wide for one fraction.
     (
         SHARES,
         "insert\t1\ta\tm1\t1\t-3\ninsert\t2\tb\tm1\t999999999988\t5\ninsert\t3\tAll\tm1\t0\t-1000000000000\ninsert\t4\ta\tm2\t1\t-3\ninsert\t5\tb\tm2\t999999999960\t5\ninsert\t6\tAll\tm2\t0\t-1000000000000\ninsert\t7\ta\tm3\t1\t-3\ninsert\t8\tb\tm3\t999999999958\t5\ninsert\t9\tAll\tm3\t0\t-1000000000000\ninsert\t10\ta\tm4\t1\t-3\ninsert\t11\tb\tm4\t999999999936\t5\ninsert\t12\tAll\tm4\t0\t-1000000000000\ncount\ta\tAll\nsum\tValue\ta\tAll\navg\tValue\ta\tAll\nsum\tWeight\ta\tAll\navg\tWeight\ta\tAll\navg\tValue\tb\tAll\navg\tValue\tAll\tAll\navg\tValue\ta\tm1\nsum\tValue\ta\tm1\n",
         "ok\t1\nok\t1\nok\t1\nok\t1\nok\t1\nok\t1\nok\t1\nok\t1\nok\t1\nok\t1\nok\t1\nok\t1\ncount\t4.000000000\t4.000000004\twide\nsum\t-16.000000004\t-16.000000000\twide\navg\t-4.000000001\t-3.999999996\twide\nsum\t4.000000000\t4.000000000\t4\navg\t0.999999999\t1.000000000\twide\navg\t-500000000247.000000124\t-499999999996.999999999\twide\navg\t-333333333332.666666667\t-333333333332.666666666\t-999999999998/3\navg\t-4.000000001\t-4.000000000\t-3999999999967/999999999990\nsum\t-4.000000001\t-4.000000000\t-3999999999967/999999999989\n",
-        End::Finished { refused: 0 },
+        Ending::Finished { refused: 0 },
     ),
 ];
 
@@ -111,7 +110,7 @@ fn counts_shares(alloc: Global) -> Result<bool, AllocError> {
     let mut replies = String::new(alloc);
     push_replies(&mut replies, facts)?;
     let ran = run(alloc, &["try"], input.as_bytes(), &WHOLE)?;
-    Ok(ran.is(End::Finished { refused: 0 }, &replies))
+    Ok(ran.is(Ending::Finished { refused: 0 }, &replies))
 }
 
 #[test]

@@ -22,6 +22,12 @@ mod runs;
 #[cfg(test)]
 mod schemas;
 #[cfg(test)]
+mod store_faults;
+#[cfg(test)]
+mod stored;
+#[cfg(test)]
+mod stores;
+#[cfg(test)]
 mod weights;
 #[cfg(test)]
 mod worlds;

@@ -1,7 +1,6 @@
 //! The limits on nodes, cells and rows.
-use crate::runs::{WHOLE, joined, run};
+use crate::runs::{Ending, WHOLE, joined, run};
 use cube_base::Code;
-use cube_cli::End;
 use std::alloc::{AllocError, Global};
 use std::fmt::Write;
 use std::test::Fail;
@@ -15,7 +14,7 @@ fn push_nodes(text: &mut String, depth: u32, letter: char, count: u32) -> Result
 }
 
 /// A dimension of 1,024 leaves, and one of 1,025 of which 1,024 are under S.
-fn large_schema(alloc: Global) -> Result<String, AllocError> {
+pub fn large_schema(alloc: Global) -> Result<String, AllocError> {
     let mut text = String::from_str(
         alloc,
         "cube\t1\npolicy\tcount\ndimension\tLeft\nnode\t0\tL\n",
@@ -38,7 +37,7 @@ const REPLIES: &str =
 fn has_limits(alloc: Global) -> Result<bool, AllocError> {
     let input = joined(alloc, &large_schema(alloc)?, SCRIPT)?;
     let ran = run(alloc, &["try"], input.as_bytes(), &WHOLE)?;
-    Ok(ran.is(End::Finished { refused: 3 }, REPLIES))
+    Ok(ran.is(Ending::Finished { refused: 3 }, REPLIES))
 }
 
 #[test]
@@ -49,16 +48,16 @@ fn most_cells_and_rows(rt: HostRuntime) -> Result<(), Fail> {
 }
 
 /// The number of leaves under a root, what is written of a script about them, and the end.
-const WIDTHS: [(u32, &str, End); 2] = [
+const WIDTHS: [(u32, &str, Ending); 2] = [
     (
         65_535,
         "ok\t1\nok\t1\nterms\t2\t1\t1\t65535\t1\n",
-        End::Finished { refused: 0 },
+        Ending::Finished { refused: 0 },
     ),
     (
         65_536,
         "",
-        End::Schema {
+        Ending::Schema {
             line: 65_540,
             code: Code::Limit,
         },
@@ -66,7 +65,7 @@ const WIDTHS: [(u32, &str, End); 2] = [
 ];
 
 /// Whether a dimension of so many leaves is taken so.
-fn is_wide(alloc: Global, row: &(u32, &str, End)) -> Result<bool, AllocError> {
+fn is_wide(alloc: Global, row: &(u32, &str, Ending)) -> Result<bool, AllocError> {
     let (leaves, replies, end) = *row;
     let mut input = String::from_str(
         alloc,
@@ -88,21 +87,21 @@ fn most_nodes(rt: HostRuntime) -> Result<(), Fail> {
 }
 
 /// How many dimensions there are, how many leaves each has under its root, and how a schema of them ends.
-const PRODUCTS: [(u32, u32, End); 5] = [
-    (6, 1, End::Finished { refused: 0 }),
+const PRODUCTS: [(u32, u32, Ending); 5] = [
+    (6, 1, Ending::Finished { refused: 0 }),
     (
         7,
         1,
-        End::Schema {
+        Ending::Schema {
             line: 21,
             code: Code::Limit,
         },
     ),
-    (6, 1289, End::Finished { refused: 0 }),
+    (6, 1289, Ending::Finished { refused: 0 }),
     (
         6,
         1290,
-        End::Schema {
+        Ending::Schema {
             line: 7755,
             code: Code::Nodes,
         },
@@ -110,7 +109,7 @@ const PRODUCTS: [(u32, u32, End); 5] = [
     (
         6,
         1291,
-        End::Schema {
+        Ending::Schema {
             line: 7761,
             code: Code::Cells,
         },
@@ -118,7 +117,7 @@ const PRODUCTS: [(u32, u32, End); 5] = [
 ];
 
 /// Whether a schema of such dimensions ends so.
-fn is_product(alloc: Global, row: &(u32, u32, End)) -> Result<bool, AllocError> {
+fn is_product(alloc: Global, row: &(u32, u32, Ending)) -> Result<bool, AllocError> {
     let (dims, leaves, end) = *row;
     let mut input = String::from_str(alloc, "cube\t1\npolicy\tuniform\n")?;
     for dim in 0..dims {

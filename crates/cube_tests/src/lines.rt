@@ -1,7 +1,6 @@
 //! Lines that are refused before they are done.
-use crate::runs::{Case, REPAIRS, WHOLE, expect_each, run};
+use crate::runs::{Case, Ending, REPAIRS, WHOLE, expect_each, run};
 use cube_base::Code;
-use cube_cli::End;
 use std::alloc::{AllocError, Global};
 use std::process::Abort;
 use std::test::Fail;
@@ -286,7 +285,7 @@ fn is_refused(alloc: Global, line: &[u8], code: Code) -> Result<bool, AllocError
     reply.push_str(code.word())?;
     reply.push('\n')?;
     let ran = run(alloc, &["try"], &input, &WHOLE)?;
-    Ok(ran.is(End::Finished { refused: 1 }, &reply))
+    Ok(ran.is(Ending::Finished { refused: 1 }, &reply))
 }
 
 /// Each line is refused for its code.
@@ -382,7 +381,7 @@ const TAKEN: [Case; 1] = [(
     REPAIRS,
     "insert\t4\tTX\tCamry\t600\nchange\t3\tHouston\tCamry\t50\ninsert\t9223372036854775807\tAustin\tCamry\t1\nterms\tAustin\tCamry\nterms\tAustin\tCamry\r\nrows\t4\nwithdraw\t4\n\n\r\n#x\ncount\tAll\tAll\nsum\tRepair\tAll\tAll\navg\tRepair\tAll\tAll\n",
     "ok\t1\nerror\tmissing\nok\t2\nterms\t1\t1\t2\t601\nterms\t1\t1\t2\t601\nrows\t1\t1\tAustin\tCamry\t1\nok\t0\ncount\t1.000000000\t1.000000000\t1\nsum\t1.000000000\t1.000000000\t1\navg\t1.000000000\t1.000000000\t1\n",
-    End::Finished { refused: 1 },
+    Ending::Finished { refused: 1 },
 )];
 
 #[test]

@@ -1,6 +1,5 @@
 //! Scripts and their replies.
-use crate::runs::{ALL, Case, Outside, REPAIRS, expect_each, joined, run};
-use cube_cli::End;
+use crate::runs::{ALL, Case, Ending, Outside, REPAIRS, expect_each, joined, run};
 use std::alloc::{AllocError, Global};
 use std::test::Fail;
 
@@ -35,113 +34,113 @@ const CASES: [Case; 17] = [
         REPAIRS,
         "insert\t1\tAustin\tCamry\t100\ninsert\t2\tAustin\tCamry\t300\ninsert\t3\tDallas\tCamry\t50\ninsert\t4\tTX\tCamry\t600\nrows\t4\n",
         "ok\t1\nok\t1\nok\t1\nok\t1\nrows\t3\t2\tAustin\tCamry\t2\tDallas\tCamry\t1\n",
-        End::Finished { refused: 0 },
+        Ending::Finished { refused: 0 },
     ),
     // Without precise facts in Texas the fourth is spread evenly.
     (
         REPAIRS,
         "insert\t1\tAustin\tCamry\t100\ninsert\t2\tAustin\tCamry\t300\ninsert\t3\tDallas\tCamry\t50\ninsert\t4\tTX\tCamry\t600\nwithdraw\t1\nwithdraw\t2\nwithdraw\t3\nrows\t4\n",
         "ok\t1\nok\t1\nok\t1\nok\t1\nok\t1\nok\t1\nok\t1\nrows\t3\t3\tAustin\tCamry\t1\tDallas\tCamry\t1\tHouston\tCamry\t1\n",
-        End::Finished { refused: 0 },
+        Ending::Finished { refused: 0 },
     ),
     (
         REPAIRS,
         "insert\t1\tAustin\tCamry\t100\ninsert\t2\tAustin\tCamry\t300\ninsert\t3\tDallas\tCamry\t50\ninsert\t4\tTX\tCamry\t600\nchange\t3\tHouston\tCamry\t50\nrows\t4\n",
         "ok\t1\nok\t1\nok\t1\nok\t1\nok\t2\nrows\t3\t2\tAustin\tCamry\t2\tHouston\tCamry\t1\n",
-        End::Finished { refused: 0 },
+        Ending::Finished { refused: 0 },
     ),
     // The view has the one state by the one kind of autos where a fact lies.
     (
         REPAIRS,
         "insert\t1\tAustin\tCamry\t100\ninsert\t2\tAustin\tCamry\t300\ninsert\t3\tDallas\tCamry\t50\ninsert\t4\tTX\tCamry\t600\nview\tstate\nview\tnone\n",
         "ok\t1\nok\t1\nok\t1\nok\t1\nview\t1\tTX\tSedan\t2\t1\t3\t450\t3\t3\t1800\nerror\tname\n",
-        End::Finished { refused: 1 },
+        Ending::Finished { refused: 1 },
     ),
     // The first dimension is slowest, and an entry goes with its last fact.
     (
         REPAIRS,
         "view\tstate\ninsert\t1\tLA\tF150\t7\ninsert\t2\tSF\tCivic\t5\ninsert\t3\tAustin\tSierra\t3\ninsert\t4\tDallas\tTruck\t-1\nview\tstate\nwithdraw\t3\nview\tstate\n",
         "view\t0\nok\t1\nok\t1\nok\t1\nok\t1\nview\t3\tTX\tTruck\t2\t1\t1\t3\t2\t2\t-2\tCA\tSedan\t1\t1\t1\t5\tCA\tTruck\t1\t1\t1\t7\nok\t0\nview\t3\tTX\tTruck\t1\t2\t2\t-2\tCA\tSedan\t1\t1\t1\t5\tCA\tTruck\t1\t1\t1\t7\n",
-        End::Finished { refused: 0 },
+        Ending::Finished { refused: 0 },
     ),
     // A cut has the leaves that lie less deep too, and each name its own view.
     (
         UNEVEN,
         "insert\t1\tReno\ninsert\t2\tDC\ninsert\t3\tNV\nview\tdeep\nview\tstates\nview\tall\n",
         "ok\t1\nok\t1\nok\t1\nview\t2\tReno\t1\t1\t2\tDC\t1\t1\t1\nview\t2\tNV\t1\t1\t2\tDC\t1\t1\t1\nview\t1\tAll\t1\t1\t3\n",
-        End::Finished { refused: 0 },
+        Ending::Finished { refused: 0 },
     ),
     // In a text with numbers the order is that of the lines.
     (
         NUMBERED,
         "insert\t1\tNV\ninsert\t2\tTX\nview\tstates\n",
         "ok\t1\nok\t1\nview\t2\tTX\t1\t1\t1\tNV\t1\t1\t1\n",
-        End::Finished { refused: 0 },
+        Ending::Finished { refused: 0 },
     ),
     // Another value changes no row.
     (
         REPAIRS,
         "insert\t1\tAustin\tCamry\t100\ninsert\t2\tAustin\tCamry\t300\ninsert\t3\tDallas\tCamry\t50\ninsert\t4\tTX\tCamry\t600\nchange\t2\tAustin\tCamry\t301\nterms\tAustin\tCamry\n",
         "ok\t1\nok\t1\nok\t1\nok\t1\nok\t0\nterms\t2\t1\t2\t401\t3\t2\t1200\n",
-        End::Finished { refused: 0 },
+        Ending::Finished { refused: 0 },
     ),
     (
         REPAIRS,
         "insert\t1\tAustin\tCamry\t100\ninsert\t2\tAustin\tCamry\t300\ninsert\t3\tDallas\tCamry\t50\ninsert\t4\tTX\tCamry\t600\nterms\tAustin\tCamry\nterms\tDallas\tCamry\nterms\tHouston\tCamry\nterms\tTX\tCamry\n",
         "ok\t1\nok\t1\nok\t1\nok\t1\nterms\t2\t1\t2\t400\t3\t2\t1200\nterms\t2\t1\t1\t50\t3\t1\t600\nterms\t0\nterms\t2\t1\t3\t450\t3\t3\t1800\n",
-        End::Finished { refused: 0 },
+        Ending::Finished { refused: 0 },
     ),
     (
         EVENLY,
         "insert\t1\tAustin\tCamry\t100\ninsert\t2\tAustin\tCamry\t300\ninsert\t3\tDallas\tCamry\t50\ninsert\t4\tTX\tCamry\t600\nrows\t4\nterms\tAustin\tCamry\nterms\tTX\tAll\n",
         "ok\t1\nok\t1\nok\t1\nok\t1\nrows\t3\t3\tAustin\tCamry\t1\tDallas\tCamry\t1\tHouston\tCamry\t1\nterms\t2\t1\t2\t400\t3\t1\t600\nterms\t2\t1\t3\t450\t3\t3\t1800\n",
-        End::Finished { refused: 0 },
+        Ending::Finished { refused: 0 },
     ),
     // A node with one leaf stands for it.
     (
         STATES,
         "insert\t1\tNV\nrows\t1\ninsert\t2\tAll\nrows\t2\ncount\tReno\n",
         "ok\t1\nrows\t1\t1\tReno\t1\nok\t1\nrows\t1\t1\tReno\t1\ncount\t2.000000000\t2.000000000\t2\n",
-        End::Finished { refused: 0 },
+        Ending::Finished { refused: 0 },
     ),
     // A schema of one node.
     (
         ROOT,
         "insert\t1\tAll\nterms\tAll\n",
         "ok\t1\nterms\t1\t1\t1\n",
-        End::Finished { refused: 0 },
+        Ending::Finished { refused: 0 },
     ),
     // No facts.
     (
         REPAIRS,
         "terms\tAll\tAll\n",
         "terms\t0\n",
-        End::Finished { refused: 0 },
+        Ending::Finished { refused: 0 },
     ),
     (
         REPAIRS,
         "insert\t0\tAustin\tCamry\t1\ninsert\t9223372036854775808\tAustin\tCamry\t1\n",
         "error\tid\nerror\tid\n",
-        End::Finished { refused: 2 },
+        Ending::Finished { refused: 2 },
     ),
     (
         REPAIRS,
         "insert\t9223372036854775807\tAustin\tCamry\t1\ninsert\t9223372036854775807\tAustin\tCamry\t1\nwithdraw\t5\nrows\t5\n",
         "ok\t1\nerror\texists\nerror\tmissing\nerror\tmissing\n",
-        End::Finished { refused: 3 },
+        Ending::Finished { refused: 3 },
     ),
     (
         REPAIRS,
         "insert\t1\tLA\tCivic\t1000000000000\ninsert\t2\tLA\tCivic\t1000000000001\ninsert\t2\tLA\tCivic\t+5\ninsert\t2\tLA\tCivic\t05\ninsert\t2\tLA\tCivic\t-0\n",
         "ok\t1\nerror\tvalue\nerror\tvalue\nerror\tvalue\nerror\tvalue\n",
-        End::Finished { refused: 4 },
+        Ending::Finished { refused: 4 },
     ),
     // Of several faults the first in their order is told, and a fault of the line before one of the edit.
     (
         REPAIRS,
         "Insert\t1\tAustin\tCamry\t1\ninsert\t1\tAustin\tCamry\ninsert\t0\tWaco\tCamry\t+5\ninsert\t1\tWaco\tCamry\t+5\nsum\tPrice\tWaco\tCamry\nsum\tPrice\tAustin\tCamry\npool\tRepair\tAustin\tCamry\nchange\t1\tAustin\tCamry\t+5\nchange\t1\tAustin\tCamry\t5\n",
         "error\tcommand\nerror\tfields\nerror\tid\nerror\tnode\nerror\tnode\nerror\tmeasure\nerror\tmeasure\nerror\tvalue\nerror\tmissing\n",
-        End::Finished { refused: 9 },
+        Ending::Finished { refused: 9 },
     ),
 ];
 
@@ -188,7 +187,7 @@ fn ends_alike(alloc: Global, row: &(&str, &str, usize)) -> Result<bool, AllocErr
         write_fails: 0,
     };
     let ran = run(alloc, &["try"], input.as_bytes(), &outside)?;
-    Ok(ran.is(End::Finished { refused: 0 }, ROWS) && ran.left == 0)
+    Ok(ran.is(Ending::Finished { refused: 0 }, ROWS) && ran.left == 0)
 }
 
 #[test]
@@ -215,7 +214,7 @@ fn gathers_many(alloc: Global) -> Result<bool, AllocError> {
         write_fails: 0,
     };
     let ran = run(alloc, &["try"], input.as_bytes(), &outside)?;
-    Ok(ran.is(End::Finished { refused: 0 }, &replies))
+    Ok(ran.is(Ending::Finished { refused: 0 }, &replies))
 }
 
 #[test]

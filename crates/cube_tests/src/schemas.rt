@@ -1,7 +1,6 @@
 //! Inputs whose schema is refused, and some that are just accepted.
-use crate::runs::{Case, REPAIRS, WHOLE, expect_each, run};
+use crate::runs::{Case, Ending, REPAIRS, WHOLE, expect_each, run};
 use cube_base::Code;
-use cube_cli::End;
 use std::alloc::{AllocError, Global};
 use std::test::Fail;
 
@@ -70,7 +69,7 @@ fn is_refused(alloc: Global, row: &Altered) -> Result<bool, AllocError> {
         input.push(b'\n')?;
     }
     let ran = run(alloc, &["try"], &input, &WHOLE)?;
-    Ok(ran.is(End::Schema { line: fault, code }, ""))
+    Ok(ran.is(Ending::Schema { line: fault, code }, ""))
 }
 
 #[test]
@@ -83,16 +82,16 @@ fn altered_schemas(rt: HostRuntime) -> Result<(), Fail> {
 }
 
 /// Whole inputs, and how they end.
-const WHOLES: [(&str, End); 28] = [
+const WHOLES: [(&str, Ending); 28] = [
     // Numbers.
     (
         "cube\t2\npolicy\tcount\ndimension\tPlace\nnode\t0\tAll\t0\nnode\t1\tTX\t1\nnode\t2\tAustin\t2\nnode\t2\tWaco\t5\nnode\t1\tCA\t3\nnode\t2\tLA\t4\nend\n",
-        End::Finished { refused: 0 },
+        Ending::Finished { refused: 0 },
     ),
     // No number.
     (
         "cube\t2\npolicy\tcount\ndimension\tPlace\nnode\t0\tAll\t0\nnode\t1\tTX\t1\nnode\t2\tAustin\t2\nnode\t2\tWaco\nnode\t1\tCA\t3\nnode\t2\tLA\t4\nend\n",
-        End::Schema {
+        Ending::Schema {
             line: 7,
             code: Code::Fields,
         },
@@ -100,7 +99,7 @@ const WHOLES: [(&str, End); 28] = [
     // A number too large.
     (
         "cube\t2\npolicy\tcount\ndimension\tPlace\nnode\t0\tAll\t0\nnode\t1\tTX\t1\nnode\t2\tAustin\t2\nnode\t2\tWaco\t65536\nnode\t1\tCA\t3\nnode\t2\tLA\t4\nend\n",
-        End::Schema {
+        Ending::Schema {
             line: 7,
             code: Code::Number,
         },
@@ -108,7 +107,7 @@ const WHOLES: [(&str, End); 28] = [
     // A number misspelled.
     (
         "cube\t2\npolicy\tcount\ndimension\tPlace\nnode\t0\tAll\t0\nnode\t1\tTX\t1\nnode\t2\tAustin\t2\nnode\t2\tWaco\t05\nnode\t1\tCA\t3\nnode\t2\tLA\t4\nend\n",
-        End::Schema {
+        Ending::Schema {
             line: 7,
             code: Code::Number,
         },
@@ -116,7 +115,7 @@ const WHOLES: [(&str, End); 28] = [
     // A number twice.
     (
         "cube\t2\npolicy\tcount\ndimension\tPlace\nnode\t0\tAll\t0\nnode\t1\tTX\t1\nnode\t2\tAustin\t2\nnode\t2\tWaco\t2\nnode\t1\tCA\t3\nnode\t2\tLA\t4\nend\n",
-        End::Schema {
+        Ending::Schema {
             line: 7,
             code: Code::Number,
         },
@@ -124,7 +123,7 @@ const WHOLES: [(&str, End); 28] = [
     // A name twice before a number twice.
     (
         "cube\t2\npolicy\tcount\ndimension\tPlace\nnode\t0\tAll\t0\nnode\t1\tTX\t1\nnode\t2\tAustin\t2\nnode\t2\tAustin\t2\nnode\t1\tCA\t3\nnode\t2\tLA\t4\nend\n",
-        End::Schema {
+        Ending::Schema {
             line: 7,
             code: Code::Name,
         },
@@ -132,7 +131,7 @@ const WHOLES: [(&str, End); 28] = [
     // A number twice before a depth.
     (
         "cube\t2\npolicy\tcount\ndimension\tPlace\nnode\t0\tAll\t0\nnode\t1\tTX\t1\nnode\t2\tAustin\t2\nnode\t4\tWaco\t2\nnode\t1\tCA\t3\nnode\t2\tLA\t4\nend\n",
-        End::Schema {
+        Ending::Schema {
             line: 7,
             code: Code::Number,
         },
@@ -140,7 +139,7 @@ const WHOLES: [(&str, End); 28] = [
     // A number not below the count.
     (
         "cube\t2\npolicy\tcount\ndimension\tPlace\nnode\t0\tAll\t0\nnode\t1\tTX\t1\nnode\t2\tAustin\t2\nnode\t2\tWaco\t6\nnode\t1\tCA\t3\nnode\t2\tLA\t4\nend\n",
-        End::Schema {
+        Ending::Schema {
             line: 10,
             code: Code::Number,
         },
@@ -148,7 +147,7 @@ const WHOLES: [(&str, End); 28] = [
     // A number not above the parent's.
     (
         "cube\t2\npolicy\tcount\ndimension\tPlace\nnode\t0\tAll\t0\nnode\t1\tTX\t2\nnode\t2\tAustin\t1\nnode\t2\tWaco\t5\nnode\t1\tCA\t3\nnode\t2\tLA\t4\nend\n",
-        End::Schema {
+        Ending::Schema {
             line: 10,
             code: Code::Number,
         },
@@ -156,7 +155,7 @@ const WHOLES: [(&str, End); 28] = [
     // Numbers judged where a dimension ends.
     (
         "cube\t2\npolicy\tcount\ndimension\tPlace\nnode\t0\tAll\t0\nnode\t1\tTX\t1\nnode\t2\tAustin\t2\nnode\t2\tWaco\t6\nnode\t1\tCA\t3\nnode\t2\tLA\t4\ndimension\tAuto\nnode\t0\tx\t0\nend\n",
-        End::Schema {
+        Ending::Schema {
             line: 10,
             code: Code::Number,
         },
@@ -164,7 +163,7 @@ const WHOLES: [(&str, End); 28] = [
     // A name before the numbers.
     (
         "cube\t2\npolicy\tcount\ndimension\tPlace\nnode\t0\tAll\t0\nnode\t1\tTX\t1\nnode\t2\tAustin\t2\nnode\t2\tWaco\t6\nnode\t1\tCA\t3\nnode\t2\tLA\t4\ndimension\tPlace\nnode\t0\tx\t0\nend\n",
-        End::Schema {
+        Ending::Schema {
             line: 10,
             code: Code::Name,
         },
@@ -172,7 +171,7 @@ const WHOLES: [(&str, End); 28] = [
     // A number in version 1.
     (
         "cube\t1\npolicy\tcount\ndimension\tPlace\nnode\t0\tAll\t0\nnode\t1\tTX\t1\nnode\t2\tAustin\t2\nnode\t2\tWaco\t5\nnode\t1\tCA\t3\nnode\t2\tLA\t4\nend\n",
-        End::Schema {
+        Ending::Schema {
             line: 4,
             code: Code::Fields,
         },
@@ -180,7 +179,7 @@ const WHOLES: [(&str, End); 28] = [
     // A weight by a distribution.
     (
         "cube\t1\npolicy\tweight\tQuality\nparts\tQuality\t100\tgood\tbad\ndimension\tPlace\nnode\t0\tAll\nnode\t1\tTX\nnode\t2\tAustin\nnode\t2\tDallas\nnode\t1\tCA\nnode\t2\tLA\nend\n",
-        End::Schema {
+        Ending::Schema {
             line: 11,
             code: Code::Policy,
         },
@@ -188,7 +187,7 @@ const WHOLES: [(&str, End); 28] = [
     // One outcome.
     (
         "cube\t1\npolicy\tcount\nparts\tQ\t1\tx\n",
-        End::Schema {
+        Ending::Schema {
             line: 3,
             code: Code::Fields,
         },
@@ -196,7 +195,7 @@ const WHOLES: [(&str, End); 28] = [
     // Eight outcomes.
     (
         "cube\t1\npolicy\tcount\nparts\tQ\t1\ta\tb\tc\td\te\tf\tg\th\n",
-        End::Schema {
+        Ending::Schema {
             line: 3,
             code: Code::Fields,
         },
@@ -204,7 +203,7 @@ const WHOLES: [(&str, End); 28] = [
     // Seven outcomes.
     (
         "cube\t1\npolicy\tcount\nparts\tQ\t1\ta\tb\tc\td\te\tf\tg\n",
-        End::Schema {
+        Ending::Schema {
             line: 4,
             code: Code::Cut,
         },
@@ -212,7 +211,7 @@ const WHOLES: [(&str, End); 28] = [
     // A column beyond seven.
     (
         "cube\t1\npolicy\tcount\nnumber\tn\nparts\tQ\t1\ta\tb\tc\td\te\tf\tg\n",
-        End::Schema {
+        Ending::Schema {
             line: 4,
             code: Code::Limit,
         },
@@ -220,7 +219,7 @@ const WHOLES: [(&str, End); 28] = [
     // No scale.
     (
         "cube\t1\npolicy\tcount\nparts\tQ\t0\tx\ty\n",
-        End::Schema {
+        Ending::Schema {
             line: 3,
             code: Code::Number,
         },
@@ -228,7 +227,7 @@ const WHOLES: [(&str, End); 28] = [
     // Nothing.
     (
         "",
-        End::Schema {
+        Ending::Schema {
             line: 1,
             code: Code::Cut,
         },
@@ -236,7 +235,7 @@ const WHOLES: [(&str, End); 28] = [
     // Skipped lines count.
     (
         "\n# a\r\ncube\t1\n\r\npolicy\tem\n",
-        End::Schema {
+        Ending::Schema {
             line: 5,
             code: Code::Policy,
         },
@@ -244,7 +243,7 @@ const WHOLES: [(&str, End); 28] = [
     // The deepest node.
     (
         "cube\t1\npolicy\tcount\ndimension\tx\nnode\t0\t0\nnode\t1\t1\nnode\t2\t2\nnode\t3\t3\nnode\t4\t4\nnode\t5\t5\nnode\t6\t6\nnode\t7\t7\nnode\t8\t8\nnode\t9\t9\n",
-        End::Schema {
+        Ending::Schema {
             line: 13,
             code: Code::Number,
         },
@@ -252,12 +251,12 @@ const WHOLES: [(&str, End); 28] = [
     // Four views, of depths beyond the nodes'.
     (
         "cube\t1\npolicy\tcount\ndimension\tx\nnode\t0\tAll\nview\ta\t0\nview\tb\t8\nview\tc\t1\nview\td\t0\nend\n",
-        End::Finished { refused: 0 },
+        Ending::Finished { refused: 0 },
     ),
     // A fifth view.
     (
         "cube\t1\npolicy\tcount\ndimension\tx\nnode\t0\tAll\nview\ta\t0\nview\tb\t8\nview\tc\t1\nview\td\t0\nview\te\t0\nend\n",
-        End::Schema {
+        Ending::Schema {
             line: 9,
             code: Code::Limit,
         },
@@ -265,7 +264,7 @@ const WHOLES: [(&str, End); 28] = [
     // A fifth view of a depth that is none.
     (
         "cube\t1\npolicy\tcount\ndimension\tx\nnode\t0\tAll\nview\ta\t0\nview\tb\t8\nview\tc\t1\nview\td\t0\nview\te\t9\nend\n",
-        End::Schema {
+        Ending::Schema {
             line: 9,
             code: Code::Number,
         },
@@ -273,7 +272,7 @@ const WHOLES: [(&str, End); 28] = [
     // Numbers judged where a view ends the dimension.
     (
         "cube\t2\npolicy\tcount\ndimension\tPlace\nnode\t0\tAll\t0\nnode\t1\tTX\t2\nview\tstate\t1\nend\n",
-        End::Schema {
+        Ending::Schema {
             line: 6,
             code: Code::Number,
         },
@@ -281,7 +280,7 @@ const WHOLES: [(&str, End); 28] = [
     // The name of a view before the numbers.
     (
         "cube\t2\npolicy\tcount\ndimension\tPlace\nnode\t0\tAll\t0\nnode\t1\tTX\t2\nview\t\t1\nend\n",
-        End::Schema {
+        Ending::Schema {
             line: 6,
             code: Code::Name,
         },
@@ -289,12 +288,12 @@ const WHOLES: [(&str, End); 28] = [
     // Seven measures.
     (
         "cube\t1\npolicy\tuniform\nnumber\t0\nnumber\t1\nnumber\t2\nnumber\t3\nnumber\t4\nnumber\t5\nnumber\t6\ndimension\tx\nnode\t0\tAll\nend\n",
-        End::Finished { refused: 0 },
+        Ending::Finished { refused: 0 },
     ),
     // Eight measures.
     (
         "cube\t1\npolicy\tuniform\nnumber\t0\nnumber\t1\nnumber\t2\nnumber\t3\nnumber\t4\nnumber\t5\nnumber\t6\nnumber\t7\ndimension\tx\nnode\t0\tAll\nend\n",
-        End::Schema {
+        Ending::Schema {
             line: 10,
             code: Code::Limit,
         },
@@ -302,7 +301,7 @@ const WHOLES: [(&str, End); 28] = [
 ];
 
 /// Whether an input without a script ends so, and nothing is written.
-fn ends_so(alloc: Global, row: &(&str, End)) -> Result<bool, AllocError> {
+fn ends_so(alloc: Global, row: &(&str, Ending)) -> Result<bool, AllocError> {
     let (input, end) = *row;
     let ran = run(alloc, &["try"], input.as_bytes(), &WHOLE)?;
     Ok(ran.is(end, ""))
@@ -318,13 +317,13 @@ fn whole_schemas(rt: HostRuntime) -> Result<(), Fail> {
 }
 
 /// How many bytes the name of a measure has, what stands behind it, and how a schema ends that ends with its line.
-type Named = (usize, &'static str, End);
+type Named = (usize, &'static str, Ending);
 
 const NAMED: [Named; 5] = [
     (
         128,
         "",
-        End::Schema {
+        Ending::Schema {
             line: 4,
             code: Code::Cut,
         },
@@ -332,7 +331,7 @@ const NAMED: [Named; 5] = [
     (
         129,
         "",
-        End::Schema {
+        Ending::Schema {
             line: 3,
             code: Code::Name,
         },
@@ -340,7 +339,7 @@ const NAMED: [Named; 5] = [
     (
         4089,
         "",
-        End::Schema {
+        Ending::Schema {
             line: 3,
             code: Code::Name,
         },
@@ -348,7 +347,7 @@ const NAMED: [Named; 5] = [
     (
         4090,
         "",
-        End::Schema {
+        Ending::Schema {
             line: 3,
             code: Code::Long,
         },
@@ -356,7 +355,7 @@ const NAMED: [Named; 5] = [
     (
         4089,
         "\r",
-        End::Schema {
+        Ending::Schema {
             line: 3,
             code: Code::Long,
         },
@@ -391,7 +390,7 @@ fn is_cut(alloc: Global, lines: usize) -> Result<bool, AllocError> {
         input.push_str(line)?;
         input.push('\n')?;
     }
-    let end = End::Schema {
+    let end = Ending::Schema {
         line: (lines as u64).saturating_add(1),
         code: Code::Cut,
     };
@@ -417,7 +416,7 @@ const CASES: [Case; 1] = [
         NUMBERED,
         "insert\t1\tWaco\ninsert\t2\tTX\nrows\t2\nwithdraw\t1\nrows\t2\n",
         "ok\t1\nok\t1\nrows\t1\t1\tWaco\t1\nok\t1\nrows\t2\t2\tAustin\t1\tWaco\t1\n",
-        End::Finished { refused: 0 },
+        Ending::Finished { refused: 0 },
     ),
 ];
 

@@ -1,6 +1,5 @@
 //! Possible worlds: their number, their mass and their totals, and where they are too many or weigh too much.
-use crate::runs::{Case, REPAIRS, WHOLE, expect_each, run};
-use cube_cli::End;
+use crate::runs::{Case, Ending, REPAIRS, WHOLE, expect_each, run};
 use std::alloc::{AllocError, Global};
 use std::fmt::Write;
 use std::test::Fail;
@@ -18,14 +17,14 @@ const CASES: [Case; 2] = [
         REPAIRS,
         "insert\t1\tAustin\tCamry\t100\ninsert\t2\tAustin\tCamry\t300\ninsert\t3\tDallas\tCamry\t50\ninsert\t4\tTX\tCamry\t600\nworlds\tAustin\tCamry\nworlds\tDallas\tCamry\nworlds\tHouston\tCamry\nworlds\tAll\tAll\nworlds\tAll\nworlds\tAustin\tWaco\n",
         "ok\t1\nok\t1\nok\t1\nok\t1\nworlds\t2\t3\t8\t2400\nworlds\t2\t3\t4\t750\nworlds\t2\t3\t0\t0\nworlds\t2\t3\t12\t3150\nerror\tfields\nerror\tnode\n",
-        End::Finished { refused: 2 },
+        Ending::Finished { refused: 2 },
     ),
     // Without facts there is one world, in which nothing stands.
     (
         REPAIRS,
         "worlds\tAll\tAll\n",
         "worlds\t1\t1\t0\t0\n",
-        End::Finished { refused: 0 },
+        Ending::Finished { refused: 0 },
     ),
 ];
 
@@ -110,7 +109,7 @@ fn is_answered(alloc: Global, row: &Asked) -> Result<bool, AllocError> {
     input.push_str(questions)?;
     replies.push_str(answers)?;
     let ran = run(alloc, &["try"], input.as_bytes(), &WHOLE)?;
-    Ok(ran.is(End::Finished { refused }, &replies))
+    Ok(ran.is(Ending::Finished { refused }, &replies))
 }
 
 #[test]

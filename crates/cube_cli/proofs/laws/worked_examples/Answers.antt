@@ -9,7 +9,7 @@ use Rattle.cube_model.specs.Answer.{answer}
 use Rattle.cube_model.specs.Difference.{refreshed}
 use Rattle.schema_text.specs.SchemaText.{schema_of}
 use Rattle.script_text.specs.ScriptLine.{line_of}
-use Rattle.cube_cli.specs.Run.{step}
+use Rattle.script_run.specs.Run.{step}
 use Rattle.cube_cli.proofs.laws.worked_examples.Goals as goal
 
 -- the definitions compute it

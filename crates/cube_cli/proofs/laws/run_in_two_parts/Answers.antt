@@ -1,5 +1,0 @@
-use Rattle.cube_cli.proofs.Runs.{runs_in_parts}
-use Rattle.cube_cli.proofs.laws.run_in_two_parts.Goals as goal
-
-pub returns : goal.returns
-returns c = λ policy schema first lines more. runs_in_parts policy schema first lines more

@@ -1,0 +1,12 @@
+-- The fields of the line, one after the other.
+use Rattle.std.proofs.Common.{◌++◌, ap, ◌∙◌}
+use Rattle.std.specs.Fmt.{decimal}
+use Rattle.std.specs.Prelude.{codes}
+use Rattle.cube_cli.proofs.Auditing.{two_fields}
+use Rattle.cube_cli.proofs.store.sound_line.Goals as goal
+
+pub returns : goal.returns
+returns c =
+    two_fields (codes "sound") (decimal c.args.facts) (decimal c.args.rows) _ _ _ _
+    (c.in_ok-extend_from_slice.ensures.items ∙ ap (λ text. text ++ codes "sound") c.new-text.ensures.items)
+    c.in_ok-append_number.ensures.ok c.in_ok-append_number-2.ensures.ok (c.from.ensures ∙ c.in_ok-push.ensures.items)

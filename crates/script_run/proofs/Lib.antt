@@ -1,0 +1,11 @@
+pub mod Batches
+pub mod Doing
+pub mod Keeping
+pub mod KeptLines
+pub mod Measures
+pub mod ReplyEnds
+pub mod Runs
+pub mod Steps
+pub mod Texts
+pub mod Turns
+pub mod Writing

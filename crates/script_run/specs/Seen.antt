@@ -1,0 +1,75 @@
+-- What is seen of the objects of the outside: what they tell before a call and after it.
+use Rattle.std.specs.Prelude.{◌≡◌, ℕ, List, length, drop, ⊤, Option, Some, None, IsSomeAnd}
+use Rattle.std.specs.Io.{StartsWith}
+use Rattle.std.specs.Io.KnownBytes.{Keeps}
+use Rattle.cube_base.specs.Outside.{Rose}
+use Rattle.fact_keeper.specs.declared.content.Batch.{Batch}
+use Rattle.fact_keeper.specs.declared.content.Stored.{Stored}
+
+-- of a sink: the bytes taken, and the number of faults
+pub record SinkSeen : Type 0 where
+  pub taken : Option (List ℕ)
+  pub taken_after : Option (List ℕ)
+  pub faults : ℕ
+  pub faults_after : ℕ
+
+-- what a sink tells of a call
+abbrev pub sink_seen : {K : Type 0} → (K → Option (List ℕ)) → (K → ℕ) → K → K → SinkSeen
+sink_seen taken faults sink sink_after = record {
+  taken = taken sink;
+  taken_after = taken sink_after;
+  faults = faults sink;
+  faults_after = faults sink_after;
+}
+
+-- what a sink tells of several calls: what it had taken at their start, and the faults of the last
+abbrev pub seen_since : SinkSeen → Option (List ℕ) → SinkSeen
+seen_since sink start = record sink { taken = start }
+
+-- no fault of the sink was met
+abbrev pub NoWriteFault : SinkSeen → Type 0
+NoWriteFault sink = sink.faults_after ≡ sink.faults
+
+-- a fault of the sink was met
+abbrev pub WriteFailed : SinkSeen → Type 0
+WriteFailed sink = Rose sink.faults sink.faults_after
+
+-- nothing was written
+abbrev pub WroteNothing : SinkSeen → Type 0
+WroteNothing sink = Keeps sink.taken sink.taken_after
+
+-- what was written, where the sink tells it
+abbrev pub Wrote : Option (List ℕ) → Option (List ℕ) → (List ℕ → Type 0) → Type 0
+Wrote None after P = ⊤
+Wrote (Some before) after P = IsSomeAnd after (λ now. StartsWith now before × P (drop (length before) now))
+
+-- of a keeper at one time: the content, and the batches so far, where it tells them
+pub record Told : Type 0 where
+  pub content : Option Stored
+  pub journal : Option (List Batch)
+
+abbrev pub told_of : {Q : Type 0} → (Q → Option Stored) → (Q → Option (List Batch)) → Q → Told
+told_of content journal keeper = record { content = content keeper; journal = journal keeper }
+
+-- of a keeper before a call and after it, with the number of faults
+pub record KeeperSeen : Type 0 where
+  pub told : Told
+  pub told_after : Told
+  pub faults : ℕ
+  pub faults_after : ℕ
+
+abbrev pub keeper_seen : {Q : Type 0} → (Q → Option Stored) → (Q → Option (List Batch)) → (Q → ℕ) → Q → Q → KeeperSeen
+keeper_seen content journal faults keeper keeper_after = record {
+  told = told_of content journal keeper;
+  told_after = told_of content journal keeper_after;
+  faults = faults keeper;
+  faults_after = faults keeper_after;
+}
+
+-- no fault of the keeper was met
+abbrev pub NoKeepFault : KeeperSeen → Type 0
+NoKeepFault keeper = keeper.faults_after ≡ keeper.faults
+
+-- a fault of the keeper was met
+abbrev pub KeepFailed : KeeperSeen → Type 0
+KeepFailed keeper = Rose keeper.faults keeper.faults_after

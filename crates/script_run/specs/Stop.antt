@@ -1,0 +1,36 @@
+-- Which lines edit, and where the doing of a line stops.
+use Rattle.std.specs.Prelude.{◌≡◌, ℕ, Bool, true, false, List, [], length, Result, Ok, Err}
+use Rattle.cube_base.specs.declared.code.Code.{Code}
+use Rattle.cube_base.specs.Outside.{Rose}
+use Rattle.fact_keeper.specs.declared.content.Batch.{Batch}
+use Rattle.script_text.specs.declared.line.Line.{Line}
+use Rattle.script_text.specs.declared.line.Line.TheVariants as line
+use Rattle.script_run.specs.declared.script.LineStop.{LineStop}
+use Rattle.script_run.specs.declared.script.LineStop.TheVariants.{Memory, KeepFault}
+
+-- whether a line edits
+abbrev pub edits : Line → Bool
+edits line.Nothing = false
+edits (line.Edit edit) = true
+edits (line.Count region) = false
+edits (line.Sum measure region) = false
+edits (line.Avg measure region) = false
+edits (line.Pool measure region) = false
+edits (line.Terms region) = false
+edits (line.Rows id) = false
+edits (line.View view) = false
+edits (line.Worlds region) = false
+
+-- whether one that was read does; a line that is refused does not
+abbrev pub is_edit : Result Line Code → Bool
+is_edit (Ok said) = edits said
+is_edit (Err refusal) = false
+
+-- no reply is gathered where an edit is to be done
+pub record IsReadyFor (gathered : List (List ℕ)) (read : Result Line Code) : Type 0 where
+  pub none : is_edit read ≡ true → gathered ≡ []
+
+-- Why a line that would commit these batches was not done: memory was wanting, or the keeper had a fault, which it counts, at the batch.
+abbrev pub IsStopOf : List Batch → ℕ → ℕ → LineStop → Type 0
+IsStopOf committed before after Memory = after ≡ before
+IsStopOf committed before after KeepFault = Rose before after × (length committed ≡ 1)

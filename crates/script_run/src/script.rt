@@ -1,0 +1,175 @@
+//! Reading a line of a script, and doing it on a cube.
+ghost use Rattle.std.specs.Prelude.{◌≡◌, ◌<◌, if◌then◌else◌, IfErr, IfOk, IfSome, IsTrue, OnErr, OnOk, Some};
+ghost use Rattle.fact_records.specs.Valid.{IsEditOf};
+ghost use Rattle.schema_text.specs.Schema.{shape_of};
+ghost use Rattle.script_text.specs.declared.line.Line.TheVariants as line;
+ghost use Rattle.script_text.specs.LineOf.{IsLineOf};
+ghost use Rattle.script_text.specs.Reply.{NamesCells};
+ghost use Rattle.script_text.specs.ScriptLine.{line_of};
+ghost use Rattle.script_run.specs.Kept.{Commits, batches_from, batches_of};
+ghost use Rattle.script_run.specs.Run.{cube_at, edited, refusals_in, state_of, step_from, step_of};
+ghost use Rattle.script_run.specs.Seen.{told_of};
+ghost use Rattle.script_run.specs.Stop.{IsStopOf, is_edit};
+
+use crate::questions::answer;
+use cell_weight::WeightPolicy;
+use cube_base::{Code, Memory};
+use cube_core::{Cube, EditFault};
+use fact_keeper::Keeper;
+use fact_records::Edit;
+use region_index::Steps;
+use schema_text::Schema;
+use script_text::{Line, LineFault, Reply, read_line};
+use std::alloc::Global;
+use std::marker::Brand;
+use std::sync::ledger::{Blank, Ledger};
+
+/// Why a line was not done. The cube and what the keeper holds are as they were.
+#[derive(Clone, Copy, Debug, PartialEq, Eq)]
+pub enum LineStop {
+    /// Want of memory.
+    Memory,
+    /// The keeper had a fault at the batch of an edit.
+    KeepFault,
+}
+
+impl From<Memory> for LineStop {
+    ghost use Rattle.std.specs.Prelude.{◌≡◌};
+    ghost use Rattle.script_run.specs.declared.script.LineStop.TheVariants as line_stop;
+
+    ghost from_gives = { λ _ stop. stop ≡ line_stop.Memory };
+
+    fn from(_: Memory) -> Self {
+        LineStop::Memory
+    }
+}
+
+/// Reads a line: what it says, or the code by which it is refused. The one error is want of memory.
+pub fn read(alloc: Global, schema: &Schema, line: &[u8]) -> Result<Result<Line, Code>, Memory>
+    ensures read { IfOk result (λ read. line_of schema.now line.now ≡ read) }
+    ensures within { IfOk result (λ read. IfOk read (IsLineOf schema.now)) }
+{
+    match read_line(alloc, schema, line) {
+        Ok(said) => Ok(Ok(said)),
+        Err(LineFault::Code(code)) => Ok(Err(code)),
+        Err(LineFault::Memory) => Err(Memory),
+    }
+}
+
+/// Whether a line that was read is an edit.
+pub fn is_edit(read: &Result<Line, Code>) -> bool
+    ensures { result ≡ is_edit read.now }
+{
+    matches!(read, Ok(Line::Edit(_)))
+}
+
+/// Does a line that was read, commits its batch to the keeper, which must be open, where it is an edit that is accepted, and gives its
+/// reply, if it has one. An error leaves the cube and what the keeper holds as they were.
+pub fn do_read<P: WeightPolicy + Drop, Q: Keeper>(
+    alloc: Global,
+    cube: &mut Cube<P>,
+    read: Result<Line, Code>,
+    keeper: &mut Q,
+) -> Result<Option<Reply>, LineStop>
+    requires within { IfOk read (IsLineOf cube.old.schema) }
+    requires open { IsTrue (Q.is_open keeper.old) }
+    ensures reply { IfOk result (λ reply. reply ≡ (step_from (P.weigh cube.old.policy) cube.old.schema (state_of cube.old) read).reply) }
+    ensures state { OnOk result (cube.new ≡ cube_at cube.old (step_from (P.weigh cube.old.policy) cube.old.schema (state_of cube.old) read).state) }
+    ensures cells { IfOk result (λ reply. IfSome reply (NamesCells cube.new.schema.dims)) }
+    ensures same { OnErr result (cube.new ≡ cube.old) }
+    ensures kept { OnOk result (Commits (batches_from (P.weigh cube.old.policy) cube.old.schema (state_of cube.old) read) (told_of Q.content Q.journal keeper.old) (told_of Q.content Q.journal keeper.new)) }
+    ensures same_kept { OnErr result (told_of Q.content Q.journal keeper.new ≡ told_of Q.content Q.journal keeper.old) }
+    ensures count { OnOk result (Q.faults keeper.new ≡ Q.faults keeper.old) }
+    ensures stop { IfErr result (IsStopOf (batches_from (P.weigh cube.old.policy) cube.old.schema (state_of cube.old) read) (Q.faults keeper.old) (Q.faults keeper.new)) }
+    ensures stays_open { IsTrue (Q.is_open keeper.new) }
+{
+    match read {
+        Ok(said) => do_said(alloc, cube, said, keeper),
+        Err(code) => Ok(Some(Reply::Error(code))),
+    }
+}
+
+/// Does what a line says.
+fn do_said<P: WeightPolicy + Drop, Q: Keeper>(
+    alloc: Global,
+    cube: &mut Cube<P>,
+    said: Line,
+    keeper: &mut Q,
+) -> Result<Option<Reply>, LineStop>
+    requires within { IsLineOf cube.old.schema said }
+    requires open { IsTrue (Q.is_open keeper.old) }
+    ensures reply { IfOk result (λ reply. reply ≡ (step_of (P.weigh cube.old.policy) cube.old.schema (state_of cube.old) said).reply) }
+    ensures state { OnOk result (cube.new ≡ cube_at cube.old (step_of (P.weigh cube.old.policy) cube.old.schema (state_of cube.old) said).state) }
+    ensures cells { IfOk result (λ reply. IfSome reply (NamesCells cube.new.schema.dims)) }
+    ensures same { OnErr result (cube.new ≡ cube.old) }
+    ensures kept { OnOk result (Commits (batches_of (P.weigh cube.old.policy) cube.old.schema (state_of cube.old) said) (told_of Q.content Q.journal keeper.old) (told_of Q.content Q.journal keeper.new)) }
+    ensures same_kept { OnErr result (told_of Q.content Q.journal keeper.new ≡ told_of Q.content Q.journal keeper.old) }
+    ensures count { OnOk result (Q.faults keeper.new ≡ Q.faults keeper.old) }
+    ensures stop { IfErr result (IsStopOf (batches_of (P.weigh cube.old.policy) cube.old.schema (state_of cube.old) said) (Q.faults keeper.old) (Q.faults keeper.new)) }
+    ensures stays_open { IsTrue (Q.is_open keeper.new) }
+{
+    match said {
+        Line::Edit(edit) => Ok(Some(do_edit(cube, &edit, keeper)?)),
+        other => Ok(answer(alloc, cube, other)?),
+    }
+}
+
+/// Does an edit: `ok` with the number of the facts that it refreshed, or why it is refused.
+fn do_edit<P: WeightPolicy + Drop, Q: Keeper>(
+    cube: &mut Cube<P>,
+    edit: &Edit,
+    keeper: &mut Q,
+) -> Result<Reply, LineStop>
+    requires edit { IsEditOf (shape_of cube.old.schema) cube.old.schema.dims edit.now }
+    requires open { IsTrue (Q.is_open keeper.old) }
+    ensures reply { IfOk result (λ reply. Some reply ≡ (edited (P.weigh cube.old.policy) cube.old.schema (state_of cube.old) edit.now).reply) }
+    ensures state { OnOk result (cube.new ≡ cube_at cube.old (edited (P.weigh cube.old.policy) cube.old.schema (state_of cube.old) edit.now).state) }
+    ensures cells { IfOk result (NamesCells cube.new.schema.dims) }
+    ensures same { OnErr result (cube.new ≡ cube.old) }
+    ensures kept { OnOk result (Commits (batches_of (P.weigh cube.old.policy) cube.old.schema (state_of cube.old) (line.Edit edit.now)) (told_of Q.content Q.journal keeper.old) (told_of Q.content Q.journal keeper.new)) }
+    ensures same_kept { OnErr result (told_of Q.content Q.journal keeper.new ≡ told_of Q.content Q.journal keeper.old) }
+    ensures count { OnOk result (Q.faults keeper.new ≡ Q.faults keeper.old) }
+    ensures stop { IfErr result (IsStopOf (batches_of (P.weigh cube.old.policy) cube.old.schema (state_of cube.old) (line.Edit edit.now)) (Q.faults keeper.old) (Q.faults keeper.new)) }
+    ensures stays_open { IsTrue (Q.is_open keeper.new) }
+{
+    do_edit_by::<Brand, P, Q>(cube, edit, keeper, Blank::new(1))
+}
+
+/// The same. Its steps are counted in a ledger of their own.
+fn do_edit_by<L: Ledger, P: WeightPolicy + Drop, Q: Keeper>(
+    cube: &mut Cube<P>,
+    edit: &Edit,
+    keeper: &mut Q,
+    blank: Blank,
+) -> Result<Reply, LineStop>
+    requires edit { IsEditOf (shape_of cube.old.schema) cube.old.schema.dims edit.now }
+    requires open { IsTrue (Q.is_open keeper.old) }
+    requires name { blank.name ≡ L.name }
+    requires parts { blank.parts ≡ L.parts }
+    requires some { 0 < L.parts }
+    ensures reply { IfOk result (λ reply. Some reply ≡ (edited (P.weigh cube.old.policy) cube.old.schema (state_of cube.old) edit.now).reply) }
+    ensures state { OnOk result (cube.new ≡ cube_at cube.old (edited (P.weigh cube.old.policy) cube.old.schema (state_of cube.old) edit.now).state) }
+    ensures cells { IfOk result (NamesCells cube.new.schema.dims) }
+    ensures same { OnErr result (cube.new ≡ cube.old) }
+    ensures kept { OnOk result (Commits (batches_of (P.weigh cube.old.policy) cube.old.schema (state_of cube.old) (line.Edit edit.now)) (told_of Q.content Q.journal keeper.old) (told_of Q.content Q.journal keeper.new)) }
+    ensures same_kept { OnErr result (told_of Q.content Q.journal keeper.new ≡ told_of Q.content Q.journal keeper.old) }
+    ensures count { OnOk result (Q.faults keeper.new ≡ Q.faults keeper.old) }
+    ensures stop { IfErr result (IsStopOf (batches_of (P.weigh cube.old.policy) cube.old.schema (state_of cube.old) (line.Edit edit.now)) (Q.faults keeper.old) (Q.faults keeper.new)) }
+    ensures stays_open { IsTrue (Q.is_open keeper.new) }
+{
+    let mut steps = Steps::<L>::new(blank);
+    match cube.edit(edit, keeper, &mut steps) {
+        Ok(receipt) => Ok(Reply::Ok(receipt.refreshed.as_slice().len() as u64)),
+        Err(EditFault::Code(code)) => Ok(Reply::Error(code)),
+        Err(EditFault::Rows { .. }) => Ok(Reply::Error(Code::Rows)),
+        Err(EditFault::KeepFault) => Err(LineStop::KeepFault),
+        Err(EditFault::Memory) => Err(LineStop::Memory),
+    }
+}
+
+/// Whether a reply refuses its line.
+pub fn is_refusal(reply: &Option<Reply>) -> bool
+    ensures { (if result then 1 else 0) ≡ refusals_in reply.now }
+{
+    matches!(reply, Some(Reply::Error(_)))
+}

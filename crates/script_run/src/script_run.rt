@@ -1,0 +1,273 @@
+//! Doing the lines of a script, one after the other.
+ghost use Rattle.std.specs.Prelude.{◌≡◌, ℕ, ◌+◌, ◌<◌, ◌≤◌, ◌^◌, ◌++◌, ◌⊎◌, [], ◌∷◌, false, true, List, Option, length, IfErr, IfOk, IfSome, IsTrue, OnErr, OnOk};
+ghost use Rattle.std.specs.Io.KnownBytes.{Appends};
+ghost use Rattle.std.specs.List.{concat};
+ghost use Rattle.cube_base.specs.Outside.{Rose};
+ghost use Rattle.schema_text.specs.Schema.{SchemaValue};
+ghost use Rattle.script_text.specs.LineOf.{IsLineOf};
+ghost use Rattle.script_text.specs.Reply.{NamesCells};
+ghost use Rattle.script_text.specs.ScriptLine.{line_of};
+ghost use Rattle.script_run.specs.declared.break_off.BreakOff.TheVariants as break_off;
+ghost use Rattle.script_run.specs.Kept.{Commits, HasKept, IsGatheredStop, KeptAt, batches_from, is_keep};
+ghost use Rattle.script_run.specs.Progress.{AreFew, BreaksOff, Done, HasDone, HasGathered};
+ghost use Rattle.script_run.specs.Run.{State, cube_at, refusals_in, run, state_of, step_from, text_of};
+ghost use Rattle.script_run.specs.Seen.{Told, seen_since, sink_seen, told_of};
+ghost use Rattle.script_run.specs.Stop.{IsReadyFor, IsStopOf};
+
+use crate::break_off::BreakOff;
+use crate::outbox::Outbox;
+use crate::script::{LineStop, do_read, is_edit, is_refusal, read};
+use cell_weight::WeightPolicy;
+use cube_base::{Code, Memory, Sink};
+use cube_core::Cube;
+use fact_keeper::Keeper;
+use script_text::{Line, Reply};
+use std::alloc::Global;
+use std::marker::Model;
+
+/// A cube at work: the replies on their way, and how many lines are answered and refused.
+#[derive(Drop)]
+pub struct ScriptRun<P: WeightPolicy + Drop> {
+    alloc: Global,
+    cube: Cube<P>,
+    // Whether the gathered replies are written before each edit.
+    keeps: bool,
+    outbox: Outbox,
+    done: u64,
+    refused: u64,
+}
+
+impl<P: WeightPolicy + Drop> Model for ScriptRun<P> {
+    ghost use Rattle.std.specs.Prelude.{◌≤◌, length};
+    ghost use Rattle.script_run.specs.Progress.{Working};
+
+    ghost Value = { Working P };
+
+    ghost view = { λ r. record { cube = r.cube; keeps = r.keeps; gathered = r.outbox; done = r.done; refused = r.refused } };
+
+    ghost invariant = { λ r. (r.refused ≤ r.done) × (length r.outbox ≤ r.done) };
+}
+
+impl<P: WeightPolicy + Drop> ScriptRun<P> {
+    /// No line is done yet. `keeps` says whether the gathered replies are written before each edit.
+    pub fn new(alloc: Global, cube: Cube<P>, keeps: bool) -> Self
+        ensures { result ≡ record { cube = cube; keeps = keeps; gathered = []; done = 0; refused = 0 } }
+    {
+        ScriptRun {
+            alloc,
+            cube,
+            keeps,
+            outbox: Outbox::new(alloc),
+            done: 0,
+            refused: 0,
+        }
+    }
+
+    /// Does a line, and writes the gathered replies where they are enough, and, where the keeper keeps, before an edit. Where memory is
+    /// wanting for its reply, the line is done nevertheless.
+    pub fn do_line<K: Sink, Q: Keeper>(
+        &mut self,
+        line: &[u8],
+        out: &mut K,
+        keeper: &mut Q,
+    ) -> Result<(), BreakOff>
+        requires few { self.old.done < 2 ^ 62 }
+        requires open { IsTrue (Q.is_open keeper.old) }
+        ensures done { (schema : SchemaValue) (first : State) (lines : List (List ℕ)) (start : Option (List ℕ)) → HasDone (P.weigh self.old.cube.policy) schema first lines start (K.taken out.old) self.old
+            → OnOk result (HasDone (P.weigh self.old.cube.policy) schema first (lines ++ line.now ∷ []) start (K.taken out.new) self.new) }
+        ensures few_gathered { OnOk result (AreFew self.new.gathered) }
+        ensures policy { self.new.cube.policy ≡ self.old.cube.policy }
+        ensures keeps { self.new.keeps ≡ self.old.keeps }
+        ensures count { OnOk result (K.faults out.new ≡ K.faults out.old) }
+        ensures broken { (schema : SchemaValue) (first : State) (lines : List (List ℕ)) (start : Option (List ℕ)) → HasDone (P.weigh self.old.cube.policy) schema first lines start (K.taken out.old) self.old
+            → IfErr result (BreaksOff (run (P.weigh self.old.cube.policy) schema first (lines ++ line.now ∷ [])).replies (seen_since (sink_seen K.taken K.faults out.old out.new) start)) }
+        ensures kept { (schema : SchemaValue) (first : State) (lines : List (List ℕ)) (start : Option (List ℕ)) (before : Told) → self.old.keeps ≡ true → HasDone (P.weigh self.old.cube.policy) schema first lines start (K.taken out.old) self.old
+            → HasKept (P.weigh self.old.cube.policy) schema first lines before (told_of Q.content Q.journal keeper.old) self.old.gathered → OnOk result (HasKept (P.weigh self.old.cube.policy) schema first (lines ++ line.now ∷ []) before (told_of Q.content Q.journal keeper.new) self.new.gathered) }
+        ensures stopped { (schema : SchemaValue) (first : State) (lines : List (List ℕ)) (start : Option (List ℕ)) (before : Told) → self.old.keeps ≡ true → HasDone (P.weigh self.old.cube.policy) schema first lines start (K.taken out.old) self.old
+            → HasKept (P.weigh self.old.cube.policy) schema first lines before (told_of Q.content Q.journal keeper.old) self.old.gathered → IfErr result (KeptAt (P.weigh self.old.cube.policy) schema first (lines ++ line.now ∷ []) before (told_of Q.content Q.journal keeper.new)) }
+        ensures no_fault { OnOk result (Q.faults keeper.new ≡ Q.faults keeper.old) }
+        ensures cause { IfErr result (λ off. is_keep off ≡ true → Rose (Q.faults keeper.old) (Q.faults keeper.new)) }
+        ensures other_cause { self.old.keeps ≡ true → IfErr result (λ off. is_keep off ≡ false → Q.faults keeper.new ≡ Q.faults keeper.old) }
+        ensures stays_open { IsTrue (Q.is_open keeper.new) }
+    {
+        let Ok(read) = self.read(line) else {
+            return Err(self.give_up(out, 0));
+        };
+        self.make_ready(&read, out)?;
+        self.do_read(read, out, keeper)
+    }
+
+    /// Writes the gathered replies, and says how many lines are refused.
+    pub fn finish<K: Sink>(&mut self, out: &mut K) -> Result<u64, BreakOff>
+        ensures done { (schema : SchemaValue) (first : State) (lines : List (List ℕ)) (start : Option (List ℕ)) → HasDone (P.weigh self.old.cube.policy) schema first lines start (K.taken out.old) self.old
+            → IfOk result (Done (run (P.weigh self.old.cube.policy) schema first lines) (seen_since (sink_seen K.taken K.faults out.old out.new) start)) }
+        ensures broken { (schema : SchemaValue) (first : State) (lines : List (List ℕ)) (start : Option (List ℕ)) → HasDone (P.weigh self.old.cube.policy) schema first lines start (K.taken out.old) self.old
+            → IfErr result (BreaksOff (run (P.weigh self.old.cube.policy) schema first lines).replies (seen_since (sink_seen K.taken K.faults out.old out.new) start)) }
+        ensures stop { IfErr result (IsGatheredStop self.old.done (length self.old.gathered)) }
+    {
+        self.send(out)?;
+        Ok(self.refused)
+    }
+
+    // Writes the gathered replies before an edit, where the keeper keeps.
+    fn make_ready<K: Sink>(
+        &mut self,
+        read: &Result<Line, Code>,
+        out: &mut K,
+    ) -> Result<(), BreakOff>
+        ensures done { (schema : SchemaValue) (first : State) (lines : List (List ℕ)) (start : Option (List ℕ)) → HasDone (P.weigh self.old.cube.policy) schema first lines start (K.taken out.old) self.old → OnOk result (HasDone (P.weigh self.old.cube.policy) schema first lines start (K.taken out.new) self.new) }
+        ensures ready { self.old.keeps ≡ true → OnOk result (IsReadyFor self.new.gathered read.now) }
+        ensures fewer { OnOk result (length self.new.gathered ≤ length self.old.gathered) }
+        ensures same { OnOk result (self.new ≡ record self.old { gathered = self.new.gathered }) }
+        ensures policy { self.new.cube.policy ≡ self.old.cube.policy }
+        ensures keeps { self.new.keeps ≡ self.old.keeps }
+        ensures count { OnOk result (K.faults out.new ≡ K.faults out.old) }
+        ensures broken { (schema : SchemaValue) (first : State) (lines : List (List ℕ)) (start : Option (List ℕ)) → HasDone (P.weigh self.old.cube.policy) schema first lines start (K.taken out.old) self.old → IfErr result (BreaksOff (run (P.weigh self.old.cube.policy) schema first lines).replies (seen_since (sink_seen K.taken K.faults out.old out.new) start)) }
+        ensures stop { IfErr result (IsGatheredStop self.old.done (length self.old.gathered)) }
+    {
+        if self.keeps && is_edit(read) {
+            return self.send(out);
+        }
+        Ok(())
+    }
+
+    // Reads a line. The one error is want of memory.
+    fn read(&self, line: &[u8]) -> Result<Result<Line, Code>, Memory>
+        ensures read { IfOk result (λ read. line_of self.now.cube.schema line.now ≡ read) }
+        ensures within { IfOk result (λ read. IfOk read (IsLineOf self.now.cube.schema)) }
+    {
+        read(self.alloc, self.cube.schema(), line)
+    }
+
+    // Does a line that was read, and answers it.
+    fn do_read<K: Sink, Q: Keeper>(
+        &mut self,
+        read: Result<Line, Code>,
+        out: &mut K,
+        keeper: &mut Q,
+    ) -> Result<(), BreakOff>
+        requires few { self.old.done < 2 ^ 62 }
+        requires within { IfOk read (IsLineOf self.old.cube.schema) }
+        requires open { IsTrue (Q.is_open keeper.old) }
+        ensures done { (schema : SchemaValue) (first : State) (lines : List (List ℕ)) (start : Option (List ℕ)) (line : List ℕ) → HasDone (P.weigh self.old.cube.policy) schema first lines start (K.taken out.old) self.old → line_of self.old.cube.schema line ≡ read
+            → OnOk result (HasDone (P.weigh self.old.cube.policy) schema first (lines ++ line ∷ []) start (K.taken out.new) self.new) }
+        ensures few_gathered { OnOk result (AreFew self.new.gathered) }
+        ensures policy { self.new.cube.policy ≡ self.old.cube.policy }
+        ensures keeps { self.new.keeps ≡ self.old.keeps }
+        ensures count { OnOk result (K.faults out.new ≡ K.faults out.old) }
+        ensures broken { (schema : SchemaValue) (first : State) (lines : List (List ℕ)) (start : Option (List ℕ)) (line : List ℕ) → HasDone (P.weigh self.old.cube.policy) schema first lines start (K.taken out.old) self.old → line_of self.old.cube.schema line ≡ read
+            → IfErr result (BreaksOff (run (P.weigh self.old.cube.policy) schema first (lines ++ line ∷ [])).replies (seen_since (sink_seen K.taken K.faults out.old out.new) start)) }
+        ensures kept { (schema : SchemaValue) (first : State) (lines : List (List ℕ)) (start : Option (List ℕ)) (line : List ℕ) (before : Told) → IsReadyFor self.old.gathered read → HasDone (P.weigh self.old.cube.policy) schema first lines start (K.taken out.old) self.old → line_of self.old.cube.schema line ≡ read
+            → HasKept (P.weigh self.old.cube.policy) schema first lines before (told_of Q.content Q.journal keeper.old) self.old.gathered → OnOk result (HasKept (P.weigh self.old.cube.policy) schema first (lines ++ line ∷ []) before (told_of Q.content Q.journal keeper.new) self.new.gathered) }
+        ensures stopped { (schema : SchemaValue) (first : State) (lines : List (List ℕ)) (start : Option (List ℕ)) (line : List ℕ) (before : Told) → IsReadyFor self.old.gathered read → HasDone (P.weigh self.old.cube.policy) schema first lines start (K.taken out.old) self.old → line_of self.old.cube.schema line ≡ read
+            → HasKept (P.weigh self.old.cube.policy) schema first lines before (told_of Q.content Q.journal keeper.old) self.old.gathered → IfErr result (KeptAt (P.weigh self.old.cube.policy) schema first (lines ++ line ∷ []) before (told_of Q.content Q.journal keeper.new)) }
+        ensures no_fault { OnOk result (Q.faults keeper.new ≡ Q.faults keeper.old) }
+        ensures cause { IfErr result (λ off. is_keep off ≡ true → Rose (Q.faults keeper.old) (Q.faults keeper.new)) }
+        ensures other_cause { IsReadyFor self.old.gathered read → IfErr result (λ off. is_keep off ≡ false → Q.faults keeper.new ≡ Q.faults keeper.old) }
+        ensures stays_open { IsTrue (Q.is_open keeper.new) }
+    {
+        match self.do_on_cube(read, keeper) {
+            Ok(reply) => self.answer(&reply, out),
+            Err(LineStop::KeepFault) => Err(self.keep_fault(out)),
+            Err(LineStop::Memory) => Err(self.give_up(out, 0)),
+        }
+    }
+
+    // Does a line that was read on the cube, and gives its reply.
+    fn do_on_cube<Q: Keeper>(
+        &mut self,
+        read: Result<Line, Code>,
+        keeper: &mut Q,
+    ) -> Result<Option<Reply>, LineStop>
+        requires within { IfOk read (IsLineOf self.old.cube.schema) }
+        requires open { IsTrue (Q.is_open keeper.old) }
+        ensures reply { IfOk result (λ reply. reply ≡ (step_from (P.weigh self.old.cube.policy) self.old.cube.schema (state_of self.old.cube) read).reply) }
+        ensures state { OnOk result (self.new ≡ record self.old { cube = cube_at self.old.cube (step_from (P.weigh self.old.cube.policy) self.old.cube.schema (state_of self.old.cube) read).state }) }
+        ensures cells { IfOk result (λ reply. IfSome reply (NamesCells self.new.cube.schema.dims)) }
+        ensures same { OnErr result (self.new ≡ self.old) }
+        ensures kept { OnOk result (Commits (batches_from (P.weigh self.old.cube.policy) self.old.cube.schema (state_of self.old.cube) read) (told_of Q.content Q.journal keeper.old) (told_of Q.content Q.journal keeper.new)) }
+        ensures same_kept { OnErr result (told_of Q.content Q.journal keeper.new ≡ told_of Q.content Q.journal keeper.old) }
+        ensures count { OnOk result (Q.faults keeper.new ≡ Q.faults keeper.old) }
+        ensures stop { IfErr result (IsStopOf (batches_from (P.weigh self.old.cube.policy) self.old.cube.schema (state_of self.old.cube) read) (Q.faults keeper.old) (Q.faults keeper.new)) }
+        ensures stays_open { IsTrue (Q.is_open keeper.new) }
+    {
+        do_read(self.alloc, &mut self.cube, read, keeper)
+    }
+
+    // Gathers the reply to a line that is done, and writes the gathered replies where they are enough.
+    fn answer<K: Sink>(&mut self, reply: &Option<Reply>, out: &mut K) -> Result<(), BreakOff>
+        requires few { self.old.done < 2 ^ 62 }
+        requires cells { IfSome reply.now (NamesCells self.old.cube.schema.dims) }
+        ensures gathered { (replies : List (List ℕ)) (start : Option (List ℕ)) → HasGathered replies start (K.taken out.old) self.old.gathered
+            → OnOk result (HasGathered (replies ++ text_of self.old.cube.schema.dims reply.now ∷ []) start (K.taken out.new) self.new.gathered) }
+        ensures answered { OnOk result (self.new ≡ record self.old { gathered = self.new.gathered; done = self.old.done + 1; refused = self.old.refused + refusals_in reply.now }) }
+        ensures one_more { OnOk result (length self.new.gathered ≤ length self.old.gathered + 1) }
+        ensures few_gathered { OnOk result (AreFew self.new.gathered) }
+        ensures policy { self.new.cube.policy ≡ self.old.cube.policy }
+        ensures keeps { self.new.keeps ≡ self.old.keeps }
+        ensures count { OnOk result (K.faults out.new ≡ K.faults out.old) }
+        ensures broken { (replies : List (List ℕ)) (start : Option (List ℕ)) → HasGathered replies start (K.taken out.old) self.old.gathered → self.old.done ≡ length replies
+            → IfErr result (BreaksOff (replies ++ text_of self.old.cube.schema.dims reply.now ∷ []) (seen_since (sink_seen K.taken K.faults out.old out.new) start)) }
+        ensures stop { IfErr result (IsGatheredStop (self.old.done + 1) (length self.old.gathered + 1)) }
+    {
+        if self.outbox.gather(self.cube.schema(), reply).is_err() {
+            return Err(self.give_up(out, 1));
+        }
+        self.done += 1;
+        self.refused += u64::from(is_refusal(reply));
+        if self.outbox.is_full() {
+            return self.send(out);
+        }
+        Ok(())
+    }
+
+    // Writes the gathered replies.
+    fn send<K: Sink>(&mut self, out: &mut K) -> Result<(), BreakOff>
+        ensures all { (replies : List (List ℕ)) (start : Option (List ℕ)) → HasGathered replies start (K.taken out.old) self.old.gathered → OnOk result (Appends start (K.taken out.new) (concat replies)) }
+        ensures empty { OnOk result (self.new ≡ record self.old { gathered = [] }) }
+        ensures count { OnOk result (K.faults out.new ≡ K.faults out.old) }
+        ensures policy { self.new.cube.policy ≡ self.old.cube.policy }
+        ensures keeps { self.new.keeps ≡ self.old.keeps }
+        ensures broken { (replies : List (List ℕ)) (start : Option (List ℕ)) → HasGathered replies start (K.taken out.old) self.old.gathered → self.old.done ≡ length replies
+            → IfErr result (BreaksOff replies (seen_since (sink_seen K.taken K.faults out.old out.new) start)) }
+        ensures stop { IfErr result (IsGatheredStop self.old.done (length self.old.gathered)) }
+    {
+        let before = self.done - self.outbox.len();
+        if let Err(cut) = self.outbox.send(out) {
+            return Err(BreakOff::at(cut.error, before + cut.whole + 1));
+        }
+        Ok(())
+    }
+
+    // Writes the gathered replies, and tells that memory was wanting when so many lines more than those that are answered were done:
+    // none, or one, whose reply could not be gathered.
+    fn give_up<K: Sink>(&mut self, out: &mut K, more: u64) -> BreakOff
+        requires { self.old.done + more < 2 ^ 64 }
+        ensures policy { self.new.cube.policy ≡ self.old.cube.policy }
+        ensures keeps { self.new.keeps ≡ self.old.keeps }
+        ensures broken { (replies later : List (List ℕ)) (start : Option (List ℕ)) → HasGathered replies start (K.taken out.old) self.old.gathered → self.old.done ≡ length replies
+            → length later ≤ 1 → more ≡ length later → BreaksOff (replies ++ later) (seen_since (sink_seen K.taken K.faults out.old out.new) start) result }
+        ensures stop { (result ≡ break_off.Memory (self.old.done + more)) ⊎ IsGatheredStop self.old.done (length self.old.gathered) result }
+    {
+        if let Err(off) = self.send(out) {
+            return off;
+        }
+        BreakOff::Memory {
+            done: self.done + more,
+        }
+    }
+
+    // Writes the gathered replies, and tells that the keeper failed behind the lines that are done.
+    fn keep_fault<K: Sink>(&mut self, out: &mut K) -> BreakOff
+        ensures policy { self.new.cube.policy ≡ self.old.cube.policy }
+        ensures keeps { self.new.keeps ≡ self.old.keeps }
+        ensures broken { (replies : List (List ℕ)) (start : Option (List ℕ)) → HasGathered replies start (K.taken out.old) self.old.gathered → self.old.done ≡ length replies
+            → BreaksOff replies (seen_since (sink_seen K.taken K.faults out.old out.new) start) result }
+        ensures stop { (result ≡ break_off.Keep self.old.done) ⊎ IsGatheredStop self.old.done (length self.old.gathered) result }
+    {
+        if let Err(off) = self.send(out) {
+            return off;
+        }
+        BreakOff::Keep { done: self.done }
+    }
+}
