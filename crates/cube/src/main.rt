@@ -1,10 +1,9 @@
-//! The program `cube`: the words of its command line, the standard streams, and the status with which it ends.
+//! The program `cube`: the words of its command line, the standard streams, stores in files, and the status with which it ends.
 #![tactic(auto)]
 
-use cube_base::{Ids, StdSink, StdSource};
+use cube_base::{StdSink, StdSource};
 use cube_cli::{End, cube};
-use fact_keeper::{MemKeeper, Stored};
-use std::env::Env;
+use sqlite_keeper::SqlKeeper;
 use std::io::ErrorKind;
 use std::process::ExitCode;
 use std::{env, io};
@@ -18,8 +17,8 @@ fn main(rt: HostRuntime) -> ExitCode {
     ExitCode::from(status)
 }
 
-/// Runs the command that the words name, over the standard streams.
-fn run(rt: &(impl Env + AllocGlobal + Input + Print)) -> End {
+/// Runs the command that the words name, over the standard streams and stores in files.
+fn run(rt: &HostRuntime) -> End {
     let alloc = rt.alloc();
     let args = match env::args(rt) {
         Ok(args) => args,
@@ -33,6 +32,6 @@ fn run(rt: &(impl Env + AllocGlobal + Input + Print)) -> End {
     };
     let mut source = StdSource::new(rt.reader());
     let mut sink = StdSink::new(io::writer(rt));
-    let mut keeper = MemKeeper::new(alloc, Stored::empty(alloc), Ids::new(alloc));
+    let mut keeper = SqlKeeper::new(rt);
     cube(alloc, &words, &mut source, &mut sink, &mut keeper)
 }

@@ -10,6 +10,8 @@ mod ends;
 #[cfg(test)]
 mod faults;
 #[cfg(test)]
+mod files;
+#[cfg(test)]
 mod fractions;
 #[cfg(test)]
 mod limits;

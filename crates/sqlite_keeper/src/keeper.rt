@@ -1,0 +1,136 @@
+//! The keeper over a file.
+ghost use Rattle.std.specs.Prelude.{◌≡◌, Err, None, false, IsErr, IsTrue, OnErr, OnOk};
+ghost use Rattle.cube_base.specs.Outside.{next_count};
+ghost use Rattle.fact_keeper.specs.Keeper.{CountsKeepFault};
+ghost use Rattle.fact_keeper.specs.declared.keeper.KeepError.TheVariants as keep_error;
+
+use crate::fault::Fault;
+use crate::file::StoreFile;
+use fact_keeper::{Batch, KeepError, Keeper, Stored};
+use std::alloc::Global;
+use std::marker::Model;
+
+/// A keeper of stores in files. The name of a store is the path of its file. It tells no content and no journal. A drop closes
+/// the file.
+#[derive(Drop)]
+pub struct SqlKeeper<'rt> {
+    rt: &'rt HostRuntime,
+    file: Option<StoreFile>,
+    is_open: bool,
+    faults: u64,
+}
+
+impl<'rt> Model for SqlKeeper<'rt> {
+    ghost use Rattle.sqlite_keeper.specs.SqlKeeper.{Opened};
+
+    ghost Value = { Opened };
+
+    ghost view = { λ k. record { is_open = k.is_open; faults = k.faults } };
+}
+
+impl<'rt> SqlKeeper<'rt> {
+    /// A keeper that is not open and counts no fault. It opens no file.
+    pub fn new(rt: &'rt HostRuntime) -> Self
+        ensures { result ≡ record { is_open = false; faults = 0 } }
+    {
+        SqlKeeper {
+            rt,
+            file: None,
+            is_open: false,
+            faults: 0,
+        }
+    }
+
+    /// Opens the file at a path in place of the one that is open, and gives the content.
+    fn open(&mut self, alloc: Global, path: &str) -> Result<Stored, Fault>
+        ensures opened { OnOk result (IsTrue self.new.is_open) }
+        ensures same_open { OnErr result (self.new.is_open ≡ self.old.is_open) }
+        ensures count { self.new.faults ≡ self.old.faults }
+    {
+        // It may be the same file, which a second open finds locked.
+        self.file = None;
+        let (file, content) = open_file(self.rt, alloc, path)?;
+        self.file = Some(file);
+        self.is_open = true;
+        Ok(content)
+    }
+
+    /// Counts a fault of the outside, and want of memory as none. The count stands at its last value.
+    fn refuse<T>(&mut self, fault: Fault) -> Result<T, KeepError>
+        ensures err { IsErr result }
+        ensures count { CountsKeepFault self.old.faults self.new.faults result }
+        ensures raised { result ≡ Err keep_error.Failed → self.new.faults ≡ next_count self.old.faults }
+        ensures same_open { self.new.is_open ≡ self.old.is_open }
+    {
+        match fault {
+            Fault::Memory => Err(KeepError::Memory),
+            Fault::Outside => {
+                self.faults = self.faults.saturating_add(1);
+                Err(KeepError::Failed)
+            }
+        }
+    }
+
+    /// Writes a batch into the file that is open.
+    fn write(&mut self, batch: &Batch) -> Result<(), Fault>
+        ensures { self.new ≡ self.old }
+    {
+        match &mut self.file {
+            Some(file) => file.write(self.rt.alloc(), batch),
+            // A load that failed has closed the file.
+            None => Err(Fault::Outside),
+        }
+    }
+}
+
+impl Keeper for SqlKeeper<'_> {
+    ghost content = { λ _. None };
+
+    ghost journal = { λ _. None };
+
+    ghost is_open = { λ k. k.is_open };
+
+    ghost faults = { λ k. k.faults };
+
+    /// Opens the file whose path is the name, which is made where there is none. The file that was open is closed first, and an error
+    /// leaves none open: each commit is then a fault, until a load is answered.
+    fn load(&mut self, alloc: Global, name: &str) -> Result<Stored, KeepError>
+        // What every keeper says.
+        ensures opened { OnOk result (IsTrue self.new.is_open) }
+        ensures stays_open { IsTrue self.old.is_open → IsTrue self.new.is_open }
+        ensures count { CountsKeepFault self.old.faults self.new.faults result }
+
+        // What this one adds.
+        ensures same_open { OnErr result (self.new.is_open ≡ self.old.is_open) }
+        ensures raised { result ≡ Err keep_error.Failed → self.new.faults ≡ next_count self.old.faults }
+    {
+        match self.open(alloc, name) {
+            Ok(content) => Ok(content),
+            Err(fault) => self.refuse(fault),
+        }
+    }
+
+    /// Writes the batch as one transaction.
+    fn commit(&mut self, batch: &Batch) -> Result<(), KeepError>
+        requires { IsTrue self.old.is_open }
+
+        // What every keeper says.
+        ensures stays_open { IsTrue self.new.is_open }
+        ensures count { CountsKeepFault self.old.faults self.new.faults result }
+
+        // What this one adds.
+        ensures raised { result ≡ Err keep_error.Failed → self.new.faults ≡ next_count self.old.faults }
+    {
+        match self.write(batch) {
+            Ok(()) => Ok(()),
+            Err(fault) => self.refuse(fault),
+        }
+    }
+}
+
+/// Opens the file at a path, which is made where there is none, and reads its content.
+fn open_file(rt: &HostRuntime, alloc: Global, path: &str) -> Result<(StoreFile, Stored), Fault> {
+    let mut file = StoreFile::open(rt, path)?;
+    let content = file.read(alloc)?;
+    Ok((file, content))
+}

@@ -1,0 +1,14 @@
+//! The keeper over a file: the content of a store in three tables, which sqlite3 reads.
+#![tactic(auto)]
+
+mod blob;
+mod fault;
+mod file;
+mod keeper;
+mod layout;
+mod reading;
+#[cfg(test)]
+mod tests;
+mod writing;
+
+pub use keeper::SqlKeeper;
