@@ -1,0 +1,95 @@
+#!/usr/bin/env python3
+"""How long stores take: store_speed.py PROGRAM
+
+`check` of a store of a million precise facts that SQLite made, with its seconds of a processor and its memory; and a script of ten thousand
+inserts over a store, beside the same script without one, and beside the same rows put by SQLite from Python, a transaction each.
+"""
+import os
+import resource
+import sqlite3
+import struct
+import subprocess
+import sys
+import tempfile
+import time
+
+sys.dont_write_bytecode = True
+
+import stores
+
+FACTS = 1_000_000
+EDITS = 10_000
+CITIES = 1000
+
+
+def schema():
+    leaves = "".join(f"node\t1\tcity{k}\n" for k in range(CITIES))
+    return f"cube\t1\npolicy\tcount\nnumber\tCost\ndimension\tPlace\nnode\t0\tAll\n{leaves}end\n".encode()
+
+
+def timed(words, text, program):
+    """Seconds of a processor and on the clock, memory in MB, and what was written."""
+    with tempfile.TemporaryFile() as source, tempfile.TemporaryFile() as sink:
+        source.write(text)
+        source.seek(0)
+        start = time.time()
+        run = subprocess.Popen([program, *words], stdin=source, stdout=sink, stderr=subprocess.DEVNULL)
+        _, status, used = os.wait4(run.pid, 0)
+        clock = time.time() - start
+        sink.seek(0)
+        return used.ru_utime + used.ru_stime, clock, used.ru_maxrss / 1024, sink.read(), status
+
+
+def made_by_sqlite(path):
+    base = sqlite3.connect(path)
+    for table in stores.TABLES:
+        base.execute(table)
+    base.execute("INSERT INTO cube VALUES (1, ?)", (schema(),))
+    facts = ((i, struct.pack(">I", 1 + i % CITIES), struct.pack(">q", i % 777)) for i in range(1, FACTS + 1))
+    base.executemany("INSERT INTO fact VALUES (?, ?, ?)", facts)
+    rows = ((i, 1, struct.pack(">QQ", i % CITIES, 1)) for i in range(1, FACTS + 1))
+    base.executemany("INSERT INTO alloc VALUES (?, ?, ?)", rows)
+    base.commit()
+    base.close()
+
+
+def put_by_sqlite(path):
+    """The same puts as the inserts make, a transaction each, in a log that is synced."""
+    base = sqlite3.connect(path, isolation_level=None)
+    base.execute("PRAGMA journal_mode = WAL")
+    base.execute("PRAGMA synchronous = FULL")
+    for table in stores.TABLES:
+        base.execute(table)
+    start, used = time.time(), resource.getrusage(resource.RUSAGE_SELF)
+    for i in range(1, EDITS + 1):
+        base.execute("BEGIN")
+        base.execute("INSERT OR REPLACE INTO fact VALUES (?, ?, ?)", (i, struct.pack(">I", 1 + i % CITIES), struct.pack(">q", i % 777)))
+        base.execute("INSERT OR REPLACE INTO alloc VALUES (?, ?, ?)", (i, 1, struct.pack(">QQ", i % CITIES, 1)))
+        base.execute("COMMIT")
+    now = resource.getrusage(resource.RUSAGE_SELF)
+    base.close()
+    return now.ru_utime + now.ru_stime - used.ru_utime - used.ru_stime, time.time() - start
+
+
+def main():
+    program = sys.argv[1]
+    with tempfile.TemporaryDirectory(dir=".") as folder:
+        path = f"{folder}/million.cube"
+        made_by_sqlite(path)
+        seconds, clock, memory, said, status = timed(["check", path], b"", program)
+        stores.must((said, status), (f"sound\t{FACTS}\t{FACTS}\n".encode(), 0), "check")
+        print(f"check of {FACTS} facts: {seconds:.2f} s of a processor, {clock:.2f} s on the clock, {memory:.0f} MB")
+        script = "".join(f"insert\t{i}\tcity{i % CITIES}\t{i % 777}\n" for i in range(1, EDITS + 1)).encode()
+        stores.must(stores.call(program, ["init", f"{folder}/edits.cube"], schema())[:2], (b"ok\t0\n", 0), "init")
+        seconds, clock, memory, said, status = timed(["run", f"{folder}/edits.cube"], script, program)
+        stores.must((said, status), (b"ok\t1\n" * EDITS, 0), "run")
+        print(f"run of {EDITS} inserts: {seconds:.2f} s of a processor, {clock:.2f} s on the clock, {memory:.0f} MB")
+        seconds, clock, memory, said, status = timed(["try"], schema() + script, program)
+        stores.must((said, status), (b"ok\t1\n" * EDITS, 0), "try")
+        print(f"try of the same: {seconds:.2f} s of a processor, {clock:.2f} s on the clock, {memory:.0f} MB")
+        seconds, clock = put_by_sqlite(f"{folder}/alone.cube")
+        print(f"the same rows by stock SQLite from Python: {seconds:.2f} s of a processor, {clock:.2f} s on the clock")
+
+
+if __name__ == "__main__":
+    main()

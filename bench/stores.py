@@ -1,0 +1,320 @@
+#!/usr/bin/env python3
+"""Stores in files, through the built program and through stock SQLite: stores.py PROGRAM CASES SEED
+
+Random scripts are done over a store in pieces, each by a call of its own, and compared with the plain model: the replies, the status, the
+answer of `check`, and what another reader finds in the tables. Then stores are made by hand through SQLite and read by the program, and
+damaged ones, files that are none, and files that cannot be read or written are refused. The status is 1 at the first difference.
+"""
+import os
+import sqlite3
+import struct
+import subprocess
+import sys
+import tempfile
+from pathlib import Path
+from random import Random
+
+sys.dont_write_bytecode = True
+
+import differential
+import plain_model
+
+SECONDS = 60
+
+
+def call(program, words, text=b""):
+    """What the program writes, its status, and what it says on standard error."""
+    done = subprocess.run([program, *words], input=text, capture_output=True, timeout=SECONDS)
+    return done.stdout, done.returncode, done.stderr
+
+
+class Wrong(Exception):
+    pass
+
+
+def must(found, wanted, what):
+    if found != wanted:
+        raise Wrong(f"{what}: {found!r} instead of {wanted!r}")
+
+
+# Tables by another reader.
+
+
+def numbers(blob, item):
+    return [value for (value,) in struct.iter_unpack(item, blob)]
+
+
+def tables(path):
+    """The schema's text, the facts and the rows of a file, by its tables, which must be whole."""
+    base = sqlite3.connect(f"file:{path}?mode=ro", uri=True)
+    must(base.execute("PRAGMA integrity_check").fetchall(), [("ok",)], "integrity")
+    names = [name for (name,) in base.execute("SELECT name FROM sqlite_master WHERE type = 'table' ORDER BY name")]
+    must(names, ["alloc", "cube", "fact"], "tables")
+    ((key, text),) = base.execute("SELECT k, body FROM cube").fetchall()
+    must(key, 1, "key of the schema")
+    facts = [(i, numbers(nodes, ">I"), numbers(cols, ">q")) for i, nodes, cols in base.execute("SELECT id, nodes, cols FROM fact ORDER BY id")]
+    rows = [(i, den, list(struct.iter_unpack(">QQ", body))) for i, den, body in base.execute("SELECT id, den, body FROM alloc ORDER BY id")]
+    base.close()
+    return text, facts, rows
+
+
+def cell_code(schema, cell):
+    """The number of a cell: the places of its leaves among the leaves of each dimension, the first dimension slowest."""
+    code = 0
+    for dim, node in zip(schema.dimensions, cell):
+        leaves = dim.leaves_under[0]
+        code = code * len(leaves) + leaves.index(node)
+    return code
+
+
+def wanted_tables(schema, facts):
+    """The facts and rows that a store is to hold, for a schema of version 1."""
+    facts = sorted(facts, key=lambda fact: fact.id)
+    kept = [(f.id, list(f.region), [value for values in f.values for value in values]) for f in facts]
+    rows = [
+        (fact.id, lies.denominator, sorted((cell_code(schema, cell), weight) for cell, weight in lies.rows))
+        for fact, lies in plain_model.extended(schema, facts)
+    ]
+    return kept, rows
+
+
+# Random scripts in pieces.
+
+
+def done_in_model(schema, facts, lines):
+    """The replies to lines over facts, how many were refused, and the facts after them."""
+    replies, refusals = [], 0
+    for line in lines:
+        if plain_model.is_skipped(line):
+            continue
+        try:
+            reply, facts = plain_model.do_line(schema, facts, line)
+        except plain_model.Refused as refused:
+            reply = plain_model.reply_line(b"error", refused.code)
+            refusals += 1
+        replies.append(reply)
+    return b"".join(replies), refusals, facts
+
+
+def compare_case(program, folder, seed, number):
+    """One script over a store, in pieces."""
+    random = Random(f"stores {seed} {number}")
+    text = differential.made_text(random)
+    lines = plain_model.lines_of(text)
+    try:
+        schema, script = plain_model.read_schema(lines)
+    except plain_model.SchemaFault as fault:
+        path = Path(folder) / f"{number}.cube"
+        must(call(program, ["init", str(path)], text)[:2], (b"", 3), f"init refused {fault.code}")
+        must(call(program, ["check", str(path)])[:2], (b"", 4), "check after a refused init")
+        return
+    path = Path(folder) / f"{number}.cube"
+    size = len(lines) - len(script)
+    head = b"\n".join(lines[:size]) + b"\n"
+    must(call(program, ["run", str(path)], b""), (b"", 4, b"cube: no cube\n"), "run without a store")
+    must(call(program, ["init", str(path)], head), (b"ok\t0\n", 0, b""), "init")
+    must(call(program, ["init", str(path)], head), (b"", 4, b"cube: cube exists\n"), "second init")
+    facts = []
+    cuts = sorted(random.randint(0, len(script)) for _ in range(random.randint(0, 3)))
+    for start, end in zip([0, *cuts], [*cuts, len(script)]):
+        piece = script[start:end]
+        replies, refusals, facts = done_in_model(schema, facts, piece)
+        must(call(program, ["run", str(path)], b"".join(line + b"\n" for line in piece)), (replies, 1 if refusals else 0, b""), f"lines {start} to {end}")
+    kept, rows = wanted_tables(schema, facts)
+    count = sum(len(r) for _, _, r in rows)
+    must(call(program, ["check", str(path)]), (f"sound\t{len(kept)}\t{count}\n".encode(), 0, b""), "check")
+    version = next(line for line in lines if not plain_model.is_skipped(line))
+    if plain_model.fields_of(version)[1] == b"1":
+        _, found, found_rows = tables(path)
+        must(found, kept, "facts of the tables")
+        must(found_rows, rows, "rows of the tables")
+    os.remove(path)
+
+
+def compare_cases(program, folder, cases, seed):
+    for number in range(cases):
+        try:
+            compare_case(program, folder, seed, number)
+        except Wrong as wrong:
+            raise Wrong(f"case {number}: {wrong}") from None
+    print(f"{cases} scripts over stores alike")
+
+
+# A store by hand.
+
+SCHEMA = b"cube\t1\npolicy\tcount\nnumber\tRepair\ndimension\tPlace\nnode\t0\tAll\nnode\t1\tTX\nnode\t2\tAustin\nnode\t2\tDallas\nnode\t2\tHouston\nend\n"
+FACTS = [(1, [2], [100]), (2, [2], [300]), (3, [3], [50]), (4, [1], [600])]
+ROWS = [(1, 1, [(0, 1)]), (2, 1, [(0, 1)]), (3, 1, [(1, 1)]), (4, 3, [(0, 2), (1, 1)])]
+TABLES = [
+    "CREATE TABLE cube (k INTEGER PRIMARY KEY, body BLOB NOT NULL)",
+    "CREATE TABLE fact (id INTEGER PRIMARY KEY, nodes BLOB NOT NULL, cols BLOB NOT NULL)",
+    "CREATE TABLE alloc (id INTEGER PRIMARY KEY, den INTEGER NOT NULL, body BLOB NOT NULL)",
+]
+
+
+def packed(item, values):
+    return b"".join(struct.pack(item, value) for value in values)
+
+
+def hand_made(path, schema=SCHEMA, facts=FACTS, rows=ROWS, tables=TABLES, more=()):
+    base = sqlite3.connect(path)
+    for table in tables:
+        base.execute(table)
+    if schema is not None:
+        base.execute("INSERT INTO cube VALUES (1, ?)", (schema,))
+    for i, nodes, cols in facts:
+        base.execute("INSERT INTO fact VALUES (?, ?, ?)", (i, packed(">I", nodes), packed(">q", cols)))
+    for i, den, body in rows:
+        base.execute("INSERT INTO alloc VALUES (?, ?, ?)", (i, den, b"".join(struct.pack(">QQ", *row) for row in body)))
+    for line in more:
+        base.execute(line)
+    base.commit()
+    base.close()
+
+
+def compare_hand_made(program, folder):
+    """Stores that SQLite wrote, sound and not."""
+    cases = [
+        ("sound", {}, (b"sound\t4\t5\n", 0, b"")),
+        ("remark before the schema", {"schema": b"# made by hand\n" + SCHEMA}, (b"sound\t4\t5\n", 0, b"")),
+        ("schema cut", {"schema": SCHEMA.removesuffix(b"end\n")}, (b"", 5, b"cube: bad store: schema line 10: cut\n")),
+        ("line behind the schema", {"schema": SCHEMA + b"x\n"}, (b"", 5, b"cube: bad store: schema line 11: tail\n")),
+        ("no schema", {"schema": None}, (b"", 5, b"cube: bad store: schema line 1: cut\n")),
+        ("id 0", {"facts": [(0, [2], [1]), *FACTS[1:]]}, (b"", 5, b"cube: bad store: fact 0 at place 0: id\n")),
+        ("no node", {"facts": [*FACTS[:2], (3, [5], [50]), FACTS[3]]}, (b"", 5, b"cube: bad store: fact 3 at place 2: node\n")),
+        ("two nodes", {"facts": [*FACTS[:2], (3, [3, 0], [50]), FACTS[3]]}, (b"", 5, b"cube: bad store: fact 3 at place 2: node\n")),
+        ("no value", {"facts": [*FACTS[:3], (4, [1], [])]}, (b"", 5, b"cube: bad store: fact 4 at place 3: value\n")),
+        ("large value", {"facts": [*FACTS[:3], (4, [1], [10**12 + 1])]}, (b"", 5, b"cube: bad store: fact 4 at place 3: value\n")),
+        ("rows missing", {"rows": ROWS[:3]}, (b"", 5, b"cube: bad store: rows differ at place 3\n")),
+        ("rows too many", {"rows": [*ROWS, (9, 1, [(0, 1)])]}, (b"", 5, b"cube: bad store: rows differ at place 4\n")),
+        ("rows over a double", {"rows": [*ROWS[:3], (4, 6, [(0, 4), (1, 2)])]}, (b"", 5, b"cube: bad store: rows differ at place 3\n")),
+    ]
+    for name, changes, wanted in cases:
+        path = str(Path(folder) / f"hand {name}.cube")
+        hand_made(path, **changes)
+        before = Path(path).read_bytes()
+        must(call(program, ["check", path]), wanted, f"check of {name}")
+        if wanted[1] == 5:
+            must(call(program, ["run", path], b"withdraw\t1\n"), wanted, f"run over {name}")
+            must(tables_alone(path), tables_alone_of(before, folder), f"tables of {name} afterwards")
+    print(f"{len(cases)} stores by hand alike")
+
+
+def tables_alone(path):
+    base = sqlite3.connect(f"file:{path}?mode=ro", uri=True)
+    found = [base.execute(f"SELECT * FROM {table}").fetchall() for table in ("cube", "fact", "alloc")]
+    base.close()
+    return found
+
+
+def tables_alone_of(content, folder):
+    path = Path(folder) / "before.cube"
+    path.write_bytes(content)
+    return tables_alone(str(path))
+
+
+STORE_FAULT = b"cube: store fault after line 0\n"
+
+
+def compare_damaged(program, folder):
+    """Files that are no stores, tables that are not as they must be, and files that cannot be read or written."""
+    random = Random("damaged")
+    done = 0
+
+    def faulty(name, path):
+        nonlocal done
+        for words, text in ((["check", path], b""), (["run", path], b"withdraw\t1\n"), (["init", path], SCHEMA)):
+            must(call(program, words, text), (b"", 8, STORE_FAULT), f"{words[0]} of {name}")
+        done += 1
+
+    def kept(name):
+        return str(Path(folder) / f"damaged {name}.cube")
+
+    Path(kept("random")).write_bytes(bytes(random.randrange(256) for _ in range(5000)))
+    faulty("random bytes", kept("random"))
+    os.mkdir(kept("folder"))
+    faulty("a folder", kept("folder"))
+    faulty("a file in no folder", str(Path(folder) / "none" / "x.cube"))
+    for name, tables in (
+        ("a view for a table", [*TABLES[:2], "CREATE VIEW alloc AS SELECT 1 AS id, 1 AS den, x'' AS body"]),
+        ("a column of another name", [TABLES[0].replace("body", "text"), *TABLES[1:]]),
+        ("a column too many", [TABLES[0], TABLES[1].replace("cols BLOB NOT NULL", "cols BLOB NOT NULL, x BLOB"), TABLES[2]]),
+    ):
+        hand_made(kept(name), schema=None, facts=[], rows=[], tables=tables)
+        faulty(name, kept(name))
+    for name, line in (
+        ("an odd blob of nodes", "UPDATE fact SET nodes = x'000001' WHERE id = 3"),
+        ("an odd blob of values", "UPDATE fact SET cols = x'00000001' WHERE id = 3"),
+        ("an odd blob of rows", "UPDATE alloc SET body = x'0000000000000000' WHERE id = 3"),
+        ("a text for a blob", "UPDATE fact SET nodes = 'abcd' WHERE id = 3"),
+        ("a denominator below 0", "UPDATE alloc SET den = -1 WHERE id = 3"),
+        ("a negative id", "UPDATE fact SET id = -3 WHERE id = 3"),
+        ("a second schema", "INSERT INTO cube VALUES (2, x'00')"),
+    ):
+        hand_made(kept(name), more=[line])
+        faulty(name, kept(name))
+    hand_made(kept("truncated"))
+    content = Path(kept("truncated")).read_bytes()
+    for size in (50, 100, 1000, len(content) // 2, len(content) - 1):
+        Path(kept("truncated")).write_bytes(content[:size])
+        written, status, said = call(program, ["check", kept("truncated")])
+        must((written, status in (5, 8)), (b"", True), f"check of {size} bytes")
+        done += 1
+    hand_made(kept("locked"))
+    base = sqlite3.connect(kept("locked"), isolation_level=None)
+    base.execute("BEGIN EXCLUSIVE")
+    must(call(program, ["run", kept("locked")], b"withdraw\t1\n"), (b"", 8, STORE_FAULT), "run of a locked file")
+    base.execute("ROLLBACK")
+    base.close()
+    must(call(program, ["run", kept("locked")], b"withdraw\t1\n")[:2], (b"ok\t1\n", 0), "run of the file afterwards")
+    print(f"{done + 1} damaged stores refused")
+
+
+def mounted(*words):
+    """Whether the system lets this be mounted, which asks for a superuser."""
+    return subprocess.run(["mount", *words], capture_output=True).returncode == 0
+
+
+def compare_full(program, folder):
+    """A disk that becomes full, and one that may not be written."""
+    disk = Path(folder) / "disk"
+    disk.mkdir()
+    if not mounted("-t", "tmpfs", "-o", "size=400k", "tmpfs", str(disk)):
+        print("no disk could be mounted: a full disk was not tried")
+        return
+    try:
+        path = str(disk / "s.cube")
+        must(call(program, ["init", path], SCHEMA)[:2], (b"ok\t0\n", 0), "init on a small disk")
+        script = b"".join(b"insert\t%d\tAustin\t%d\n" % (i, i) for i in range(1, 5001))
+        written, status, said = call(program, ["run", path], script)
+        answered = written.count(b"\n")
+        must((status, said, written), (8, b"cube: store fault after line %d\n" % answered, b"ok\t1\n" * answered), "run on a disk that becomes full")
+        must(mounted("-o", "remount,size=20m", str(disk)), True, "larger disk")
+        written, status, said = call(program, ["check", path])
+        must((written in (b"sound\t%d\t%d\n" % (n, n) for n in (answered, answered + 1)), status), (True, 0), "check on the larger disk")
+        must(mounted("-o", "remount,ro", str(disk)), True, "disk that may not be written")
+        for word in ("check", "run"):
+            must(call(program, [word, path], b"withdraw\t1\n"), (b"", 8, STORE_FAULT), f"{word} where nothing may be written")
+        must(mounted("-o", "remount,rw", str(disk)), True, "disk that may be written again")
+        must(call(program, ["check", path])[1], 0, "check afterwards")
+        print(f"a disk that was full after {answered} edits, and one that may not be written")
+    finally:
+        subprocess.run(["umount", str(disk)], capture_output=True)
+
+
+def main():
+    program, cases, seed = sys.argv[1], int(sys.argv[2]), int(sys.argv[3])
+    with tempfile.TemporaryDirectory() as folder:
+        try:
+            compare_hand_made(program, folder)
+            compare_damaged(program, folder)
+            compare_full(program, folder)
+            compare_cases(program, folder, cases, seed)
+        except Wrong as wrong:
+            print(wrong)
+            return 1
+    return 0
+
+
+if __name__ == "__main__":
+    sys.exit(main())
