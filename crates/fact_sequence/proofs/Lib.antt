@@ -1,0 +1,2 @@
+mod AllPut
+mod Judging
