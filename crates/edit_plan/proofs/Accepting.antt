@@ -1,4 +1,4 @@
--- What an edit that is not refused fulfils, and what it leaves.
+-- What an edit that is not refused fulfils, and what it and new facts leave.
 use Rattle.std.proofs.Common.{◌≡◌, ℕ, ◌+◌, ◌<◌, ◌≤◌, Bool, true, false, List, [], ◌∷◌, length, refl, sym, ◌∙◌, arith}
 use Rattle.std.specs.Prelude.{IfSome, find, not, ◌==◌, Option, Some, None, is_some}
 use Rattle.std.specs.Option.{option_map_or}
@@ -10,12 +10,13 @@ use Rattle.cube_model.specs.declared.edit.Edit.{Edit}
 use Rattle.cube_model.specs.declared.edit.Edit.TheVariants.{Put, Change, Withdraw}
 use Rattle.cube_model.specs.Accepted.{first_refusal, first_that_holds, has_many_rows, is_missing, is_over, is_repeat}
 use Rattle.cube_model.specs.Allocation.{Policy, extended, row_count}
-use Rattle.cube_model.specs.Facts.{after, has_id}
+use Rattle.cube_model.specs.Facts.{after, has_id, put}
 use Rattle.cube_model.specs.Limits.{MAX_FACTS, MAX_ROWS}
 use Rattle.cube_model.specs.Tree.{Dimension}
 use Rattle.fact_groups.specs.Edits.{given, taken}
 use Rattle.fact_groups.proofs.Edits.{All-after, length-after, pairs-after}
 use Rattle.fact_records.specs.Judge.{edit_cols_refusal, edit_region_refusal, fact_refusal, judge}
+use Rattle.fact_records.specs.New.{AreNew, put_all}
 use Rattle.fact_records.specs.Shape.{ShapeValue}
 use Rattle.fact_records.specs.Valid.{AreValid, IsEditOver, IsValid}
 
@@ -100,3 +101,9 @@ AreValid-after shape dims edit facts over can valid = record {
   few = omega (arith, length-after edit facts valid.ascending, room-after shape dims edit facts can valid.few);
   each = All-after (IsValid shape dims) edit facts valid.each (given-valid shape dims edit facts over can);
 }
+
+-- and facts that are new in turn leave such too
+pub AreValid-new : (shape : ShapeValue) (dims : List Dimension) (new facts : List Fact) → AreNew shape dims facts new → AreValid shape dims facts → AreValid shape dims (put_all new facts)
+AreValid-new shape dims [] facts are valid = valid
+AreValid-new shape dims (fact ∷ new) facts are valid =
+    AreValid-new shape dims new (put fact facts) are.1 (AreValid-after shape dims (Put fact) facts are.0.placed (allowed shape dims (Put fact) facts are.0.accepted) valid)

@@ -25,7 +25,7 @@ use Rattle.edit_plan.specs.Plan.{AreAllFor}
 use Rattle.edit_plan.specs.Refreshing.{is_same_spread}
 use Rattle.edit_plan.specs.State.{StateValue, policy_in}
 use Rattle.edit_plan.specs.Whole.{difference_with, facts_with, ids_otherwise, lay_so, new_kept, refreshed_by, rows_otherwise}
-use Rattle.edit_plan.proofs.AllPut.{AreValid-new}
+use Rattle.edit_plan.proofs.Accepting.{AreValid-new}
 use Rattle.edit_plan.proofs.AllRefreshed.{IsKeptFact, ascend-refreshed, ids-refreshed, kept-each, lay-none, lay-some, rows-refreshed}
 use Rattle.edit_plan.proofs.AllStored.{new-stored}
 use Rattle.facts_kept.proofs.ValidFacts.{valid-regions}

@@ -1,5 +1,4 @@
 pub mod Accepting
-pub mod AllPut
 pub mod AllRefreshed
 pub mod AllSeen
 pub mod AllStored

@@ -5,7 +5,6 @@ ghost use Rattle.edit_plan.specs.declared.fault.PlanFault.TheVariants as plan_fa
 
 use cube_base::{Code, Memory};
 use facts_kept::TooMany;
-use std::alloc::{AllocError, AllocFailed};
 
 /// Why there is no plan of an edit. The state's content is as it was.
 #[derive(Clone, Copy, Debug, PartialEq, Eq)]

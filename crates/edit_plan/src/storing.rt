@@ -1,5 +1,5 @@
 //! What an edit changes in a store.
-ghost use Rattle.std.specs.Prelude.{◌≡◌, ◌++◌, IfOk, OnOk, filter, map};
+ghost use Rattle.std.specs.Prelude.{◌≡◌, IfOk, filter, map};
 ghost use Rattle.std.specs.Option.{option_to_list};
 ghost use Rattle.cube_model.specs.Allocation.{extended};
 ghost use Rattle.cube_model.specs.Cells.{is_among};

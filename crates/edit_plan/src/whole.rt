@@ -1,9 +1,9 @@
 //! New facts, planned all at once.
-ghost use Rattle.std.specs.Prelude.{◌≡◌, ◌++◌, ◌+◌, ◌∷◌, ◌≤◌, [], true, None, Some, IfErr, IfOk, OnOk, length, option_map};
+ghost use Rattle.std.specs.Prelude.{◌≡◌, ◌++◌, ◌∷◌, ◌≤◌, [], true, None, Some, IfErr, IfOk, OnOk, length, option_map};
 ghost use Rattle.std.specs.Option.{option_copied};
 ghost use Rattle.cube_model.specs.Allocation.{allocation, row_count};
 ghost use Rattle.cube_model.specs.Ascending.{ascends_from};
-ghost use Rattle.cube_model.specs.Limits.{MAX_FACTS, MAX_ROWS};
+ghost use Rattle.cube_model.specs.Limits.{MAX_ROWS};
 ghost use Rattle.fact_records.specs.New.{AreNew, put_all};
 ghost use Rattle.facts_kept.specs.Anew.{IsTooMany};
 ghost use Rattle.region_algebra.specs.Space.{IsRegion, code_of};
@@ -22,6 +22,7 @@ use cube_base::{Ids, Memory};
 use cube_model::Fact;
 use fact_keeper::{Batch, KeptFacts, KeptRows, KeptRowsList};
 use fact_records::{FactList, FactRun};
+use fact_sequence::copy_with_room;
 use facts_kept::{FactsKept, TooMany, keep_all};
 use std::alloc::Global;
 
@@ -192,28 +193,11 @@ fn spread_in(all: &FactsKept, code: u64) -> Option<&Alloc>
 
 /// The facts with new ones put, in order.
 fn with_new(alloc: Global, facts: &FactList, new: &[Fact]) -> Result<FactList, Memory>
-    requires { length facts.now.facts ≤ MAX_FACTS }
     ensures { IfOk result (λ all. all.facts ≡ put_all new.now facts.now.facts) }
 {
-    let mut all = FactList::new(alloc);
-    all.reserve(facts.len() + new.len() as u64)?;
-    put_old(&mut all, facts);
+    let mut all = copy_with_room(alloc, facts, new.len() as u64)?;
     put_new(&mut all, new);
     Ok(all)
-}
-
-/// Puts facts in order of their ids into a list without facts.
-fn put_old(all: &mut FactList, facts: &FactList)
-    requires empty { all.old.facts ≡ [] }
-    requires room { length facts.now.facts ≤ all.old.spare }
-    ensures facts { all.new.facts ≡ facts.now.facts }
-    ensures room { all.old.spare ≤ all.new.spare + length facts.now.facts }
-{
-    // What a list says of its order.
-    let _ = facts.len();
-    for fact in facts.iter() {
-        let _ = all.put(*fact);
-    }
 }
 
 /// Puts facts in the order in which they were given.
