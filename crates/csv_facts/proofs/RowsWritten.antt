@@ -1,0 +1,177 @@
+-- The fields of a fact's record, one after the other, and the records of facts.
+use Rattle.std.proofs.Common.{◌≡◌, ◌≢◌, ℕ, zero, suc, ◌+◌, ◌-◌, ◌<◌, ◌≤◌, true, false, List, [], ◌∷◌, ◌++◌, length, map, take, drop, get_or, Option, Some, None, refl, sym, ap, subst, ◌∙◌, arith, append_assoc, ℤ}
+use Rattle.std.specs.Prelude.{All, OnOk, Result, Ok, Err, slice_get}
+use Rattle.std.specs.Fmt.{signed_decimal}
+use Rattle.std.specs.List.{flat_map}
+use Rattle.std.specs.Option.{option_map, option_map_or}
+use Rattle.std.specs.Result.{is_ok}
+use Rattle.std.proofs.lemmas.List.{append-nil, get_or-drop, get_or-take, length-drop, length-take-le, take_more}
+use Rattle.cube_model.specs.declared.edit.Fact.{Fact}
+use Rattle.cube_model.specs.Tree.{Dimension, Entry, entry_of}
+use Rattle.fact_records.specs.declared.shape.Measure.{Measure}
+use Rattle.fact_records.specs.Shape.{IsWithin, values_of, width_of}
+use Rattle.region_algebra.specs.Space.{is_region}
+use Rattle.region_algebra.proofs.Meets.{is_region-cons}
+use Rattle.std.specs.Global.{Vec}
+use Rattle.std.proofs.lemmas.List.Elements.{All-get_or, All-head, All-tail}
+use Rattle.std.proofs.lemmas.Option.{get_or_from_slice_get, slice_get_within}
+use Rattle.fact_records.specs.Valid.{IsFactOf}
+use Rattle.schema_text.specs.Schema.{SchemaValue, shape_of}
+use Rattle.csv.specs.Records.{Row, fields_of, partial_of}
+use Rattle.csv.specs.Writing.{default_writer, fields_written, has_written, row_text, writer_setup}
+use Rattle.csv.specs.declared.writer.QuoteStyle.TheVariants as style
+use Rattle.csv.specs.declared.writer.Writer.{Writer}
+use Rattle.csv_facts.specs.FactFile.{header_of}
+use Rattle.csv_facts.specs.FactRow.{file_text, names_of, record_of, value_text}
+use Rattle.csv_facts.specs.RecordList.{IsLonger, IsWriting, Writes, records_text, text_in}
+
+-- the name of a node of a region
+pub node-within : (dims : List Dimension) (region : List ℕ) (d : ℕ) (dim : Dimension) (node : ℕ) → is_region dims region ≡ true → slice_get dims d ≡ Some dim → slice_get region d ≡ Some node → node < length dim
+node-within [] [] d dim node region at_dim at_node = cc
+node-within [] (n ∷ nodes) d dim node region at_dim at_node = cc
+node-within (e ∷ dims) [] d dim node region at_dim at_node = cc
+node-within (e ∷ dims) (n ∷ nodes) zero dim node region at_dim at_node =
+    let same_dim : e ≡ dim = cc in
+    let same_node : n ≡ node = cc in
+    rw (same_dim, same_node) at (is_region-cons e dims n nodes region).0
+node-within (e ∷ dims) (n ∷ nodes) (suc d) dim node region at_dim at_node = node-within dims nodes d dim node (is_region-cons e dims n nodes region).1 at_dim at_node
+
+pub names_of-next : (dims : List Dimension) (region : List ℕ) (d : ℕ) (dim : Dimension) (node : ℕ) → slice_get dims d ≡ Some dim → slice_get region d ≡ Some node
+    → take (d + 1) (names_of dims region) ≡ take d (names_of dims region) ++ option_map_or (λ e. e.name) (entry_of dim node) [] ∷ []
+names_of-next [] region d dim node at_dim at_node = cc
+names_of-next (e ∷ dims) [] d dim node at_dim at_node = cc
+names_of-next (e ∷ dims) (n ∷ nodes) zero dim node at_dim at_node =
+    let same_dim : e ≡ dim = cc in
+    let same_node : n ≡ node = cc in
+    rw (same_dim, same_node) refl
+names_of-next (e ∷ dims) (n ∷ nodes) (suc d) dim node at_dim at_node =
+    let next : suc d + 1 ≡ suc (d + 1) = omega arith in
+    rw next (ap (λ names. option_map_or (λ e. e.name) (entry_of e n) [] ∷ names) (names_of-next dims nodes d dim node at_dim at_node))
+
+pub length-names_of : (dims : List Dimension) (region : List ℕ) → is_region dims region ≡ true → length (names_of dims region) ≡ length dims
+length-names_of [] region is = refl
+length-names_of (dim ∷ dims) [] is = cc
+length-names_of (dim ∷ dims) (node ∷ nodes) is = ap suc (length-names_of dims nodes (is_region-cons dim dims node nodes is).1)
+
+pub name-there : (found : Option Entry) (name : List ℕ) → option_map (λ e. e.name) found ≡ Some name → option_map_or (λ e. e.name) found [] ≡ name
+name-there None name e = cc
+name-there (Some entry) name e = cc
+
+-- one item more of a list that is taken field by field
+pub taken-next : {A : Type 0} (f : A → List ℕ) (xs : List A) (i : ℕ) (x : A) → slice_get xs i ≡ Some x → map f (take (i + 1) xs) ≡ map f (take i xs) ++ f x ∷ []
+taken-next f [] i x e = cc
+taken-next f (y ∷ xs) zero x e = let same : y ≡ x = cc in rw same refl
+taken-next f (y ∷ xs) (suc i) x e =
+    let next : suc i + 1 ≡ suc (i + 1) = omega arith in
+    rw next (ap (λ l. f y ∷ l) (taken-next f xs i x e))
+
+-- a row with the fields of all items
+pub IsLonger-same : (before row : Row) (a b : List (List ℕ)) → a ≡ b → IsLonger before a row → IsLonger before b row
+IsLonger-same before row a b same longer = subst (λ l. IsLonger before l row) same longer
+
+-- one value more
+value_text-next : (values : List ℤ) (value : ℤ) → 1 ≤ length values → value_text (values ++ value ∷ []) ≡ value_text values ++ 58 ∷ signed_decimal value
+value_text-next [] value some = absurd (omega arith)
+value_text-next (v ∷ values) value some = ap (λ l. signed_decimal v ++ l) (more values) ∙ sym (append_assoc (signed_decimal v) (flat_map (λ w. 58 ∷ signed_decimal w) values) (58 ∷ signed_decimal value))
+  where
+    more : (vs : List ℤ) → flat_map (λ w. 58 ∷ signed_decimal w) (vs ++ value ∷ []) ≡ flat_map (λ w. 58 ∷ signed_decimal w) vs ++ 58 ∷ signed_decimal value
+    more [] = append-nil (58 ∷ signed_decimal value)
+    more (w ∷ vs) = ap (λ l. (58 ∷ signed_decimal w) ++ l) (more vs) ∙ sym (append_assoc (58 ∷ signed_decimal w) (flat_map (λ x. 58 ∷ signed_decimal x) vs) (58 ∷ signed_decimal value))
+
+-- the values of a measure among those of a fact
+pub length-values_of : (m : Measure) (cols : List ℤ) → IsWithin (length cols) m → length (values_of m cols) ≡ width_of m.kind
+length-values_of m cols within = length-take-le (width_of m.kind) (drop (m.first_col - 1) cols) (omega (arith, length-drop (m.first_col - 1) cols, within.first, within.last))
+
+values-next : (m : Measure) (cols : List ℤ) (i k : ℕ) (value : ℤ) → IsWithin (length cols) m → i < width_of m.kind → slice_get cols k ≡ Some value → k + 1 ≡ m.first_col + i
+    → take (i + 1) (values_of m cols) ≡ take i (values_of m cols) ++ value ∷ []
+values-next m cols i k value within some there place =
+    let column : m.first_col - 1 + i ≡ k = omega (arith, within.first, place) in
+    let at : get_or (values_of m cols) i value ≡ value =
+    get_or-take (width_of m.kind) (drop (m.first_col - 1) cols) i value some ∙ get_or-drop (m.first_col - 1) cols i value ∙ ap (λ n. get_or cols n value) column ∙ get_or_from_slice_get cols k value value there in
+    take_more (values_of m cols) i value (omega (arith, some, length-values_of m cols within)) ∙ ap (λ v. take i (values_of m cols) ++ v ∷ []) at
+
+-- and their text
+pub text-first : (m : Measure) (cols : List ℤ) (old new : List ℕ) (value : ℤ) (k : ℕ) → IsWithin (length cols) m → 1 ≤ width_of m.kind → slice_get cols k ≡ Some value → k + 1 ≡ m.first_col
+    → new ≡ old ++ signed_decimal value → new ≡ old ++ value_text (take 1 (values_of m cols))
+text-first m cols old new value k within some there place added =
+    added ∙ ap (λ t. old ++ t) (sym (append-nil (signed_decimal value))) ∙ ap (λ values. old ++ value_text values) (sym (values-next m cols 0 k value within (omega (arith, some)) there (omega (arith, place))))
+
+pub text-next : (m : Measure) (cols : List ℤ) (i k : ℕ) (old before colon new : List ℕ) (value : ℤ) → IsWithin (length cols) m → 1 ≤ i → i < width_of m.kind → slice_get cols k ≡ Some value
+    → k + 1 ≡ m.first_col + i → before ≡ old ++ value_text (take i (values_of m cols)) → colon ≡ before ++ 58 ∷ [] → new ≡ colon ++ signed_decimal value
+    → new ≡ old ++ value_text (take (i + 1) (values_of m cols))
+text-next m cols i k old before colon new value within later some there place text added more =
+    let values = take i (values_of m cols) in
+    let many : length values ≡ i = length-take-le i (values_of m cols) (omega (arith, some, length-values_of m cols within)) in
+    more ∙ ap (λ t. t ++ signed_decimal value) (added ∙ ap (λ t. t ++ 58 ∷ []) text)
+    ∙ append_assoc (old ++ value_text values) (58 ∷ []) (signed_decimal value)
+    ∙ append_assoc old (value_text values) (58 ∷ signed_decimal value)
+    ∙ ap (λ t. old ++ t) (sym (value_text-next values value (omega (arith, many, later))))
+    ∙ ap (λ vs. old ++ value_text vs) (sym (values-next m cols i k value within some there place))
+
+-- the records of some facts are written, and the others are left
+pub record IsPartWritten (schema : SchemaValue) (before : Writer (Vec ℕ)) (all : List Fact) (out : Writer (Vec ℕ)) (left : List Fact) : Type 0 where
+  pub writing : IsWriting out
+  pub text : text_in out ++ records_text (map (record_of schema) left) ≡ text_in before ++ records_text (map (record_of schema) all)
+  pub valid : All (IsFactOf (shape_of schema) schema.dims) left
+
+pub IsPartWritten-start : (schema : SchemaValue) (out : Writer (Vec ℕ)) (all left : List Fact) → IsWriting out → All (IsFactOf (shape_of schema) schema.dims) all → left ≡ all → IsPartWritten schema out all out left
+IsPartWritten-start schema out all left writing valid same = rw same (record { writing = writing; text = refl; valid = valid })
+
+pub IsPartWritten-valid : (schema : SchemaValue) (before out : Writer (Vec ℕ)) (all left : List Fact) (fact : Fact) (others : List Fact) → IsPartWritten schema before all out left → left ≡ fact ∷ others
+    → IsFactOf (shape_of schema) schema.dims fact
+IsPartWritten-valid schema before out all left fact others part first =
+    All-head (IsFactOf (shape_of schema) schema.dims) fact others (subst (λ l. All (IsFactOf (shape_of schema) schema.dims) l) first part.valid)
+
+pub IsPartWritten-next : (schema : SchemaValue) (before out new : Writer (Vec ℕ)) (all left : List Fact) (fact : Fact) (others : List Fact) (row : List (List ℕ)) → IsPartWritten schema before all out left → left ≡ fact ∷ others
+    → row ≡ record_of schema fact → Writes out (row ∷ []) new → IsPartWritten schema before all new others
+IsPartWritten-next schema before out new all left fact others row part first same wrote = record {
+  writing = wrote.writing;
+  text =
+      ap (λ t. t ++ records_text (map (record_of schema) others)) (wrote.text ∙ ap (λ t. text_in out ++ t) (append-nil (row_text default_writer row)) ∙ ap (λ r. text_in out ++ row_text default_writer r) same)
+      ∙ append_assoc (text_in out) (row_text default_writer (record_of schema fact)) (records_text (map (record_of schema) others))
+      ∙ ap (λ l. text_in out ++ records_text (map (record_of schema) l)) (sym first) ∙ part.text;
+  valid = All-tail (IsFactOf (shape_of schema) schema.dims) fact others (subst (λ l. All (IsFactOf (shape_of schema) schema.dims) l) first part.valid);
+}
+
+pub IsPartWritten-end : (schema : SchemaValue) (before out : Writer (Vec ℕ)) (all left : List Fact) → IsPartWritten schema before all out left → left ≡ [] → Writes before (map (record_of schema) all) out
+IsPartWritten-end schema before out all left part none = record {
+  writing = part.writing;
+  text = sym (append-nil (text_in out)) ∙ ap (λ l. text_in out ++ records_text (map (record_of schema) l)) (sym none) ∙ part.text;
+}
+
+-- a record was written
+pub Writes-row : (old new : Writer (Vec ℕ)) (row : List (List ℕ)) → IsWriting old → writer_setup new ≡ writer_setup old → fields_written new ≡ 0 → has_written new ≡ false
+    → (fields_written old ≡ 0 → has_written old ≡ false → (writer_setup old).style ≢ style.NonNumeric → text_in new ≡ text_in old ++ row_text (writer_setup old) row) → Writes old (row ∷ []) new
+Writes-row old new row writing setup fields wrote bytes =
+    let plain : (writer_setup old).style ≢ style.NonNumeric = rw writing.setup (λ e. cc e) in
+    record {
+      writing = record { setup = setup ∙ writing.setup; fields = fields; wrote = wrote };
+      text =
+          bytes writing.fields writing.wrote plain ∙ ap (λ cfg. text_in old ++ row_text cfg row) writing.setup
+          ∙ ap (λ t. text_in old ++ t) (sym (append-nil (row_text default_writer row)));
+    }
+
+-- the header and the records of the facts were written
+pub file-written : (schema : SchemaValue) (facts : List Fact) (first second third : Writer (Vec ℕ)) (row : List (List ℕ)) → text_in first ≡ [] → row ≡ header_of schema → Writes first (row ∷ []) second
+    → Writes second (map (record_of schema) facts) third → text_in third ≡ file_text schema facts
+unfolding file_text
+file-written schema facts first second third row empty is header records =
+    records.text
+    ∙ ap (λ t. t ++ records_text (map (record_of schema) facts))
+    (header.text ∙ ap (λ t. t ++ records_text (row ∷ [])) empty ∙ append-nil (row_text default_writer row) ∙ ap (row_text default_writer) is)
+
+-- the row of the columns' names
+pub header-is : (none first second third : Row) (id : List ℕ) (names measures names_are measures_are : List (List ℕ)) → fields_of none ≡ [] → partial_of none ≡ []
+    → fields_of first ≡ fields_of none ++ ((partial_of none ++ id) ∷ []) → IsLonger first names second → IsLonger second measures third → names ≡ names_are → measures ≡ measures_are
+    → fields_of third ≡ id ∷ names_are ++ measures_are
+header-is none first second third id names measures names_are measures_are no_fields no_part added more last same_names same_measures =
+    let front : fields_of first ≡ id ∷ [] = added ∙ ap (λ p. fields_of none ++ ((p ++ id) ∷ [])) no_part ∙ ap (λ l. l ++ (id ∷ [])) no_fields in
+    last.fields_are ∙ ap (λ l. l ++ measures) (more.fields_are ∙ ap (λ l. l ++ names) front) ∙ ap (λ l. id ∷ l ++ measures) same_names ∙ ap (λ l. id ∷ names_are ++ l) same_measures
+
+-- what holds of each item holds of the one at a place
+pub All-at : {X : Type 0} (P : X → Type 0) (xs : List X) (i : ℕ) (x : X) → All P xs → slice_get xs i ≡ Some x → P x
+All-at P xs i x all at = subst P (get_or_from_slice_get xs i x x at) (All-get_or P xs i x (slice_get_within xs i x at) all)
+
+pub was-ok : {A E : Type 0} (r : Result A E) (P : Type 0) → is_ok r ≡ true → OnOk r P → P
+was-ok (Ok x) P ok has = has
+was-ok (Err e) P ok has = cc ok

@@ -1,0 +1,3 @@
+pub mod FactFile
+pub mod FactRow
+pub mod RecordList

@@ -1,0 +1,88 @@
+//! The record of a fact.
+ghost use Rattle.std.specs.Prelude.{◌≡◌, ◌≤◌, ◌++◌, [], length, OnOk};
+ghost use Rattle.std.specs.Fmt.{signed_decimal};
+ghost use Rattle.csv.specs.Records.{fields_of, partial_of};
+ghost use Rattle.fact_records.specs.Shape.{IsWithin, values_of, width_of, width_of_all};
+ghost use Rattle.fact_records.specs.Valid.{IsFactOf};
+ghost use Rattle.region_algebra.specs.Space.{IsRegion};
+ghost use Rattle.schema_text.specs.Schema.{shape_of};
+ghost use Rattle.csv_facts.specs.FactRow.{names_of, record_of, value_fields, value_text};
+ghost use Rattle.csv_facts.specs.RecordList.{IsLonger};
+
+use csv::ByteRecord;
+use cube_base::{Cols, Memory};
+use cube_model::Region;
+use fact_records::{Fact, Measure, Shape, width};
+use itoa::Buffer;
+use region_algebra::Space;
+use schema_text::Schema;
+
+/// Makes a row the record of a fact. The text is room for a field.
+pub(crate) fn fill_row(
+    row: &mut ByteRecord,
+    text: &mut Vec<u8>,
+    s: &Schema,
+    fact: &Fact,
+) -> Result<(), Memory>
+    requires { IsFactOf (shape_of s.now) s.now.dims fact.now }
+    ensures { OnOk result (fields_of row.new ≡ record_of s.now fact.now) }
+{
+    row.clear();
+    row.push_field(Buffer::new().format(fact.id).as_bytes())?;
+    push_nodes(row, s.space(), fact.region)?;
+    push_values(row, text, s.shape(), fact.cols)
+}
+
+/// Appends a field for each node of a region.
+fn push_nodes(row: &mut ByteRecord, space: &Space, region: Region) -> Result<(), Memory>
+    requires region { IsRegion space.now region }
+    requires whole { partial_of row.old ≡ [] }
+    ensures { OnOk result (IsLonger row.old (names_of space.now region) row.new) }
+{
+    for d in 0..space.dims() {
+        row.push_field(space.dim(d).name_of(region.node(d)).as_bytes())?;
+    }
+    Ok(())
+}
+
+/// Appends a field for each measure. The text is room for one.
+fn push_values(
+    row: &mut ByteRecord,
+    text: &mut Vec<u8>,
+    shape: &Shape,
+    cols: Cols,
+) -> Result<(), Memory>
+    requires columns { length cols ≡ width_of_all shape.now.measures }
+    requires whole { partial_of row.old ≡ [] }
+    ensures { OnOk result (IsLonger row.old (value_fields shape.now.measures cols) row.new) }
+{
+    for i in 0..shape.len() {
+        text.clear();
+        append_values(text, shape.measure(i), cols)?;
+        row.push_field(text)?;
+    }
+    Ok(())
+}
+
+/// Appends the values of a measure, with `:` between them.
+fn append_values(text: &mut Vec<u8>, measure: &Measure, cols: Cols) -> Result<(), Memory>
+    requires within { IsWithin (length cols) measure.now }
+    requires some { 1 ≤ width_of measure.now.kind }
+    ensures { OnOk result (text.new.items ≡ text.old.items ++ value_text (values_of measure.now cols)) }
+{
+    let first = measure.first_col - 1;
+    append_value(text, cols.get(first))?;
+    for i in 1..width(&measure.kind) as u32 {
+        text.push(b':')?;
+        append_value(text, cols.get(first + i))?;
+    }
+    Ok(())
+}
+
+/// Appends a value.
+fn append_value(text: &mut Vec<u8>, value: i64) -> Result<(), Memory>
+    ensures { OnOk result (text.new.items ≡ text.old.items ++ signed_decimal value) }
+{
+    text.extend_from_slice(Buffer::new().format(value).as_bytes())?;
+    Ok(())
+}

@@ -1,0 +1,71 @@
+//! Writing facts.
+ghost use Rattle.std.specs.Prelude.{◌≡◌, [], ◌∷◌, map, All, None, IfOk, OnOk};
+ghost use Rattle.csv.specs.Records.{fields_of};
+ghost use Rattle.fact_records.specs.Valid.{IsFactOf};
+ghost use Rattle.schema_text.specs.Schema.{shape_of};
+ghost use Rattle.csv_facts.specs.FactFile.{facts_in};
+ghost use Rattle.csv_facts.specs.FactRow.{file_text, record_of};
+ghost use Rattle.csv_facts.specs.RecordList.{IsWriting, Writes, records_of, text_in};
+
+use crate::columns::header_row;
+use crate::fact_row::fill_row;
+use csv::{ByteRecord, Writer, WriterBuilder};
+use cube_base::{Bytes, Memory};
+use fact_records::FactList;
+use schema_text::Schema;
+use std::alloc::Global;
+
+/// The CSV file of facts over a schema, as `csv`'s writer writes it where nothing is asked for: the header, then the
+/// facts in order of their ids, each record ended by LF. Read again, it gives the same facts.
+pub fn write_facts(alloc: Global, s: &Schema, facts: &FactList) -> Result<Bytes, Memory>
+    requires { All (IsFactOf (shape_of s.now) s.now.dims) facts.now.facts }
+    ensures text { IfOk result (λ text. text ≡ file_text s.now facts.now.facts) }
+    ensures reads { IfOk result (λ text. facts_in s.now (records_of text) ≡ record { facts = facts.now.facts; bad = None }) }
+{
+    let header = header_row(alloc, s)?;
+    let mut out = WriterBuilder::new().from_writer(Vec::new(alloc));
+    write_row(&mut out, &header)?;
+    write_fact_rows(alloc, &mut out, s, facts)?;
+    written(out)
+}
+
+/// Writes the records of facts.
+fn write_fact_rows(
+    alloc: Global,
+    out: &mut Writer<Vec<u8>>,
+    s: &Schema,
+    facts: &FactList,
+) -> Result<(), Memory>
+    requires writing { IsWriting out.old }
+    requires valid { All (IsFactOf (shape_of s.now) s.now.dims) facts.now.facts }
+    ensures { OnOk result (Writes out.old (map (record_of s.now) facts.now.facts) out.new) }
+{
+    let mut row = ByteRecord::new(alloc);
+    let mut text = Vec::new(alloc);
+    for fact in facts.iter() {
+        fill_row(&mut row, &mut text, s, fact)?;
+        write_row(out, &row)?;
+    }
+    Ok(())
+}
+
+/// Writes a record.
+fn write_row(out: &mut Writer<Vec<u8>>, row: &ByteRecord) -> Result<(), Memory>
+    requires { IsWriting out.old }
+    ensures { OnOk result (Writes out.old (fields_of row.now ∷ []) out.new) }
+{
+    if out.write_byte_record(row).is_err() {
+        return Err(Memory);
+    }
+    Ok(())
+}
+
+/// What was written.
+fn written(out: Writer<Vec<u8>>) -> Result<Bytes, Memory>
+    ensures { IfOk result (λ text. text ≡ text_in out) }
+{
+    match out.into_inner() {
+        Ok(text) => Ok(Bytes::from(text)),
+        Err(_) => Err(Memory),
+    }
+}
