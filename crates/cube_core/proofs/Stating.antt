@@ -1,17 +1,21 @@
 -- What a state says of its facts, in the words of the schema whose state it is.
 use Rattle.std.proofs.Common.{◌≡◌, ℕ, ◌+◌, List, ap, ◌∙◌, subst}
 use Rattle.cube_model.specs.declared.edit.Edit.{Edit}
+use Rattle.cube_model.specs.declared.edit.Fact.{Fact}
 use Rattle.cube_model.specs.declared.statistic.CellStat.{CellStat}
 use Rattle.cube_model.specs.Allocation.{Policy, extended}
 use Rattle.cube_model.specs.Answer.{answer}
 use Rattle.cube_model.specs.Tree.{Dimension}
+use Rattle.fact_keeper.specs.declared.content.Batch.{Batch}
 use Rattle.fact_records.specs.Shape.{ShapeValue, policy_over, width_of_all}
 use Rattle.fact_records.specs.Valid.{AreValid}
 use Rattle.edit_plan.specs.Plan.{difference}
 use Rattle.edit_plan.specs.State.{StateValue}
 use Rattle.edit_plan.specs.State.{policy_in as state_policy_in, terms_in as state_terms_in}
+use Rattle.edit_plan.specs.Whole.{difference_with}
 use Rattle.schema_text.specs.Schema.{SchemaValue, policy_in, shape_of}
 use Rattle.cube_core.specs.Cube.{AreFactsOf, CubeValue, IsStateOf, answer_in, difference_in}
+use Rattle.cube_core.specs.Import.{import_difference_in}
 
 -- the cube of a schema and a state
 abbrev pub cube_of : {P : Type 0} → SchemaValue → StateValue P → CubeValue P
@@ -29,8 +33,12 @@ module _ {P : Type 0} (weigh : P → CellStat → ℕ) (schema : SchemaValue) (s
   pub terms-same : (region : List ℕ) → state_terms_in weigh state region ≡ record { columns = width_of_all schema.measures + 1; terms = answer_in weigh (cube_of schema state) region }
   terms-same region = all-same (λ (p : Policy) shape dims. record { columns = width_of_all shape.measures + 1; terms = answer (width_of_all shape.measures) dims (extended p dims state.facts) region })
 
-  pub difference-same : (edit : Edit) → difference (state_policy_in weigh state) state.dims edit state.facts ≡ difference_in weigh (cube_of schema state) edit
-  difference-same edit = all-same (λ (p : Policy) (shape : ShapeValue) dims. difference p dims edit state.facts)
+  -- the batch of a plan is what an edit changes, and what new facts do
+  pub difference-told : (cube : CubeValue P) → cube_of schema state ≡ cube → (edit : Edit) (batch : Batch) → batch ≡ difference (state_policy_in weigh state) state.dims edit state.facts → batch ≡ difference_in weigh cube edit
+  difference-told cube is edit batch planned = planned ∙ all-same (λ (p : Policy) (shape : ShapeValue) dims. difference p dims edit state.facts) ∙ ap (λ c. difference_in weigh c edit) is
+
+  pub import-told : (cube : CubeValue P) → cube_of schema state ≡ cube → (new : List Fact) (batch : Batch) → batch ≡ difference_with (state_policy_in weigh state) state.dims new state.facts → batch ≡ import_difference_in weigh cube new
+  import-told cube is new batch planned = planned ∙ all-same (λ (p : Policy) (shape : ShapeValue) dims. difference_with p dims new state.facts) ∙ ap (λ c. import_difference_in weigh c new) is
 
   pub valid-same : AreValid state.shape state.dims state.facts → AreFactsOf schema state.facts
   valid-same valid = subst (λ dims. AreValid (shape_of schema) dims state.facts) of.dims_are (subst (λ shape. AreValid shape state.dims state.facts) of.shape_is valid)

@@ -4,6 +4,7 @@ use Rattle.cube_model.specs.declared.edit.Fact.{Fact}
 use Rattle.cube_model.specs.declared.term.Term.{Term}
 use Rattle.cube_model.specs.Allocation.{ExtendedFact, Policy, by_count, extended, weigh_sum}
 use Rattle.cube_model.specs.Facts.{withdraw}
+use Rattle.fact_keeper.specs.declared.content.KeptRows.{KeptRows}
 use Rattle.fact_records.specs.Examples.{number}
 use Rattle.fact_records.specs.Shape.{ShapeValue, policy_over}
 use Rattle.alloc_rows.specs.Examples.{four_facts, two_dims}
@@ -40,3 +41,7 @@ row_alone = extended by_count two_dims (withdraw 1 (withdraw 2 (withdraw 3 four_
 -- a term with one column beside the count
 abbrev pub term_with : ℕ → ℕ → ℕ → Term
 term_with den count sum = record { den = den; count = count; sums = pos sum ∷ [] }
+
+-- rows as they are kept
+abbrev pub rows_of : ℕ → ℕ → List (ℕ × ℕ) → KeptRows
+rows_of id den rows = record { id = id; den = den; rows = rows }

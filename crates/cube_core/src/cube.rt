@@ -11,26 +11,29 @@ ghost use Rattle.exact_fraction.specs.Moderate.{IsModerate};
 ghost use Rattle.fact_keeper.specs.Batch.{apply_batch};
 ghost use Rattle.fact_records.specs.Outcomes.{AllAddUp};
 ghost use Rattle.fact_records.specs.Shape.{width_of_all};
-ghost use Rattle.fact_records.specs.Valid.{IsEditOver};
+ghost use Rattle.fact_records.specs.Valid.{IsEditOver, IsPlaced};
 ghost use Rattle.region_algebra.specs.Space.{IsRegion};
 ghost use Rattle.schema_text.specs.Schema.{policy_in, shape_of, view_named};
 ghost use Rattle.stored_state.specs.Sound.{IsLoadFault, IsSound, facts_told};
 ghost use Rattle.world_law.specs.Additive.{AddUpOverChildren};
 ghost use Rattle.world_law.specs.Placed.{fault_of};
 ghost use Rattle.cube_core.specs.Cube.{AreFactsOf, CountsEditFault, IsBounded, IsFaultOf, answer_in, difference_in, edited, judge_in, refreshed_in, rows_in, step_bound_in};
+ghost use Rattle.cube_core.specs.Import.{CountsImportFault, IsImportFaultOf, import_difference_in, import_refreshed_in, imported, refused_in_cube};
 ghost use Rattle.cube_core.specs.Expected.{AreExpected};
 ghost use Rattle.cube_core.specs.View.{view_in};
 ghost use Rattle.cube_core.specs.WorldSums.{IsWorldFault, placed_in, world_sum_in};
 
-use crate::EditFault;
+use crate::carrying::carry_out;
 use crate::place::{PlacedList, place};
+use crate::{EditFault, ImportFault};
 use alloc_rows::Alloc;
 use cell_weight::WeightPolicy;
 use cube_base::{Ids, Memory};
 use cube_model::{Edit, Region};
-use edit_plan::{State, plan};
+use edit_plan::{State, plan, plan_all};
 use fact_keeper::{Keeper, Stored};
 use fact_records::FactList;
+use fact_sequence::{FactSeq, judge_seq};
 use group_sum::Terms;
 use region_index::Steps;
 use schema_text::Schema;
@@ -41,7 +44,7 @@ use stored_state::{LoadFault, load_state};
 use view_store::ViewList;
 use world_law::{WorldFault, WorldSum, enumerate};
 
-/// What an accepted edit did.
+/// What an accepted edit or import did.
 #[derive(Debug, Drop)]
 pub struct Receipt {
     /// The ids of the facts that are new or lie otherwise than before, ascending.
@@ -181,14 +184,54 @@ impl<P: WeightPolicy + Drop> Cube<P> {
         ensures same_journal { OnErr result (K.journal keeper.new ≡ K.journal keeper.old) }
         ensures steps { steps.new ≤ steps.old + step_bound_in P.weigh self.old edit.now }
     {
-        let mut plan = plan(self.alloc, &mut self.state, edit, steps)?;
-        keeper.commit(plan.batch())?;
-        let receipt = Receipt {
-            refreshed: plan.take_refreshed(),
-            removed: plan.removed(),
-        };
-        self.state.install(plan);
-        Ok(receipt)
+        let plan = plan(self.alloc, &mut self.state, edit, steps)?;
+        let removed = plan.removed();
+        let refreshed = carry_out(&mut self.state, plan, keeper)?;
+        Ok(Receipt { refreshed, removed })
+    }
+
+    /// Puts the facts of a file, all or none: judges them in the order of the file, plans them together, commits what they change to
+    /// the keeper, which must be open, as one batch, also where there are none, and then sets what was planned. Each fact must have an
+    /// id from 1 to 2^63 - 1 and a region of the space. `BadRecord` is answered where a record is refused, with the first: a fact whose
+    /// put the facts before it refuse, those of the cube and those of the file, by the first that holds of `Value`, `Parts`, `Exists`,
+    /// `Region` and `Facts`; and behind all facts the record that could not be read. Else `Rows` is answered where all facts then have more
+    /// than 2^21 rows, with their number. `KeepFault` comes at a fault of the keeper alone, which it counts, and where nothing refuses
+    /// the file. The one other error is want of memory. On every error the cube, and what the keeper holds, are as they were. It takes
+    /// time in proportion to the facts and rows of the cube and the file.
+    pub fn import<K: Keeper>(
+        &mut self,
+        seq: &FactSeq,
+        keeper: &mut K,
+    ) -> Result<Receipt, ImportFault>
+        requires placed { All (IsPlaced self.old.schema.dims) seq.now.facts }
+        requires open { IsTrue (K.is_open keeper.old) }
+        ensures facts { OnOk result (self.new ≡ imported seq.now.facts self.old) }
+        ensures accepted { OnOk result (refused_in_cube self.old seq.now ≡ None) }
+        ensures few { OnOk result (row_count (rows_in P.weigh (imported seq.now.facts self.old)) ≤ MAX_ROWS) }
+        ensures refreshed { IfOk result (λ receipt. receipt.refreshed ≡ import_refreshed_in P.weigh self.old seq.now.facts) }
+        ensures ascending { IfOk result (λ receipt. ascends_from (λ id. id) 1 receipt.refreshed ≡ true) }
+        ensures removed { IfOk result (λ receipt. receipt.removed ≡ None) }
+        ensures content { OnOk result (K.content keeper.new ≡ option_map (apply_batch (import_difference_in P.weigh self.old seq.now.facts)) (K.content keeper.old)) }
+        ensures journal { OnOk result (K.journal keeper.new ≡ option_map (λ batches. batches ++ import_difference_in P.weigh self.old seq.now.facts ∷ []) (K.journal keeper.old)) }
+        ensures stays_open { IsTrue (K.is_open keeper.new) }
+        ensures count { CountsImportFault (K.faults keeper.old) (K.faults keeper.new) result }
+        ensures fault { IfErr result (IsImportFaultOf P.weigh self.old seq.now) }
+        ensures same { OnErr result (self.new ≡ self.old) }
+        ensures same_content { OnErr result (K.content keeper.new ≡ K.content keeper.old) }
+        ensures same_journal { OnErr result (K.journal keeper.new ≡ K.journal keeper.old) }
+    {
+        let space = self.schema.space();
+        let shape = self.schema.shape();
+        let facts = self.state.facts();
+        if let Some(bad) = judge_seq(self.alloc, shape, space, facts, seq)? {
+            return Err(ImportFault::BadRecord(bad));
+        }
+        let plan = plan_all(self.alloc, &self.state, &seq.facts)?;
+        let refreshed = carry_out(&mut self.state, plan, keeper)?;
+        Ok(Receipt {
+            refreshed,
+            removed: None,
+        })
     }
 
     /// What the facts add up to inside `r`, which must be a region of the space: for each denominator among the

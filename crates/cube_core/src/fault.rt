@@ -1,7 +1,8 @@
-//! Why an edit fails.
+//! Why an edit or an import fails.
 use cube_base::{Code, Memory};
-use edit_plan::PlanFault;
+use edit_plan::{PlanAllFault, PlanFault};
 use fact_keeper::KeepError;
+use fact_sequence::BadRecord;
 use thiserror::Error;
 
 /// Why an edit is not done. The cube is as it was.
@@ -57,6 +58,62 @@ impl From<KeepError> for EditFault {
         match fault {
             KeepError::Failed => EditFault::KeepFault,
             KeepError::Memory => EditFault::Memory,
+        }
+    }
+}
+
+/// Why the facts of a file are not put. The cube is as it was.
+#[derive(Clone, Copy, Debug, Error, PartialEq, Eq)]
+pub enum ImportFault {
+    /// The first record that is refused.
+    #[error("record {index}: {word}", index = .0.index, word = .0.code.word())]
+    BadRecord(BadRecord),
+    /// No record is refused, but all facts then would have more than 2^21 rows: so many.
+    #[error("there would be {would} rows")]
+    Rows { would: u64 },
+    /// The keeper had a fault, and counts it. Nothing refuses the file.
+    #[error("the store failed")]
+    KeepFault,
+    /// Want of memory.
+    #[error("no memory")]
+    Memory,
+}
+
+impl From<Memory> for ImportFault {
+    ghost use Rattle.std.specs.Prelude.{◌≡◌};
+    ghost use Rattle.cube_core.specs.declared.fault.ImportFault.TheVariants as import_fault;
+
+    ghost from_gives = { λ _ fault. fault ≡ import_fault.Memory };
+
+    fn from(_: Memory) -> Self {
+        ImportFault::Memory
+    }
+}
+
+impl From<PlanAllFault> for ImportFault {
+    ghost use Rattle.std.specs.Prelude.{◌≡◌};
+    ghost use Rattle.cube_core.specs.Import.{import_fault_of_plan};
+
+    ghost from_gives = { λ planned fault. fault ≡ import_fault_of_plan planned };
+
+    fn from(fault: PlanAllFault) -> Self {
+        match fault {
+            PlanAllFault::Rows { would } => ImportFault::Rows { would },
+            PlanAllFault::Memory => ImportFault::Memory,
+        }
+    }
+}
+
+impl From<KeepError> for ImportFault {
+    ghost use Rattle.std.specs.Prelude.{◌≡◌};
+    ghost use Rattle.cube_core.specs.Import.{import_fault_of_keeper};
+
+    ghost from_gives = { λ kept fault. fault ≡ import_fault_of_keeper kept };
+
+    fn from(fault: KeepError) -> Self {
+        match fault {
+            KeepError::Failed => ImportFault::KeepFault,
+            KeepError::Memory => ImportFault::Memory,
         }
     }
 }

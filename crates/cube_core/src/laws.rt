@@ -7,16 +7,19 @@ ghost use Rattle.cube_model.specs.Answer.{answer};
 ghost use Rattle.cube_model.specs.Difference.{refreshed};
 ghost use Rattle.cube_model.specs.Facts.{after};
 ghost use Rattle.edit_plan.specs.Bound.{step_limit};
+ghost use Rattle.edit_plan.specs.Plan.{kept_fact};
+ghost use Rattle.edit_plan.specs.Whole.{difference_with};
 ghost use Rattle.fact_records.specs.Examples.{number_and_parts, one_number};
 ghost use Rattle.fact_records.specs.Judge.{judge};
 ghost use Rattle.alloc_rows.specs.Examples.{fact_at, four_facts, two_dims};
 ghost use Rattle.world_law.specs.Worlds.{total, worlds};
-ghost use Rattle.cube_core.specs.Examples.{below_0, by_value, fact_of, four_rows, one_weight, row_alone, term_with, whole_parts, wrong_parts};
+ghost use Rattle.cube_core.specs.Examples.{below_0, by_value, fact_of, four_rows, one_weight, row_alone, rows_of, term_with, whole_parts, wrong_parts};
 
 /// Rows, answers, refreshed facts and refusals that were worked out by hand. A fact somewhere in three cells is spread over
 /// the two where facts lie, as the counts say, and evenly over all three where no fact lies; so it lies otherwise once one
 /// of these facts moves or is withdrawn. In one of its two worlds it stands where two others do, and in one it does not. A move
-/// between two cells that it covers, in two dimensions of depth 2, takes at most 2 * 9 + 2 * 2 + 2 steps.
+/// between two cells that it covers, in two dimensions of depth 2, takes at most 2 * 9 + 2 * 2 + 2 steps. New facts are kept in order
+/// of their ids, whatever the order of the file, and so are their rows with those of the facts that they refresh.
 pub fn worked_cube()
     ensures spread { allocation_of 4 four_rows ≡ Some (record { den = 3; rows = (0, 2) ∷ (4, 1) ∷ [] }) }
     ensures precise { allocation_of 3 four_rows ≡ Some (record { den = 1; rows = (4, 1) ∷ [] }) }
@@ -33,6 +36,13 @@ pub fn worked_cube()
     ensures unchanged { refreshed by_count two_dims four_facts (after (Change (fact_at 2 (2 ∷ 2 ∷ []) 301)) four_facts) ≡ [] }
     ensures withdrawn { refreshed by_count two_dims four_facts (after (Withdraw 1) four_facts) ≡ 4 ∷ [] }
     ensures put { refreshed by_count two_dims four_facts (after (Put (fact_at 5 (4 ∷ 2 ∷ []) 1)) four_facts) ≡ 4 ∷ 5 ∷ [] }
+    ensures imported { difference_with by_count two_dims (fact_at 6 (4 ∷ 2 ∷ []) 1 ∷ fact_at 5 (2 ∷ 2 ∷ []) 7 ∷ []) four_facts
+        ≡ record {
+          schema = None;
+          gone = [];
+          facts = kept_fact (fact_at 5 (2 ∷ 2 ∷ []) 7) ∷ kept_fact (fact_at 6 (4 ∷ 2 ∷ []) 1) ∷ [];
+          rows = rows_of 4 5 ((0, 3) ∷ (4, 1) ∷ (8, 1) ∷ []) ∷ rows_of 5 1 ((0, 1) ∷ []) ∷ rows_of 6 1 ((8, 1) ∷ []) ∷ [];
+        } }
     ensures accepted { judge by_count one_number two_dims (Put (fact_at 5 (0 ∷ 0 ∷ []) 7)) four_facts ≡ None }
     ensures moved { judge by_count one_number two_dims (Change (fact_at 3 (4 ∷ 2 ∷ []) 50)) four_facts ≡ None }
     ensures large { judge by_count one_number two_dims (Put (fact_at 4 (0 ∷ 0 ∷ []) 1000000000001)) four_facts ≡ Some code.Value }

@@ -1,13 +1,14 @@
 //! The cube: facts, each spread over the cells of its region, edits of them, and answers over regions.
 #![tactic(auto)]
 
+mod carrying;
 mod cube;
 mod fault;
 mod laws;
 mod place;
 
 pub use cube::{Cube, Receipt};
-pub use fault::EditFault;
+pub use fault::{EditFault, ImportFault};
 pub use laws::{worked_cube, worked_sums};
 pub use place::PlacedList;
 pub use stored_state::{Finding, LoadFault};

@@ -27,6 +27,7 @@ returns c = record {
   unchanged = refl;
   withdrawn = refl;
   put = refl;
+  imported = refl;
   accepted = refl;
   moved = refl;
   large = refl;
