@@ -6,11 +6,15 @@ use sqlite_syntax::error::ParseError;
 use sqlite_syntax::parse;
 use std::alloc::Global;
 
-/// Makes the tables that are missing.
-pub(crate) const MAKE_TABLES: &str =
-    "CREATE TABLE IF NOT EXISTS cube (k INTEGER PRIMARY KEY, body BLOB NOT NULL);
-    CREATE TABLE IF NOT EXISTS fact (id INTEGER PRIMARY KEY, nodes BLOB NOT NULL, cols BLOB NOT NULL);
-    CREATE TABLE IF NOT EXISTS alloc (id INTEGER PRIMARY KEY, den INTEGER NOT NULL, body BLOB NOT NULL)";
+/// Makes the table of the schema text where it is missing.
+pub(crate) const MAKE_CUBE: &str =
+    "CREATE TABLE IF NOT EXISTS cube (k INTEGER PRIMARY KEY, body BLOB NOT NULL)";
+/// Makes the table of facts where it is missing.
+pub(crate) const MAKE_FACT: &str =
+    "CREATE TABLE IF NOT EXISTS fact (id INTEGER PRIMARY KEY, nodes BLOB NOT NULL, cols BLOB NOT NULL)";
+/// Makes the table of allocations where it is missing.
+pub(crate) const MAKE_ALLOC: &str =
+    "CREATE TABLE IF NOT EXISTS alloc (id INTEGER PRIMARY KEY, den INTEGER NOT NULL, body BLOB NOT NULL)";
 
 /// A name and a type.
 pub(crate) type Column = (&'static str, &'static str);

@@ -7,8 +7,6 @@ mod file;
 mod keeper;
 mod layout;
 mod reading;
-#[cfg(test)]
-mod tests;
 mod writing;
 
 pub use keeper::SqlKeeper;

@@ -1,7 +1,7 @@
 //! A batch, written into the tables of a store as one transaction.
 use crate::blob;
 use crate::fault::Fault;
-use crate::layout::MAKE_TABLES;
+use crate::layout::{MAKE_ALLOC, MAKE_CUBE, MAKE_FACT};
 use fact_keeper::{Batch, KeptFact, KeptRows};
 use sqlite::{Alter, Connection, Transaction, params};
 use std::alloc::Global;
@@ -27,13 +27,22 @@ fn write_inside<S: Alter>(
     tx: &mut Transaction<'_, S>,
     batch: &Batch,
 ) -> Result<(), Fault> {
-    tx.execute_batch(MAKE_TABLES)?;
+    make_tables(tx)?;
     if let Some(text) = &batch.schema {
         put_schema(tx, text.as_slice())?;
     }
     drop_all(tx, batch.gone.as_slice())?;
     put_facts(alloc, tx, batch.facts.as_slice())?;
     put_all_rows(alloc, tx, batch.rows.as_slice())
+}
+
+/// Makes the tables that are missing.
+fn make_tables<S: Alter>(tx: &mut Transaction<'_, S>) -> Result<(), Fault> {
+    // One by one: a statement is found by its text among those that are compiled, and a text of several is read anew each time.
+    tx.execute(MAKE_CUBE, &[])?;
+    tx.execute(MAKE_FACT, &[])?;
+    tx.execute(MAKE_ALLOC, &[])?;
+    Ok(())
 }
 
 /// Drops the facts and the rows of gone ids.

@@ -1,0 +1,13 @@
+//! Tests of stores in files: what SQL makes of them and finds in them, and commands over them.
+#![tactic(auto)]
+
+#[cfg(test)]
+mod batches;
+#[cfg(test)]
+mod commands;
+#[cfg(test)]
+mod contents;
+#[cfg(test)]
+mod sql;
+#[cfg(test)]
+mod tables;
