@@ -15,14 +15,17 @@ use Rattle.stored_state.specs.Sound.{IsFinding, IsSound}
 use Rattle.stored_state.specs.declared.finding.Finding.{Finding}
 use Rattle.stored_state.specs.declared.finding.Finding.TheVariants as finding
 use Rattle.script_run.specs.Seen.{KeepFailed, KeeperSeen, WriteFailed}
-use Rattle.cube_cli.specs.End.{CheckOver, EndsCheck, EndsInit, EndsRun, InitOver, IsCompleteCheck, IsCompleteInit, IsCompleteRun, IsDone, RunOver, SaysOfStore}
+use Rattle.cube_cli.specs.End.{EndsImport, EndsInit, EndsRun, EndsTask, EndsTelling, ImportOver, InitOver, IsCompleteInit, IsCompleteTask, IsCompleteTelling, IsDone, IsImportDone, IsTaskDone, RunOver, SaysOfStore, SaysOfTask, SaysOfTelling, TaskOver, TellingOver}
 use Rattle.cube_cli.specs.Input.{INPUT_LIMIT, GoesOn}
 use Rattle.cube_cli.specs.SchemaAlone.{schema_alone}
 use Rattle.cube_cli.specs.Seen.{ReadFailed, Seen, SourceSeen, WasRead}
 use Rattle.cube_cli.specs.Store.{Finds, FindsBy, IsSoundContent, IsSoundOver, policy_of}
-use Rattle.cube_cli.specs.declared.command.StoreCommand.TheVariants.{Init, Run, Check}
+use Rattle.cube_cli.specs.declared.command.StoreCommand.TheVariants.{Init}
+use Rattle.cube_cli.specs.declared.store.InputTask.{InputTask}
+use Rattle.cube_cli.specs.declared.store.InputTask.TheVariants.{Run, Import}
+use Rattle.cube_cli.specs.declared.telling.Telling.{Telling}
 use Rattle.cube_cli.specs.declared.end.End.{End}
-use Rattle.cube_cli.specs.declared.end.End.TheVariants.{Finished, Usage, Schema, NoCube, HasCube, BadStore, ReadFault, WriteFault, KeepFault, Memory, TooLong}
+use Rattle.cube_cli.specs.declared.end.End.TheVariants.{Finished, Usage, Schema, NoCube, HasCube, BadStore, ReadFault, WriteFault, KeepFault, Memory, TooLong, BadRecord, ImportRows}
 
 -- an input that goes on behind the limit is longer
 not_longer : (left after : Option (List ℕ)) (P : List ℕ → Type 0) → GoesOn INPUT_LIMIT left after → IfSome left (λ input. length input ≤ INPUT_LIMIT → P input)
@@ -66,6 +69,8 @@ module _ (seen : Seen) (keeper : KeeperSeen) where
   done_init (TooLong done) ends read write keep content over none = not_longer seen.source.left seen.source.left_after (λ input. IsOk (schema_alone input) → ⊥) ends.long
   done_init (WriteFault done) ends read write keep content over none = absurd (write ends.0.cause)
   done_init (KeepFault done) ends read write keep content over none = absurd (keep ends.0.cause)
+  done_init (BadRecord bad) ends read write keep content over none = absurd ends
+  done_init (ImportRows would) ends read write keep content over none = absurd ends
 
   pub complete_init : (end : End) → SaysOfStore Init seen keeper end → IsCompleteInit seen keeper end
   complete_init end says = λ read write keep.
@@ -108,26 +113,51 @@ module _ (seen : Seen) (keeper : KeeperSeen) where
   done_run (TooLong done) ends read write keep content over sound = not_longer seen.source.left seen.source.left_after (λ input. ⊥) ends.long
   done_run (WriteFault done) ends read write keep content over sound = absurd (write ends.cause)
   done_run (KeepFault done) ends read write keep content over sound = absurd (keep ends.cause)
+  done_run (BadRecord bad) ends read write keep content over sound = absurd ends
+  done_run (ImportRows would) ends read write keep content over sound = absurd ends
 
-  pub complete_run : (end : End) → SaysOfStore Run seen keeper end → IsCompleteRun seen keeper end
-  complete_run end says = λ read write keep.
-      of_told keeper.told.content (λ content. RunOver content seen keeper end) (λ content. IsSoundContent content → IfSome seen.source.left (λ input. length input ≤ INPUT_LIMIT → IsDone end))
-      (λ content over sound. done_run end says.0 read write keep content over sound) says.1
+  done_import : (end : End) → EndsImport seen keeper end → (ReadFailed seen.source → ⊥) → (WriteFailed seen.sink → ⊥) → (KeepFailed keeper → ⊥)
+      → (content : Stored) → ImportOver content seen keeper end → IsSoundContent content → IfSome seen.source.left (λ input. length input ≤ INPUT_LIMIT → IsImportDone end)
+  done_import (Finished refused) ends read write keep content over sound = of_all seen.source.left _ (λ input few. tt)
+  done_import (Memory done) ends read write keep content over sound = of_all seen.source.left _ (λ input few. tt)
+  done_import (BadRecord bad) ends read write keep content over sound = of_all seen.source.left _ (λ input few. tt)
+  done_import (ImportRows would) ends read write keep content over sound = of_all seen.source.left _ (λ input few. tt)
+  done_import Usage ends read write keep content over sound = absurd ends
+  done_import HasCube ends read write keep content over sound = absurd ends
+  done_import (Schema at why) ends read write keep content over sound = absurd ends
+  done_import NoCube ends read write keep content over sound = absurd (not_empty content sound over)
+  done_import (BadStore found) ends read write keep content over sound = absurd (nothing_found content found sound over.1)
+  done_import (ReadFault done) ends read write keep content over sound = absurd (read ends.cause)
+  done_import (TooLong done) ends read write keep content over sound = not_longer seen.source.left seen.source.left_after (λ input. ⊥) ends.long
+  done_import (WriteFault done) ends read write keep content over sound = absurd (write ends.0.cause)
+  done_import (KeepFault done) ends read write keep content over sound = absurd (keep ends.0.cause)
 
-  done_check : (end : End) → EndsCheck seen keeper end → (WriteFailed seen.sink → ⊥) → (KeepFailed keeper → ⊥) → (content : Stored) → CheckOver content seen.sink end → IsSoundContent content → IsDone end
-  done_check (Finished refused) ends write keep content over sound = tt
-  done_check (Memory done) ends write keep content over sound = tt
-  done_check Usage ends write keep content over sound = ends
-  done_check HasCube ends write keep content over sound = ends
-  done_check (Schema at why) ends write keep content over sound = ends
-  done_check (ReadFault done) ends write keep content over sound = ends
-  done_check (TooLong done) ends write keep content over sound = ends
-  done_check NoCube ends write keep content over sound = not_empty content sound over
-  done_check (BadStore found) ends write keep content over sound = nothing_found content found sound over.1
-  done_check (WriteFault done) ends write keep content over sound = write ends.0.cause
-  done_check (KeepFault done) ends write keep content over sound = keep ends.0.cause
+  done_task : (task : InputTask) (end : End) → EndsTask task seen keeper end → (ReadFailed seen.source → ⊥) → (WriteFailed seen.sink → ⊥) → (KeepFailed keeper → ⊥)
+      → (content : Stored) → TaskOver task content seen keeper end → IsSoundContent content → IfSome seen.source.left (λ input. length input ≤ INPUT_LIMIT → IsTaskDone task end)
+  done_task Run end ends read write keep content over sound = done_run end ends read write keep content over sound
+  done_task Import end ends read write keep content over sound = done_import end ends read write keep content over sound
 
-  pub complete_check : (end : End) → SaysOfStore Check seen keeper end → IsCompleteCheck seen keeper end
-  complete_check end says = λ write keep.
-      of_told keeper.told.content (λ content. CheckOver content seen.sink end) (λ content. IsSoundContent content → IsDone end)
-      (λ content over sound. done_check end says.0 write keep content over sound) says.1
+  pub complete_task : (task : InputTask) (end : End) → SaysOfTask task seen keeper end → IsCompleteTask task seen keeper end
+  complete_task task end says = λ read write keep.
+      of_told keeper.told.content (λ content. TaskOver task content seen keeper end) (λ content. IsSoundContent content → IfSome seen.source.left (λ input. length input ≤ INPUT_LIMIT → IsTaskDone task end))
+      (λ content over sound. done_task task end says.0 read write keep content over sound) says.1
+
+  done_telling : (telling : Telling) (end : End) → EndsTelling seen keeper end → (WriteFailed seen.sink → ⊥) → (KeepFailed keeper → ⊥) → (content : Stored) → TellingOver telling content seen.sink end → IsSoundContent content → IsDone end
+  done_telling telling (Finished refused) ends write keep content over sound = tt
+  done_telling telling (Memory done) ends write keep content over sound = tt
+  done_telling telling Usage ends write keep content over sound = ends
+  done_telling telling HasCube ends write keep content over sound = ends
+  done_telling telling (Schema at why) ends write keep content over sound = ends
+  done_telling telling (ReadFault done) ends write keep content over sound = ends
+  done_telling telling (TooLong done) ends write keep content over sound = ends
+  done_telling telling NoCube ends write keep content over sound = not_empty content sound over
+  done_telling telling (BadStore found) ends write keep content over sound = nothing_found content found sound over.1
+  done_telling telling (WriteFault done) ends write keep content over sound = write ends.0.cause
+  done_telling telling (KeepFault done) ends write keep content over sound = keep ends.0.cause
+  done_telling telling (BadRecord bad) ends write keep content over sound = ends
+  done_telling telling (ImportRows would) ends write keep content over sound = ends
+
+  pub complete_telling : (telling : Telling) (end : End) → SaysOfTelling telling seen keeper end → IsCompleteTelling seen keeper end
+  complete_telling telling end says = λ write keep.
+      of_told keeper.told.content (λ content. TellingOver telling content seen.sink end) (λ content. IsSoundContent content → IsDone end)
+      (λ content over sound. done_telling telling end says.0 write keep content over sound) says.1

@@ -14,7 +14,7 @@ use Rattle.cube_cli.specs.Seen.{NoReadFault, Seen, WasRead}
 use Rattle.cube_cli.specs.Steps.{EndsKeeping, KeptAnd}
 use Rattle.cube_cli.specs.Store.{CommitsSchema, IsUntouched, schema_batch}
 use Rattle.cube_cli.specs.declared.end.End.{End}
-use Rattle.cube_cli.specs.declared.end.End.TheVariants.{Finished, Usage, Schema, NoCube, HasCube, BadStore, ReadFault, WriteFault, KeepFault, Memory, TooLong}
+use Rattle.cube_cli.specs.declared.end.End.TheVariants.{Finished, Usage, Schema, NoCube, HasCube, BadStore, ReadFault, WriteFault, KeepFault, Memory, TooLong, BadRecord, ImportRows}
 use Rattle.cube_cli.specs.declared.command.StoreCommand.TheVariants.{Init}
 use Rattle.cube_cli.proofs.Ends.{was_read}
 use Rattle.cube_cli.proofs.Keepers.{of_given, since_load}
@@ -32,6 +32,8 @@ kept_line schema sink keeper (BadStore found) line commits same = line
 kept_line schema sink keeper (ReadFault done) line commits same = line
 kept_line schema sink keeper (KeepFault done) line commits same = absurd line
 kept_line schema sink keeper (TooLong done) line commits same = line
+kept_line schema sink keeper (BadRecord bad) line commits same = line
+kept_line schema sink keeper (ImportRows would) line commits same = line
 
 module _ (seen : Seen) (keeper : KeeperSeen) (input : List ℕ) (schema : SchemaValue) (taken : Taken INPUT_LIMIT seen.source.left seen.source.left_after input) (same : NoReadFault seen.source) (alone : schema_alone input ≡ Ok schema) where
   committed : Commits (schema_batch schema ∷ []) keeper.told keeper.told_after → WasRead seen.source (λ text. CommitsSchema text keeper)
@@ -57,6 +59,8 @@ module _ (seen : Seen) (keeper : KeeperSeen) (input : List ℕ) (schema : Schema
   ends_keeping (BadStore found) kept = kept
   ends_keeping (ReadFault done) kept = absurd kept
   ends_keeping (TooLong done) kept = absurd kept
+  ends_keeping (BadRecord bad) kept = kept
+  ends_keeping (ImportRows would) kept = kept
 
 -- there was nothing in the store
 pub over_keeping : (schema : SchemaValue) (sink : SinkSeen) (keeper : KeeperSeen) (end : End) → EndsKeeping schema sink keeper end → InitOver empty_content end
@@ -71,6 +75,8 @@ over_keeping schema sink keeper HasCube kept = absurd kept
 over_keeping schema sink keeper (BadStore found) kept = refl
 over_keeping schema sink keeper (ReadFault done) kept = refl
 over_keeping schema sink keeper (TooLong done) kept = refl
+over_keeping schema sink keeper (BadRecord bad) kept = refl
+over_keeping schema sink keeper (ImportRows would) kept = refl
 
 -- a store was loaded in which there was nothing
 pub init_loaded : (seen : Seen) (end : End) (content : Stored) (told loaded later : Told) (faults faults_loaded faults_later : ℕ) → IfSome told.content (λ kept. content ≡ kept) → content ≡ empty_content → loaded ≡ told → faults_loaded ≡ faults

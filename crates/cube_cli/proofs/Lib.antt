@@ -1,6 +1,7 @@
 pub mod Auditing
 pub mod Completing
 pub mod Ends
+pub mod Files
 pub mod Keepers
 pub mod Keeping
 pub mod Loading
@@ -9,4 +10,5 @@ pub mod Running
 pub mod SchemaTrees
 pub mod Sound
 pub mod TailLines
+pub mod Tasks
 pub mod Unkept

@@ -8,7 +8,9 @@ use Rattle.drill_run.specs.Edits.{MAX_DRILL}
 use Rattle.cube_cli.specs.declared.command.Command.{Command}
 use Rattle.cube_cli.specs.declared.command.Command.TheVariants.{Drill, Store, Try}
 use Rattle.cube_cli.specs.declared.command.StoreCommand.{StoreCommand}
-use Rattle.cube_cli.specs.declared.command.StoreCommand.TheVariants.{Init, Run, Check}
+use Rattle.cube_cli.specs.declared.command.StoreCommand.TheVariants.{Init, Input, Tell}
+use Rattle.cube_cli.specs.declared.store.InputTask.TheVariants.{Run, Import}
+use Rattle.cube_cli.specs.declared.telling.Telling.TheVariants.{Check, Export}
 
 -- the drill of the number that bytes spell
 abbrev pub drill_named : List ℕ → Option Command
@@ -18,8 +20,10 @@ drill_named number = option_map (λ n. Drill n) (number_in 1 MAX_DRILL number)
 abbrev pub store_command : List ℕ → Option StoreCommand
 store_command word =
     if bytes_eq word (codes "init") then Some Init
-    else (if bytes_eq word (codes "run") then Some Run
-    else (if bytes_eq word (codes "check") then Some Check else None))
+    else (if bytes_eq word (codes "run") then Some (Input Run)
+    else (if bytes_eq word (codes "check") then Some (Tell Check)
+    else (if bytes_eq word (codes "import") then Some (Input Import)
+    else (if bytes_eq word (codes "export") then Some (Tell Export) else None))))
 
 -- that over the store of a name, which is not empty
 abbrev pub store_named : List ℕ → List ℕ → Option Command

@@ -3,7 +3,6 @@ use Rattle.std.specs.Prelude.{◌≡◌, ◌≢◌, ℕ, ◌+◌, ◌≤◌, Lis
 use Rattle.std.specs.Option.{option_map, option_map_or}
 use Rattle.std.specs.Result.{result_ok}
 use Rattle.std.specs.List.{concat}
-use Rattle.std.specs.Fmt.{decimal}
 use Rattle.std.specs.Io.KnownBytes.{Appends}
 use Rattle.cube_base.specs.Outside.{TakesPart}
 use Rattle.text_lines.specs.Text.{line_text, lines_of}
@@ -13,12 +12,13 @@ use Rattle.drill_run.specs.Summary.{summary_of}
 use Rattle.fact_keeper.specs.declared.content.Stored.{Stored}
 use Rattle.fact_keeper.specs.Batch.{empty_content}
 use Rattle.schema_text.specs.Schema.{SchemaValue}
-use Rattle.stored_state.specs.Sound.{rows_counted}
+use Rattle.stored_state.specs.Sound.{facts_told}
 use Rattle.script_run.specs.Kept.{Commits}
 use Rattle.script_run.specs.Run.{Outcome, run_of}
 use Rattle.script_run.specs.Seen.{KeepFailed, KeeperSeen, NoKeepFault, NoWriteFault, SinkSeen, WriteFailed, Wrote, WroteNothing}
 use Rattle.script_run.specs.Written.{Answered, Broken, Stopped}
 use Rattle.cube_cli.specs.Command.{command_of}
+use Rattle.cube_cli.specs.Files.{EndsImporting, text_told}
 use Rattle.cube_cli.specs.Input.{INPUT_LIMIT, GoesOn, TakesAtMost}
 use Rattle.cube_cli.specs.SchemaAlone.{schema_alone}
 use Rattle.cube_cli.specs.Seen.{NoFault, NoReadFault, ReadFailed, ReadNothing, Seen, SourceSeen, WasRead}
@@ -26,9 +26,12 @@ use Rattle.cube_cli.specs.Store.{CommitsSchema, Finds, Holds, IsSoundContent, Is
 use Rattle.cube_cli.specs.declared.command.Command.{Command}
 use Rattle.cube_cli.specs.declared.command.Command.TheVariants.{Drill, Store, Try}
 use Rattle.cube_cli.specs.declared.command.StoreCommand.{StoreCommand}
-use Rattle.cube_cli.specs.declared.command.StoreCommand.TheVariants.{Init, Run, Check}
+use Rattle.cube_cli.specs.declared.command.StoreCommand.TheVariants.{Init, Input, Tell}
+use Rattle.cube_cli.specs.declared.store.InputTask.{InputTask}
+use Rattle.cube_cli.specs.declared.store.InputTask.TheVariants.{Run, Import}
+use Rattle.cube_cli.specs.declared.telling.Telling.{Telling}
 use Rattle.cube_cli.specs.declared.end.End.{End}
-use Rattle.cube_cli.specs.declared.end.End.TheVariants.{Finished, Usage, Schema, NoCube, HasCube, BadStore, ReadFault, WriteFault, KeepFault, Memory, TooLong}
+use Rattle.cube_cli.specs.declared.end.End.TheVariants.{Finished, Usage, Schema, NoCube, HasCube, BadStore, ReadFault, WriteFault, KeepFault, Memory, TooLong, BadRecord, ImportRows}
 
 -- the schema of an input, where it is accepted
 abbrev pub schema_in : List ℕ → Option ReadSchema
@@ -58,6 +61,8 @@ SaysOfNone seen (Schema _ _) = ⊥
 SaysOfNone seen NoCube = ⊥
 SaysOfNone seen HasCube = ⊥
 SaysOfNone seen (BadStore _) = ⊥
+SaysOfNone seen (BadRecord _) = ⊥
+SaysOfNone seen (ImportRows _) = ⊥
 SaysOfNone seen (KeepFault _) = ⊥
 SaysOfNone seen (Finished _) = ⊥
 SaysOfNone seen (ReadFault _) = ⊥
@@ -71,6 +76,8 @@ SaysOfTry seen Usage = ⊥
 SaysOfTry seen NoCube = ⊥
 SaysOfTry seen HasCube = ⊥
 SaysOfTry seen (BadStore _) = ⊥
+SaysOfTry seen (BadRecord _) = ⊥
+SaysOfTry seen (ImportRows _) = ⊥
 SaysOfTry seen (KeepFault _) = ⊥
 -- the input's schema is refused: this is its first line at fault, and why
 SaysOfTry seen (Schema line why) = NoFault seen × WroteNothing seen.sink × WasRead seen.source (λ input. schema_of input ≡ Err (record { line = line; reason = why }))
@@ -98,6 +105,8 @@ WritesLine line refused done sink (Schema _ _) = ⊥
 WritesLine line refused done sink NoCube = ⊥
 WritesLine line refused done sink HasCube = ⊥
 WritesLine line refused done sink (BadStore _) = ⊥
+WritesLine line refused done sink (BadRecord _) = ⊥
+WritesLine line refused done sink (ImportRows _) = ⊥
 WritesLine line refused done sink (ReadFault _) = ⊥
 WritesLine line refused done sink (KeepFault _) = ⊥
 WritesLine line refused done sink (TooLong _) = ⊥
@@ -179,6 +188,8 @@ EndsOpening keeper (Finished _) = ⊥
 EndsOpening keeper (ReadFault _) = ⊥
 EndsOpening keeper (WriteFault _) = ⊥
 EndsOpening keeper (TooLong _) = ⊥
+EndsOpening keeper (BadRecord _) = ⊥
+EndsOpening keeper (ImportRows _) = ⊥
 
 abbrev pub OpeningOver : Stored → End → Type 0
 OpeningOver content NoCube = content ≡ empty_content
@@ -197,6 +208,8 @@ abbrev pub EndsInit : Seen → KeeperSeen → End → Type 0
 EndsInit seen keeper Usage = ⊥
 EndsInit seen keeper NoCube = ⊥
 EndsInit seen keeper (BadStore _) = ⊥
+EndsInit seen keeper (BadRecord _) = ⊥
+EndsInit seen keeper (ImportRows _) = ⊥
 EndsInit seen keeper HasCube = LeftAll seen keeper
 -- the input is no schema alone: this is its first line at fault, and why
 EndsInit seen keeper (Schema line why) = NoFaultAtAll seen keeper × DidNothing seen keeper × WasRead seen.source (λ input. schema_alone input ≡ Err (record { line = line; reason = why }))
@@ -222,6 +235,8 @@ abbrev pub EndsRun : Seen → KeeperSeen → End → Type 0
 EndsRun seen keeper Usage = ⊥
 EndsRun seen keeper HasCube = ⊥
 EndsRun seen keeper (Schema _ _) = ⊥
+EndsRun seen keeper (BadRecord _) = ⊥
+EndsRun seen keeper (ImportRows _) = ⊥
 EndsRun seen keeper NoCube = LeftAll seen keeper
 EndsRun seen keeper (BadStore found) = LeftAll seen keeper
 EndsRun seen keeper (Finished refused) = NoFaultAtAll seen keeper
@@ -261,6 +276,8 @@ abbrev pub RunOver : Stored → Seen → KeeperSeen → End → Type 0
 RunOver content seen keeper Usage = ⊥
 RunOver content seen keeper HasCube = ⊥
 RunOver content seen keeper (Schema _ _) = ⊥
+RunOver content seen keeper (BadRecord _) = ⊥
+RunOver content seen keeper (ImportRows _) = ⊥
 -- there was nothing in it
 RunOver content seen keeper NoCube = content ≡ empty_content
 -- this is found in it first
@@ -273,59 +290,115 @@ RunOver content seen keeper (WriteFault done) = IsSoundContent content × WasRea
 RunOver content seen keeper (KeepFault done) = StoppedFirst seen keeper done ⊎ (IsSoundContent content × WasRead seen.source (λ input. StoppedAtEdit content (lines_of input) done seen keeper))
 RunOver content seen keeper (Memory done) = IfSome seen.source.left (λ input. WantedMemory content (lines_of input) done seen keeper)
 
--- the reply of `check` to so many facts and rows
-abbrev pub sound_text : ℕ → ℕ → List ℕ
-sound_text facts rows = line_text (codes "sound") (decimal facts ∷ decimal rows ∷ [])
+-- a content is sound, and with its schema this holds
+abbrev pub IsSoundAnd : Stored → (SchemaValue → Type 0) → Type 0
+IsSoundAnd content P = IsOkAnd (schema_alone content.schema) (λ schema. IsSoundOver schema content × P schema)
 
--- that over a schema: how many facts a content has, and how many rows
-abbrev pub sound_line : SchemaValue → Stored → List ℕ
-sound_line schema content = sound_text (length content.facts) (rows_counted (policy_of schema) schema.dims content)
+-- What each end says of a file that was to be imported over a content that the store held.
+abbrev pub TookFile : Stored → Seen → KeeperSeen → End → Type 0
+TookFile content seen keeper end = IsSoundAnd content (λ schema. WasRead seen.source (λ file. EndsImporting (policy_of schema) schema (facts_told content) file seen.sink keeper end))
 
--- a content is sound, and of its line this holds
-abbrev pub IsSoundWith : (List ℕ → Type 0) → Stored → Type 0
-IsSoundWith P content = IsOkAnd (schema_alone content.schema) (λ schema. IsSoundOver schema content × P (sound_line schema content))
+-- What each end says of a run of `import`, whatever the store holds.
+abbrev pub EndsImport : Seen → KeeperSeen → End → Type 0
+EndsImport seen keeper Usage = ⊥
+EndsImport seen keeper HasCube = ⊥
+EndsImport seen keeper (Schema _ _) = ⊥
+EndsImport seen keeper NoCube = LeftAll seen keeper
+EndsImport seen keeper (BadStore found) = LeftAll seen keeper
+-- the file is refused
+EndsImport seen keeper (BadRecord bad) = NoFaultAtAll seen keeper × DidNothing seen keeper
+EndsImport seen keeper (ImportRows would) = NoFaultAtAll seen keeper × DidNothing seen keeper
+EndsImport seen keeper (Finished refused) = NoFaultAtAll seen keeper × (refused ≡ 0)
+EndsImport seen keeper (ReadFault done) = FailedReading seen keeper done
+EndsImport seen keeper (TooLong done) = TookLong seen keeper done
+-- the facts are kept, and the reply is not whole
+EndsImport seen keeper (WriteFault done) = FailedWriting seen keeper × (done ≡ 1)
+EndsImport seen keeper (KeepFault done) = FailedKeeping seen keeper × (done ≡ 0) × DidNothing seen keeper
+-- memory was wanting, before the facts were kept or behind
+EndsImport seen keeper (Memory done) = NoFaultAtAll seen keeper × (((done ≡ 0) × DidNothing seen keeper) ⊎ (done ≡ 1))
+
+-- What each end of `import` says of a content that the store held.
+abbrev pub ImportOver : Stored → Seen → KeeperSeen → End → Type 0
+ImportOver content seen keeper Usage = ⊥
+ImportOver content seen keeper HasCube = ⊥
+ImportOver content seen keeper (Schema _ _) = ⊥
+ImportOver content seen keeper NoCube = content ≡ empty_content
+ImportOver content seen keeper (BadStore found) = (content ≢ empty_content) × Finds content found
+ImportOver content seen keeper (ReadFault done) = IsSoundContent content
+ImportOver content seen keeper (TooLong done) = IsSoundContent content
+ImportOver content seen keeper (BadRecord bad) = TookFile content seen keeper (BadRecord bad)
+ImportOver content seen keeper (ImportRows would) = TookFile content seen keeper (ImportRows would)
+ImportOver content seen keeper (Finished refused) = TookFile content seen keeper (Finished refused)
+ImportOver content seen keeper (WriteFault done) = TookFile content seen keeper (WriteFault done)
+-- the keeper failed at the load, or at the batch of the file
+ImportOver content seen keeper (KeepFault done) = StoppedFirst seen keeper done ⊎ TookFile content seen keeper (KeepFault done)
+ImportOver content seen keeper (Memory done) = ((done ≡ 0) × DidNothing seen keeper) ⊎ TookFile content seen keeper (Memory done)
+
+-- a content is sound, and of the text that is told of it this holds
+abbrev pub TellsOf : Telling → Stored → (List ℕ → Type 0) → Type 0
+TellsOf telling content P = IsSoundAnd content (λ schema. P (text_told telling (policy_of schema) schema (facts_told content)))
 
 -- nothing was read, and nothing kept
 pub record LeftStore (seen : Seen) (keeper : KeeperSeen) : Type 0 where
   pub read : ReadNothing seen.source
   pub kept : IsUntouched keeper
 
--- What each end says of a run of `check`, whatever the store holds.
-abbrev pub EndsCheck : Seen → KeeperSeen → End → Type 0
-EndsCheck seen keeper Usage = ⊥
-EndsCheck seen keeper HasCube = ⊥
-EndsCheck seen keeper (Schema _ _) = ⊥
-EndsCheck seen keeper (ReadFault _) = ⊥
-EndsCheck seen keeper (TooLong _) = ⊥
-EndsCheck seen keeper NoCube = LeftAll seen keeper
-EndsCheck seen keeper (BadStore found) = LeftAll seen keeper
-EndsCheck seen keeper (Finished refused) = NoFaultAtAll seen keeper × (refused ≡ 0) × LeftStore seen keeper
-EndsCheck seen keeper (WriteFault done) = FailedWriting seen keeper × (done ≡ 0) × LeftStore seen keeper
-EndsCheck seen keeper (KeepFault done) = FailedKeeping seen keeper × StoppedFirst seen keeper done
-EndsCheck seen keeper (Memory done) = NoFaultAtAll seen keeper × (done ≡ 0) × LeftStore seen keeper
+-- What each end says of a run of `check` or `export`, whatever the store holds.
+abbrev pub EndsTelling : Seen → KeeperSeen → End → Type 0
+EndsTelling seen keeper Usage = ⊥
+EndsTelling seen keeper HasCube = ⊥
+EndsTelling seen keeper (Schema _ _) = ⊥
+EndsTelling seen keeper (ReadFault _) = ⊥
+EndsTelling seen keeper (TooLong _) = ⊥
+EndsTelling seen keeper (BadRecord _) = ⊥
+EndsTelling seen keeper (ImportRows _) = ⊥
+EndsTelling seen keeper NoCube = LeftAll seen keeper
+EndsTelling seen keeper (BadStore found) = LeftAll seen keeper
+EndsTelling seen keeper (Finished refused) = NoFaultAtAll seen keeper × (refused ≡ 0) × LeftStore seen keeper
+EndsTelling seen keeper (WriteFault done) = FailedWriting seen keeper × (done ≡ 0) × LeftStore seen keeper
+EndsTelling seen keeper (KeepFault done) = FailedKeeping seen keeper × StoppedFirst seen keeper done
+EndsTelling seen keeper (Memory done) = NoFaultAtAll seen keeper × (done ≡ 0) × LeftStore seen keeper
 
--- What each end of `check` says of a content that the store held.
-abbrev pub CheckOver : Stored → SinkSeen → End → Type 0
-CheckOver content sink Usage = ⊥
-CheckOver content sink HasCube = ⊥
-CheckOver content sink (Schema _ _) = ⊥
-CheckOver content sink (ReadFault _) = ⊥
-CheckOver content sink (TooLong _) = ⊥
-CheckOver content sink NoCube = content ≡ empty_content
-CheckOver content sink (BadStore found) = (content ≢ empty_content) × Finds content found
--- it is sound, and the reply says how much it holds
-CheckOver content sink (Finished refused) = IsSoundWith (Appends sink.taken sink.taken_after) content
--- the reply is not whole
-CheckOver content sink (WriteFault done) = IsSoundWith (TakesPart sink.taken sink.taken_after) content
-CheckOver content sink (KeepFault done) = ⊤
--- memory was wanting, before the reply or for it
-CheckOver content sink (Memory done) = WroteNothing sink ⊎ IsSoundWith (TakesPart sink.taken sink.taken_after) content
+-- What each of their ends says of a content that the store held.
+abbrev pub TellingOver : Telling → Stored → SinkSeen → End → Type 0
+TellingOver telling content sink Usage = ⊥
+TellingOver telling content sink HasCube = ⊥
+TellingOver telling content sink (Schema _ _) = ⊥
+TellingOver telling content sink (ReadFault _) = ⊥
+TellingOver telling content sink (TooLong _) = ⊥
+TellingOver telling content sink (BadRecord _) = ⊥
+TellingOver telling content sink (ImportRows _) = ⊥
+TellingOver telling content sink NoCube = content ≡ empty_content
+TellingOver telling content sink (BadStore found) = (content ≢ empty_content) × Finds content found
+-- it is sound, and the text that tells of it is written
+TellingOver telling content sink (Finished refused) = TellsOf telling content (Appends sink.taken sink.taken_after)
+-- the text is not whole
+TellingOver telling content sink (WriteFault done) = TellsOf telling content (TakesPart sink.taken sink.taken_after)
+TellingOver telling content sink (KeepFault done) = ⊤
+-- memory was wanting, before the text or for it
+TellingOver telling content sink (Memory done) = WroteNothing sink ⊎ TellsOf telling content (TakesPart sink.taken sink.taken_after)
+
+-- what is said of a command that takes an input over a store: whatever the store holds, and of what it held
+abbrev pub EndsTask : InputTask → Seen → KeeperSeen → End → Type 0
+EndsTask Run seen keeper end = EndsRun seen keeper end
+EndsTask Import seen keeper end = EndsImport seen keeper end
+
+abbrev pub TaskOver : InputTask → Stored → Seen → KeeperSeen → End → Type 0
+TaskOver Run content seen keeper end = RunOver content seen keeper end
+TaskOver Import content seen keeper end = ImportOver content seen keeper end
+
+abbrev pub SaysOfTask : InputTask → Seen → KeeperSeen → End → Type 0
+SaysOfTask task seen keeper end = EndsTask task seen keeper end × Holds keeper (λ content. TaskOver task content seen keeper end)
+
+-- the same of one that tells what a store holds
+abbrev pub SaysOfTelling : Telling → Seen → KeeperSeen → End → Type 0
+SaysOfTelling telling seen keeper end = EndsTelling seen keeper end × Holds keeper (λ content. TellingOver telling content seen.sink end)
 
 -- what an end says of a run of a command over a store, and of what the store held, where the keeper tells it
 abbrev pub SaysOfStore : StoreCommand → Seen → KeeperSeen → End → Type 0
 SaysOfStore Init seen keeper end = EndsInit seen keeper end × Holds keeper (λ content. InitOver content end)
-SaysOfStore Run seen keeper end = EndsRun seen keeper end × Holds keeper (λ content. RunOver content seen keeper end)
-SaysOfStore Check seen keeper end = EndsCheck seen keeper end × Holds keeper (λ content. CheckOver content seen.sink end)
+SaysOfStore (Input task) seen keeper end = SaysOfTask task seen keeper end
+SaysOfStore (Tell telling) seen keeper end = SaysOfTelling telling seen keeper end
 
 -- the keeper was not called: what it holds and its count of faults are as they were
 pub record WasNotCalled (keeper : KeeperSeen) : Type 0 where
@@ -346,6 +419,8 @@ most_taken Usage = INPUT_LIMIT
 most_taken NoCube = INPUT_LIMIT
 most_taken HasCube = INPUT_LIMIT
 most_taken (BadStore _) = INPUT_LIMIT
+most_taken (BadRecord _) = INPUT_LIMIT
+most_taken (ImportRows _) = INPUT_LIMIT
 most_taken (KeepFault _) = INPUT_LIMIT
 most_taken (Schema _ _) = INPUT_LIMIT
 most_taken (Finished _) = INPUT_LIMIT
@@ -373,6 +448,8 @@ IsDone (TooLong done) = ⊥
 IsDone NoCube = ⊥
 IsDone HasCube = ⊥
 IsDone (BadStore found) = ⊥
+IsDone (BadRecord bad) = ⊥
+IsDone (ImportRows would) = ⊥
 IsDone (KeepFault done) = ⊥
 
 -- Where the input of `try` is not too long and its schema is accepted, and no fault of the outside comes, the run is done to its
@@ -390,19 +467,30 @@ abbrev pub IsCompleteInit : Seen → KeeperSeen → End → Type 0
 IsCompleteInit seen keeper end = (ReadFailed seen.source → ⊥) → (WriteFailed seen.sink → ⊥) → (KeepFailed keeper → ⊥)
     → Holds keeper (λ content. content ≡ empty_content → IfSome seen.source.left (λ input. length input ≤ INPUT_LIMIT → IsOk (schema_alone input) → IsDone end))
 
--- The same of `run` where the store is sound and the input not too long,
-abbrev pub IsCompleteRun : Seen → KeeperSeen → End → Type 0
-IsCompleteRun seen keeper end = (ReadFailed seen.source → ⊥) → (WriteFailed seen.sink → ⊥) → (KeepFailed keeper → ⊥)
-    → Holds keeper (λ content. IsSoundContent content → IfSome seen.source.left (λ input. length input ≤ INPUT_LIMIT → IsDone end))
+-- the same, where a file may be refused
+abbrev pub IsImportDone : End → Type 0
+IsImportDone (BadRecord bad) = ⊤
+IsImportDone (ImportRows would) = ⊤
+IsImportDone end = IsDone end
 
--- and of `check` where the store is sound.
-abbrev pub IsCompleteCheck : Seen → KeeperSeen → End → Type 0
-IsCompleteCheck seen keeper end = (WriteFailed seen.sink → ⊥) → (KeepFailed keeper → ⊥) → Holds keeper (λ content. IsSoundContent content → IsDone end)
+-- and of a command that takes an input over a store
+abbrev pub IsTaskDone : InputTask → End → Type 0
+IsTaskDone Run end = IsDone end
+IsTaskDone Import end = IsImportDone end
+
+-- The same of `run` and `import` where the store is sound and the input not too long,
+abbrev pub IsCompleteTask : InputTask → Seen → KeeperSeen → End → Type 0
+IsCompleteTask task seen keeper end = (ReadFailed seen.source → ⊥) → (WriteFailed seen.sink → ⊥) → (KeepFailed keeper → ⊥)
+    → Holds keeper (λ content. IsSoundContent content → IfSome seen.source.left (λ input. length input ≤ INPUT_LIMIT → IsTaskDone task end))
+
+-- and of `check` and `export` where the store is sound.
+abbrev pub IsCompleteTelling : Seen → KeeperSeen → End → Type 0
+IsCompleteTelling seen keeper end = (WriteFailed seen.sink → ⊥) → (KeepFailed keeper → ⊥) → Holds keeper (λ content. IsSoundContent content → IsDone end)
 
 abbrev pub IsCompleteStore : StoreCommand → Seen → KeeperSeen → End → Type 0
 IsCompleteStore Init seen keeper end = IsCompleteInit seen keeper end
-IsCompleteStore Run seen keeper end = IsCompleteRun seen keeper end
-IsCompleteStore Check seen keeper end = IsCompleteCheck seen keeper end
+IsCompleteStore (Input task) seen keeper end = IsCompleteTask task seen keeper end
+IsCompleteStore (Tell telling) seen keeper end = IsCompleteTelling seen keeper end
 
 -- the same of the command, if one is named
 abbrev pub IsCompleteOf : Option Command → Seen → KeeperSeen → End → Type 0

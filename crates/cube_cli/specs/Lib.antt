@@ -2,6 +2,7 @@ pub mod Command
 pub mod End
 pub mod Examples
 pub mod Expectations
+pub mod Files
 pub mod Input
 pub mod RunEnd
 pub mod SchemaAlone

@@ -1,7 +1,7 @@
 -- The exit status of each end.
 use Rattle.std.specs.Prelude.{ℕ, zero, suc}
 use Rattle.cube_cli.specs.declared.end.End.{End}
-use Rattle.cube_cli.specs.declared.end.End.TheVariants.{Finished, Usage, Schema, NoCube, HasCube, BadStore, ReadFault, WriteFault, KeepFault, Memory, TooLong}
+use Rattle.cube_cli.specs.declared.end.End.TheVariants.{Finished, Usage, Schema, NoCube, HasCube, BadStore, ReadFault, WriteFault, KeepFault, Memory, TooLong, BadRecord, ImportRows}
 
 abbrev pub status_of : End → ℕ
 status_of (Finished zero) = 0
@@ -16,3 +16,5 @@ status_of (WriteFault _) = 7
 status_of (KeepFault _) = 8
 status_of (Memory _) = 9
 status_of (TooLong _) = 10
+status_of (BadRecord _) = 11
+status_of (ImportRows _) = 12

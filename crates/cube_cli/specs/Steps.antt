@@ -14,7 +14,7 @@ use Rattle.cube_cli.specs.End.{INIT_LINE}
 use Rattle.cube_cli.specs.SchemaAlone.{schema_alone}
 use Rattle.cube_cli.specs.Store.{IsSoundOver, IsUntouched, schema_batch}
 use Rattle.cube_cli.specs.declared.end.End.{End}
-use Rattle.cube_cli.specs.declared.end.End.TheVariants.{Finished, Usage, Schema, NoCube, HasCube, BadStore, ReadFault, WriteFault, KeepFault, Memory, TooLong}
+use Rattle.cube_cli.specs.declared.end.End.TheVariants.{Finished, Usage, Schema, NoCube, HasCube, BadStore, ReadFault, WriteFault, KeepFault, Memory, TooLong, BadRecord, ImportRows}
 
 -- the batch of a schema was committed, and of the reply this was written
 abbrev pub KeptAnd : SchemaValue → KeeperSeen → Type 0 → Type 0
@@ -34,6 +34,8 @@ EndsKeeping schema sink keeper HasCube = ⊥
 EndsKeeping schema sink keeper (BadStore _) = ⊥
 EndsKeeping schema sink keeper (ReadFault _) = ⊥
 EndsKeeping schema sink keeper (TooLong _) = ⊥
+EndsKeeping schema sink keeper (BadRecord _) = ⊥
+EndsKeeping schema sink keeper (ImportRows _) = ⊥
 
 -- A content in which there is something was loaded, and its text holds a schema alone.
 pub record HoldsSchema (schema : SchemaValue) (content : Stored) : Type 0 where
@@ -64,17 +66,21 @@ EndsAudit sink HasCube = ⊥
 EndsAudit sink (KeepFault _) = ⊥
 EndsAudit sink (ReadFault _) = ⊥
 EndsAudit sink (TooLong _) = ⊥
+EndsAudit sink (BadRecord _) = ⊥
+EndsAudit sink (ImportRows _) = ⊥
 
--- What each end says of a line that tells what a sound content has.
-abbrev pub TellsSound : List ℕ → SinkSeen → End → Type 0
-TellsSound line sink (Finished refused) = NoWriteFault sink × (refused ≡ 0) × Appends sink.taken sink.taken_after line
-TellsSound line sink (WriteFault done) = WriteFailed sink × (done ≡ 0) × TakesPart sink.taken sink.taken_after line
-TellsSound line sink (Memory done) = NoWriteFault sink × (done ≡ 0) × (WroteNothing sink ⊎ TakesPart sink.taken sink.taken_after line)
-TellsSound line sink Usage = ⊥
-TellsSound line sink (Schema _ _) = ⊥
-TellsSound line sink NoCube = ⊥
-TellsSound line sink HasCube = ⊥
-TellsSound line sink (BadStore _) = ⊥
-TellsSound line sink (KeepFault _) = ⊥
-TellsSound line sink (ReadFault _) = ⊥
-TellsSound line sink (TooLong _) = ⊥
+-- What each end says of a text that was to be written when so many batches were committed, and for which there was memory or not.
+abbrev pub TellsText : List ℕ → ℕ → SinkSeen → End → Type 0
+TellsText text done sink (Finished refused) = NoWriteFault sink × (refused ≡ 0) × Appends sink.taken sink.taken_after text
+TellsText text done sink (WriteFault count) = WriteFailed sink × (count ≡ done) × TakesPart sink.taken sink.taken_after text
+TellsText text done sink (Memory count) = NoWriteFault sink × (count ≡ done) × (WroteNothing sink ⊎ TakesPart sink.taken sink.taken_after text)
+TellsText text done sink Usage = ⊥
+TellsText text done sink (Schema _ _) = ⊥
+TellsText text done sink NoCube = ⊥
+TellsText text done sink HasCube = ⊥
+TellsText text done sink (BadStore _) = ⊥
+TellsText text done sink (KeepFault _) = ⊥
+TellsText text done sink (ReadFault _) = ⊥
+TellsText text done sink (TooLong _) = ⊥
+TellsText text done sink (BadRecord _) = ⊥
+TellsText text done sink (ImportRows _) = ⊥

@@ -9,7 +9,8 @@ ghost use Rattle.script_run.specs.Seen.{keeper_seen};
 use crate::End;
 use crate::drill::drill;
 use crate::init::init;
-use crate::store::{check, run};
+use crate::store::{InputTask, do_input};
+use crate::telling::{Telling, tell};
 use crate::trying::try_input;
 use cube_base::{Sink, Source};
 use drill_run::MAX_DRILL;
@@ -33,10 +34,10 @@ pub enum Command {
 pub enum StoreCommand {
     /// A schema is kept in a new store.
     Init,
-    /// A script, done on the cube of the store.
-    Run,
-    /// The store is audited.
-    Check,
+    /// Something is done with the input over the cube of the store.
+    Input(InputTask),
+    /// Something is told of the store.
+    Tell(Telling),
 }
 
 /// Runs the program: the words of the command line without the program's name, the input, where replies go, and where cubes are
@@ -50,11 +51,16 @@ pub enum StoreCommand {
 /// The words `drill` and a number from 1 to 100,000, which has one spelling, do the drill of the number, and write its line. No input
 /// is taken. Neither of these calls the keeper.
 ///
-/// The words `init`, `run` and `check` each take the name of a store, which is not empty, and load it first. `init` takes a schema
+/// The words `init`, `run`, `check`, `import` and `export` each take the name of a store, which is not empty, and load it first. `init` takes a schema
 /// alone, keeps its one canonical text as the batch of a store in which there was nothing, and answers `ok` and 0. `run` does the lines of the
 /// whole input on the cube of the store. Each edit that is accepted commits one batch before it is answered, and all replies before it are
 /// written by then: the store holds at each stop what the first `done` lines made of it. `check` takes no input and answers `sound` with
 /// the numbers of the facts and of their rows. A store with nothing in it has no cube, and one that is not sound is left as it is.
+///
+/// `import` takes a CSV file of facts over the schema of the store, of which the first record is the header, and puts all of them as one
+/// batch or none: where a record is refused, the first one's index, from 0 for the header, and its code are told. The reply is `imported`
+/// with the number of facts in the file and that of the facts that are new or lie otherwise than before. `export` takes no input and
+/// writes such a file of all facts, in order of their ids. It commits nothing.
 ///
 /// What is answered over the facts, after each number of lines, is the exact expectation over all possible worlds of these,
 /// in each of which every fact stands in one cell of its allocation; and where a node of a region has children, the answers
@@ -81,10 +87,12 @@ pub fn cube<S: Source, K: Sink, Q: Keeper>(
         Some(Command::Store(StoreCommand::Init)) => {
             init(alloc, second_of(words), source, out, keeper)
         }
-        Some(Command::Store(StoreCommand::Run)) => {
-            run(alloc, second_of(words), source, out, keeper)
+        Some(Command::Store(StoreCommand::Input(task))) => {
+            do_input(alloc, second_of(words), task, source, out, keeper)
         }
-        Some(Command::Store(StoreCommand::Check)) => check(alloc, second_of(words), out, keeper),
+        Some(Command::Store(StoreCommand::Tell(telling))) => {
+            tell(alloc, second_of(words), telling, out, keeper)
+        }
     }
 }
 
@@ -126,9 +134,13 @@ fn store_command(word: &[u8]) -> Option<StoreCommand>
     if is_text(word, "init") {
         Some(StoreCommand::Init)
     } else if is_text(word, "run") {
-        Some(StoreCommand::Run)
+        Some(StoreCommand::Input(InputTask::Run))
     } else if is_text(word, "check") {
-        Some(StoreCommand::Check)
+        Some(StoreCommand::Tell(Telling::Check))
+    } else if is_text(word, "import") {
+        Some(StoreCommand::Input(InputTask::Import))
+    } else if is_text(word, "export") {
+        Some(StoreCommand::Tell(Telling::Export))
     } else {
         None
     }

@@ -4,6 +4,7 @@ ghost use Rattle.cube_cli.specs.Status.{status_of};
 
 use cube_base::Code;
 use cube_core::Finding;
+use fact_sequence::BadRecord;
 use std::fmt;
 
 /// The last status of a run that was done to its end.
@@ -37,6 +38,10 @@ pub enum End {
     /// The input has more than 2^30 bytes. The replies to the `done` lines that were done are written. The whole input is
     /// read before a line is done, so `done` is 0.
     TooLong { done: u64 },
+    /// The file to be imported is refused: the first record that is, and why. Nothing of it is kept.
+    BadRecord(BadRecord),
+    /// No record of the file to be imported is refused, but with its facts there would be more than 2^21 rows: so many.
+    ImportRows { would: u64 },
 }
 
 impl End {
@@ -57,6 +62,8 @@ impl End {
             End::KeepFault { done: _ } => 8,
             End::Memory { done: _ } => 9,
             End::TooLong { done: _ } => 10,
+            End::BadRecord(_) => 11,
+            End::ImportRows { would: _ } => 12,
         }
     }
 
@@ -109,6 +116,11 @@ impl fmt::Display for End {
             End::KeepFault { done } => write!(f, "store fault after line {done}"),
             End::Memory { done } => write!(f, "out of memory after line {done}"),
             End::TooLong { done } => write!(f, "input too long after line {done}"),
+            End::BadRecord(BadRecord { index, code }) => {
+                let word = code.word();
+                write!(f, "record {index}: {word}")
+            }
+            End::ImportRows { would } => write!(f, "import would make {would} rows"),
         }
     }
 }

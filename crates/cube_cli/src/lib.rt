@@ -4,6 +4,7 @@
 mod command;
 mod drill;
 mod end;
+mod importing;
 mod init;
 mod input;
 mod laws;
@@ -11,6 +12,7 @@ mod run_end;
 mod saying;
 mod schema_alone;
 mod store;
+mod telling;
 mod trying;
 
 pub use command::{Command, StoreCommand, cube};
@@ -18,3 +20,5 @@ pub use end::{End, ErrorLine};
 pub use input::{InputStop, take_input};
 pub use laws::{worked_examples, worked_listing, worked_measures, worked_questions};
 pub use schema_alone::read_schema_alone;
+pub use store::InputTask;
+pub use telling::Telling;

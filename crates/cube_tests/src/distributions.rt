@@ -1,6 +1,5 @@
 //! Facts with distributions.
-use crate::runs::{Case, Ending, expect_each};
-use std::test::Fail;
+use crate::runs::{Case, Ending, hold};
 
 /// Places with a distribution over two outcomes.
 const QUALITY: &str =
@@ -27,6 +26,6 @@ const CASES: [Case; 2] = [
 ];
 
 #[test]
-fn parts_of_outcomes(rt: HostRuntime) -> Result<(), Fail> {
-    expect_each(&rt, &CASES)
+fn parts_of_outcomes(rt: HostRuntime) {
+    assert!(rt; hold(rt.alloc(), &CASES));
 }

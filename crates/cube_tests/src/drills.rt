@@ -1,7 +1,6 @@
 //! Drills.
 use crate::runs::{Ending, Outside, REPAIRS, Ran, WHOLE, run};
 use std::alloc::{AllocError, Global};
-use std::test::Fail;
 
 /// The number of a drill, and its line.
 type Drill = (&'static str, &'static str);
@@ -35,13 +34,13 @@ fn writes_line(alloc: Global, row: &Drill) -> Result<bool, AllocError> {
     Ok(ran.is(Ending::Finished { refused: 0 }, line) && unread)
 }
 
+fn are_written(alloc: Global, rows: &[Drill]) -> bool {
+    rows.iter().all(|row| writes_line(alloc, row) == Ok(true))
+}
+
 #[test]
-fn lines_of_drills(rt: HostRuntime) -> Result<(), Fail> {
-    for row in &DRILLS {
-        let written = writes_line(rt.alloc(), row)?;
-        assert!(rt; written);
-    }
-    Ok(())
+fn lines_of_drills(rt: HostRuntime) {
+    assert!(rt; are_written(rt.alloc(), &DRILLS));
 }
 
 /// The write of five bytes that fails, and what is taken before it.
@@ -65,11 +64,11 @@ fn breaks_at(alloc: Global, row: &(u64, &str)) -> Result<bool, AllocError> {
     Ok(ran.is(Ending::WriteFault { done: 0 }, front) && unread)
 }
 
+fn are_broken(alloc: Global, rows: &[(u64, &str)]) -> bool {
+    rows.iter().all(|row| breaks_at(alloc, row) == Ok(true))
+}
+
 #[test]
-fn failing_writes_of_a_drill(rt: HostRuntime) -> Result<(), Fail> {
-    for row in &WRITES {
-        let broken = breaks_at(rt.alloc(), row)?;
-        assert!(rt; broken);
-    }
-    Ok(())
+fn failing_writes_of_a_drill(rt: HostRuntime) {
+    assert!(rt; are_broken(rt.alloc(), &WRITES));
 }

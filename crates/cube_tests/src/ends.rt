@@ -1,18 +1,19 @@
 //! Command lines, and what is told of each end.
-use crate::runs::{ALL, Ending, REPAIRS, WHOLE, run};
-use cube_base::{Bytes, Code, Ids, MemSource};
+use crate::runs::{ALL, Ending, REPAIRS, WHOLE, run, source_of};
+use cube_base::Code;
 use cube_cli::{End, InputStop, take_input};
 use cube_core::Finding;
+use fact_sequence::BadRecord;
 use std::alloc::{AllocError, Global};
-use std::test::Fail;
 
 /// Words of no command.
-const NO_COMMANDS: [&[&str]; 18] = [
+const NO_COMMANDS: [&[&str]; 19] = [
     &["run"],
     &["init"],
     &["init", "s", "t"],
     &["check", ""],
-    &["export", "s"],
+    &["export", ""],
+    &["import"],
     &["help"],
     &["drill", "0"],
     &["drill", "01"],
@@ -34,17 +35,17 @@ fn is_usage(alloc: Global, words: &[&str]) -> Result<bool, AllocError> {
     Ok(ran.is(Ending::Usage, "") && ran.left == REPAIRS.len())
 }
 
+fn are_usage(alloc: Global, rows: &[&[&str]]) -> bool {
+    rows.iter().all(|row| is_usage(alloc, row) == Ok(true))
+}
+
 #[test]
-fn words_of_no_command(rt: HostRuntime) -> Result<(), Fail> {
-    for words in &NO_COMMANDS {
-        let refused = is_usage(rt.alloc(), words)?;
-        assert!(rt; refused);
-    }
-    Ok(())
+fn words_of_no_command(rt: HostRuntime) {
+    assert!(rt; are_usage(rt.alloc(), &NO_COMMANDS));
 }
 
 /// Each end, its status, and the line on standard error; no line is written where it is empty.
-const ENDS: [(Ending, u8, &str); 12] = [
+const ENDS: [(Ending, u8, &str); 14] = [
     (Ending::Finished { refused: 0 }, 0, ""),
     (Ending::Finished { refused: 2 }, 1, ""),
     (
@@ -88,6 +89,19 @@ const ENDS: [(Ending, u8, &str); 12] = [
         10,
         "cube: input too long after line 2",
     ),
+    (
+        Ending::BadRecord {
+            index: 3,
+            code: Code::Node,
+        },
+        11,
+        "cube: record 3: node",
+    ),
+    (
+        Ending::ImportRows { would: 3_145_728 },
+        12,
+        "cube: import would make 3145728 rows",
+    ),
 ];
 
 /// The end that ends so.
@@ -104,6 +118,8 @@ fn end_of(ending: Ending) -> End {
         Ending::KeepFault { done } => End::KeepFault { done },
         Ending::Memory { done } => End::Memory { done },
         Ending::TooLong { done } => End::TooLong { done },
+        Ending::BadRecord { index, code } => End::BadRecord(BadRecord { index, code }),
+        Ending::ImportRows { would } => End::ImportRows { would },
     }
 }
 
@@ -118,13 +134,13 @@ fn is_told(alloc: Global, row: &(Ending, u8, &str)) -> Result<bool, AllocError> 
     Ok(told == status && said.as_str() == text)
 }
 
+fn are_told(alloc: Global, rows: &[(Ending, u8, &str)]) -> bool {
+    rows.iter().all(|row| is_told(alloc, row) == Ok(true))
+}
+
 #[test]
-fn statuses_and_lines_of_ends(rt: HostRuntime) -> Result<(), Fail> {
-    for row in &ENDS {
-        let told = is_told(rt.alloc(), row)?;
-        assert!(rt; told);
-    }
-    Ok(())
+fn statuses_and_lines_of_ends(rt: HostRuntime) {
+    assert!(rt; are_told(rt.alloc(), &ENDS));
 }
 
 /// An input, the most bytes that it may have, how many bytes a read gives, the read that fails, and what is taken of it.
@@ -145,9 +161,7 @@ const TAKES: [Take; 8] = [
 /// Whether so much is taken of an input.
 fn takes(alloc: Global, row: &Take) -> Result<bool, AllocError> {
     let (input, limit, step, fails, taken) = *row;
-    let bytes = Bytes::from(Vec::from_slice(alloc, input.as_bytes())?);
-    let fails = Ids::from(Vec::from_slice(alloc, &[fails])?);
-    let mut source = MemSource::new(alloc, bytes, step.max(1), fails);
+    let mut source = source_of(alloc, input.as_bytes(), step, fails)?;
     let result = take_input(alloc, &mut source, limit.min(ALL));
     Ok(match (result, taken) {
         (Ok(bytes), Ok(len)) => bytes.len() == len,
@@ -156,11 +170,11 @@ fn takes(alloc: Global, row: &Take) -> Result<bool, AllocError> {
     })
 }
 
+fn are_taken(alloc: Global, rows: &[Take]) -> bool {
+    rows.iter().all(|row| takes(alloc, row) == Ok(true))
+}
+
 #[test]
-fn inputs_up_to_a_limit(rt: HostRuntime) -> Result<(), Fail> {
-    for row in &TAKES {
-        let taken = takes(rt.alloc(), row)?;
-        assert!(rt; taken);
-    }
-    Ok(())
+fn inputs_up_to_a_limit(rt: HostRuntime) {
+    assert!(rt; are_taken(rt.alloc(), &TAKES));
 }

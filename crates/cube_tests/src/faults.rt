@@ -1,7 +1,6 @@
 //! Faults of the outside.
 use crate::runs::{ALL, Ending, Outside, REPAIRS, WHOLE, joined, run};
 use std::alloc::{AllocError, Global};
-use std::test::Fail;
 
 /// Lines of every kind.
 const SCRIPT: &str =
@@ -38,13 +37,13 @@ fn fails_at_each(alloc: Global, row: &(usize, u64)) -> Result<bool, AllocError> 
     Ok(ran.is(Ending::Finished { refused: 2 }, REPLIES))
 }
 
+fn fail_at_each(alloc: Global, rows: &[(usize, u64)]) -> bool {
+    rows.iter().all(|row| fails_at_each(alloc, row) == Ok(true))
+}
+
 #[test]
-fn failing_reads(rt: HostRuntime) -> Result<(), Fail> {
-    for row in &READS {
-        let failed = fails_at_each(rt.alloc(), row)?;
-        assert!(rt; failed);
-    }
-    Ok(())
+fn failing_reads(rt: HostRuntime) {
+    assert!(rt; fail_at_each(rt.alloc(), &READS));
 }
 
 /// The write of five bytes that fails, how many bytes were taken before it, and the line whose reply is not whole.
@@ -96,11 +95,11 @@ fn breaks_at(alloc: Global, row: &(u64, usize, u64)) -> Result<bool, AllocError>
     Ok(ran.is(Ending::WriteFault { done }, front))
 }
 
+fn are_broken(alloc: Global, rows: &[(u64, usize, u64)]) -> bool {
+    rows.iter().all(|row| breaks_at(alloc, row) == Ok(true))
+}
+
 #[test]
-fn failing_writes(rt: HostRuntime) -> Result<(), Fail> {
-    for row in &WRITES {
-        let broken = breaks_at(rt.alloc(), row)?;
-        assert!(rt; broken);
-    }
-    Ok(())
+fn failing_writes(rt: HostRuntime) {
+    assert!(rt; are_broken(rt.alloc(), &WRITES));
 }

@@ -1,8 +1,7 @@
 //! Counts, sums and means as fractions, and as bounds where they are too wide for one.
-use crate::runs::{Case, Ending, REPAIRS, WHOLE, expect_each, run};
+use crate::runs::{Case, Ending, REPAIRS, WHOLE, hold, run};
 use std::alloc::{AllocError, Global};
 use std::fmt::Write;
-use std::test::Fail;
 
 /// Four models in two cities, where a cell weighs as much as its facts say.
 const SHARES: &str =
@@ -46,8 +45,8 @@ const CASES: [Case; 5] = [
 ];
 
 #[test]
-fn counts_sums_and_means(rt: HostRuntime) -> Result<(), Fail> {
-    expect_each(&rt, &CASES)
+fn counts_sums_and_means(rt: HostRuntime) {
+    assert!(rt; hold(rt.alloc(), &CASES));
 }
 
 /// How many models there are.
@@ -114,8 +113,6 @@ fn counts_shares(alloc: Global) -> Result<bool, AllocError> {
 }
 
 #[test]
-fn shares_of_many_denominators(rt: HostRuntime) -> Result<(), Fail> {
-    let held = counts_shares(rt.alloc())?;
-    assert!(rt; held);
-    Ok(())
+fn shares_of_many_denominators(rt: HostRuntime) {
+    assert!(rt; counts_shares(rt.alloc()) == Ok(true));
 }

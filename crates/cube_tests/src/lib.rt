@@ -8,9 +8,9 @@ mod drills;
 #[cfg(test)]
 mod ends;
 #[cfg(test)]
-mod faults;
+mod fact_files;
 #[cfg(test)]
-mod files;
+mod faults;
 #[cfg(test)]
 mod fractions;
 #[cfg(test)]

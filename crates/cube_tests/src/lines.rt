@@ -1,9 +1,7 @@
 //! Lines that are refused before they are done.
-use crate::runs::{Case, Ending, REPAIRS, WHOLE, expect_each, run};
+use crate::runs::{Case, Ending, REPAIRS, WHOLE, hold, run};
 use cube_base::Code;
 use std::alloc::{AllocError, Global};
-use std::process::Abort;
-use std::test::Fail;
 
 /// The most bytes of a line.
 const MAX_LINE: usize = 4096;
@@ -288,26 +286,23 @@ fn is_refused(alloc: Global, line: &[u8], code: Code) -> Result<bool, AllocError
     Ok(ran.is(Ending::Finished { refused: 1 }, &reply))
 }
 
-/// Each line is refused for its code.
-fn expect_refused(rt: &(impl Abort + AllocGlobal), lines: &[(&[u8], Code)]) -> Result<(), Fail> {
-    for (line, code) in lines {
-        let refused = is_refused(rt.alloc(), line, *code)?;
-        assert!(rt; refused);
-    }
-    Ok(())
+/// Whether each line is refused for its code.
+fn are_refused(alloc: Global, lines: &[(&[u8], Code)]) -> bool {
+    lines
+        .iter()
+        .all(|(line, code)| is_refused(alloc, line, *code) == Ok(true))
 }
 
 #[test]
-fn refused_lines(rt: HostRuntime) -> Result<(), Fail> {
-    expect_refused(&rt, &REFUSED)
+fn refused_lines(rt: HostRuntime) {
+    assert!(rt; are_refused(rt.alloc(), &REFUSED));
 }
 
 #[test]
-fn refused_questions(rt: HostRuntime) -> Result<(), Fail> {
-    expect_refused(&rt, &REFUSED_QUESTIONS)
+fn refused_questions(rt: HostRuntime) {
+    assert!(rt; are_refused(rt.alloc(), &REFUSED_QUESTIONS));
 }
 
-/// A line whose middle is one byte many times: what stands before it, the byte, what stands behind it, and why the line
 /// is refused where it has as many bytes as a line may have.
 type Filled = (&'static [u8], u8, &'static [u8], Code);
 
@@ -367,13 +362,14 @@ fn is_refused_filled(alloc: Global, row: &Filled) -> Result<bool, AllocError> {
     Ok(is_refused(alloc, &longest, code)? && is_refused(alloc, &longer, Code::Long)?)
 }
 
+fn are_refused_filled(alloc: Global, rows: &[Filled]) -> bool {
+    rows.iter()
+        .all(|row| is_refused_filled(alloc, row) == Ok(true))
+}
+
 #[test]
-fn longest_lines(rt: HostRuntime) -> Result<(), Fail> {
-    for row in &FILLED {
-        let refused = is_refused_filled(rt.alloc(), row)?;
-        assert!(rt; refused);
-    }
-    Ok(())
+fn longest_lines(rt: HostRuntime) {
+    assert!(rt; are_refused_filled(rt.alloc(), &FILLED));
 }
 
 /// Lines that are taken as they stand.
@@ -385,6 +381,6 @@ const TAKEN: [Case; 1] = [(
 )];
 
 #[test]
-fn taken_lines(rt: HostRuntime) -> Result<(), Fail> {
-    expect_each(&rt, &TAKEN)
+fn taken_lines(rt: HostRuntime) {
+    assert!(rt; hold(rt.alloc(), &TAKEN));
 }

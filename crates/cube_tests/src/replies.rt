@@ -1,7 +1,6 @@
 //! Scripts and their replies.
-use crate::runs::{ALL, Case, Ending, Outside, REPAIRS, expect_each, joined, run};
+use crate::runs::{ALL, Case, Ending, Outside, REPAIRS, hold, joined, run};
 use std::alloc::{AllocError, Global};
-use std::test::Fail;
 
 /// The same schema under the policy that weighs each cell alike.
 const EVENLY: &str =
@@ -23,7 +22,7 @@ const NUMBERED: &str =
 const ROOT: &str = "cube\t1\npolicy\tuniform\ndimension\tPlace\nnode\t0\tAll\nend\n";
 
 /// Three repairs in cities, and one in some city of Texas.
-const FOUR_REPAIRS: &str =
+pub const FOUR_REPAIRS: &str =
     "insert\t1\tAustin\tCamry\t100\ninsert\t2\tAustin\tCamry\t300\ninsert\t3\tDallas\tCamry\t50\ninsert\t4\tTX\tCamry\t600\n";
 
 /// Each is new, and no other fact lies otherwise for it.
@@ -145,8 +144,8 @@ const CASES: [Case; 17] = [
 ];
 
 #[test]
-fn scripts_and_replies(rt: HostRuntime) -> Result<(), Fail> {
-    expect_each(&rt, &CASES)
+fn scripts_and_replies(rt: HostRuntime) {
+    assert!(rt; hold(rt.alloc(), &CASES));
 }
 
 /// What is written of the four repairs and the rows of the fourth.
@@ -190,13 +189,13 @@ fn ends_alike(alloc: Global, row: &(&str, &str, usize)) -> Result<bool, AllocErr
     Ok(ran.is(Ending::Finished { refused: 0 }, ROWS) && ran.left == 0)
 }
 
+fn end_alike(alloc: Global, rows: &[(&str, &str, usize)]) -> bool {
+    rows.iter().all(|row| ends_alike(alloc, row) == Ok(true))
+}
+
 #[test]
-fn line_ends_and_skipped_lines(rt: HostRuntime) -> Result<(), Fail> {
-    for row in &LINE_ENDS {
-        let alike = ends_alike(rt.alloc(), row)?;
-        assert!(rt; alike);
-    }
-    Ok(())
+fn line_ends_and_skipped_lines(rt: HostRuntime) {
+    assert!(rt; end_alike(rt.alloc(), &LINE_ENDS));
 }
 
 /// Whether more replies than one write gathers are written, in order.
@@ -218,8 +217,6 @@ fn gathers_many(alloc: Global) -> Result<bool, AllocError> {
 }
 
 #[test]
-fn more_replies_than_one_write_gathers(rt: HostRuntime) -> Result<(), Fail> {
-    let gathered = gathers_many(rt.alloc())?;
-    assert!(rt; gathered);
-    Ok(())
+fn more_replies_than_one_write_gathers(rt: HostRuntime) {
+    assert!(rt; gathers_many(rt.alloc()) == Ok(true));
 }

@@ -1,10 +1,8 @@
 //! Runs over a source and a sink in memory.
 use cube_base::{Bytes, Code, Ids, MemSink, MemSource};
 use cube_cli::{End, cube};
-use fact_keeper::{Keeper, NoKeeper};
+use fact_keeper::{MemKeeper, Stored};
 use std::alloc::{AllocError, Global};
-use std::process::Abort;
-use std::test::Fail;
 
 /// Places and autos with the number measure Repair, the policy of counts, and a view of states by kinds of autos.
 pub const REPAIRS: &str =
@@ -31,7 +29,7 @@ pub const WHOLE: Outside = Outside {
 };
 
 /// How a run may end, without what is found in a store that is not sound.
-#[derive(Clone, Copy, Debug, PartialEq, Eq)]
+#[derive(Clone, Copy, PartialEq, Eq)]
 pub enum Ending {
     Finished { refused: u64 },
     Usage,
@@ -44,6 +42,8 @@ pub enum Ending {
     KeepFault { done: u64 },
     Memory { done: u64 },
     TooLong { done: u64 },
+    BadRecord { index: u64, code: Code },
+    ImportRows { would: u64 },
 }
 
 /// How a run ends that ends so.
@@ -63,76 +63,92 @@ pub fn ending_of(end: &End) -> Ending {
         End::KeepFault { done } => Ending::KeepFault { done: *done },
         End::Memory { done } => Ending::Memory { done: *done },
         End::TooLong { done } => Ending::TooLong { done: *done },
+        End::BadRecord(bad) => Ending::BadRecord {
+            index: bad.index,
+            code: bad.code,
+        },
+        End::ImportRows { would } => Ending::ImportRows { would: *would },
     }
 }
 
-/// How a run ended, what it wrote, and how many bytes of the input it left, to be compared.
+/// How a run ended, what it wrote, and how many bytes of the input it left.
+pub type Outcome = (End, MemSink, usize);
+
+/// The same, to be compared.
 #[derive(Drop)]
 pub struct Ran {
     pub end: Ending,
-    pub written: Vec<u8>,
+    pub sink: MemSink,
     pub left: usize,
 }
 
 impl Ran {
     /// Whether it ended so and wrote this.
     pub fn is(&self, end: Ending, written: &str) -> bool {
-        self.end == end && self.written.as_slice() == written.as_bytes()
+        self.end == end && self.sink.bytes() == written.as_bytes()
     }
 }
 
-/// How a run ended, what it wrote, and how many bytes of the input it left.
-pub type Outcome = (End, Vec<u8>, usize);
+fn words_of(alloc: Global, words: &[&str]) -> Result<Vec<String>, AllocError> {
+    words
+        .iter()
+        .map(|word| String::from_str(alloc, word))
+        .try_collect(alloc)
+}
+
+/// A source of an input.
+pub fn source_of(
+    alloc: Global,
+    input: &[u8],
+    step: usize,
+    fails: u64,
+) -> Result<MemSource, AllocError> {
+    let fails = Ids::from(Vec::from_slice(alloc, &[fails])?);
+    let bytes = Bytes::from(Vec::from_slice(alloc, input)?);
+    Ok(MemSource::new(alloc, bytes, step.max(1), fails))
+}
 
 /// Runs the words over an input and a keeper.
-pub fn run_over<Q: Keeper>(
+pub fn run_over(
     alloc: Global,
     words: &[&str],
     input: &[u8],
     outside: &Outside,
-    keeper: &mut Q,
+    keeper: &mut MemKeeper,
 ) -> Result<Outcome, AllocError> {
-    let words: Vec<String> = words
-        .iter()
-        .map(|word| String::from_str(alloc, word))
-        .try_collect(alloc)?;
-    let bytes = Bytes::from(Vec::from_slice(alloc, input)?);
-    let read_fails = Ids::from(Vec::from_slice(alloc, &[outside.read_fails])?);
+    let words = words_of(alloc, words)?;
     let write_fails = Ids::from(Vec::from_slice(alloc, &[outside.write_fails])?);
-    let mut source = MemSource::new(alloc, bytes, outside.read_step.max(1), read_fails);
+    let mut source = source_of(alloc, input, outside.read_step, outside.read_fails)?;
     let mut sink = MemSink::new(alloc, outside.write_step.max(1), write_fails);
     let end = cube(alloc, &words, &mut source, &mut sink, keeper);
-    Ok((
-        end,
-        Vec::from_slice(alloc, sink.bytes())?,
-        source.left().len(),
-    ))
+    Ok((end, sink, source.left().len()))
 }
 
 /// The same of what may be compared.
-pub fn run_kept<Q: Keeper>(
+pub fn run_kept(
     alloc: Global,
     words: &[&str],
     input: &[u8],
     outside: &Outside,
-    keeper: &mut Q,
+    keeper: &mut MemKeeper,
 ) -> Result<Ran, AllocError> {
-    let (end, written, left) = run_over(alloc, words, input, outside, keeper)?;
+    let (end, sink, left) = run_over(alloc, words, input, outside, keeper)?;
     Ok(Ran {
         end: ending_of(&end),
-        written,
+        sink,
         left,
     })
 }
 
-/// Runs the words over an input, where nothing is kept.
+/// Runs the words over an input, where nothing was kept before.
 pub fn run(
     alloc: Global,
     words: &[&str],
     input: &[u8],
     outside: &Outside,
 ) -> Result<Ran, AllocError> {
-    run_kept(alloc, words, input, outside, &mut NoKeeper::new())
+    let mut keeper = MemKeeper::new(alloc, Stored::empty(alloc), Ids::new(alloc));
+    run_kept(alloc, words, input, outside, &mut keeper)
 }
 
 /// Two texts, one behind the other.
@@ -153,11 +169,7 @@ pub fn holds(alloc: Global, case: &Case) -> Result<bool, AllocError> {
     Ok(ran.is(end, replies) && ran.left == 0)
 }
 
-/// Each case is as it says.
-pub fn expect_each(rt: &(impl Abort + AllocGlobal), cases: &[Case]) -> Result<(), Fail> {
-    for case in cases {
-        let held = holds(rt.alloc(), case)?;
-        assert!(rt; held);
-    }
-    Ok(())
+/// Whether each case is as it says.
+pub fn hold(alloc: Global, cases: &[Case]) -> bool {
+    cases.iter().all(|case| holds(alloc, case) == Ok(true))
 }

@@ -1,8 +1,7 @@
 //! Inputs whose schema is refused, and some that are just accepted.
-use crate::runs::{Case, Ending, REPAIRS, WHOLE, expect_each, run};
+use crate::runs::{Case, Ending, REPAIRS, WHOLE, hold, run};
 use cube_base::Code;
 use std::alloc::{AllocError, Global};
-use std::test::Fail;
 
 /// A line of the schema of repairs, counted from 1, what stands in its place, the line that is then at fault, and why.
 type Altered = (u64, &'static [u8], u64, Code);
@@ -72,13 +71,13 @@ fn is_refused(alloc: Global, row: &Altered) -> Result<bool, AllocError> {
     Ok(ran.is(Ending::Schema { line: fault, code }, ""))
 }
 
+fn are_refused(alloc: Global, rows: &[Altered]) -> bool {
+    rows.iter().all(|row| is_refused(alloc, row) == Ok(true))
+}
+
 #[test]
-fn altered_schemas(rt: HostRuntime) -> Result<(), Fail> {
-    for row in &ALTERED {
-        let refused = is_refused(rt.alloc(), row)?;
-        assert!(rt; refused);
-    }
-    Ok(())
+fn altered_schemas(rt: HostRuntime) {
+    assert!(rt; are_refused(rt.alloc(), &ALTERED));
 }
 
 /// Whole inputs, and how they end.
@@ -307,13 +306,13 @@ fn ends_so(alloc: Global, row: &(&str, Ending)) -> Result<bool, AllocError> {
     Ok(ran.is(end, ""))
 }
 
+fn end_so(alloc: Global, rows: &[(&str, Ending)]) -> bool {
+    rows.iter().all(|row| ends_so(alloc, row) == Ok(true))
+}
+
 #[test]
-fn whole_schemas(rt: HostRuntime) -> Result<(), Fail> {
-    for row in &WHOLES {
-        let ended = ends_so(rt.alloc(), row)?;
-        assert!(rt; ended);
-    }
-    Ok(())
+fn whole_schemas(rt: HostRuntime) {
+    assert!(rt; end_so(rt.alloc(), &WHOLES));
 }
 
 /// How many bytes the name of a measure has, what stands behind it, and how a schema ends that ends with its line.
@@ -374,13 +373,13 @@ fn is_named(alloc: Global, row: &Named) -> Result<bool, AllocError> {
     ends_so(alloc, &(&input, end))
 }
 
+fn are_named(alloc: Global, rows: &[Named]) -> bool {
+    rows.iter().all(|row| is_named(alloc, row) == Ok(true))
+}
+
 #[test]
-fn long_names(rt: HostRuntime) -> Result<(), Fail> {
-    for row in &NAMED {
-        let named = is_named(rt.alloc(), row)?;
-        assert!(rt; named);
-    }
-    Ok(())
+fn long_names(rt: HostRuntime) {
+    assert!(rt; are_named(rt.alloc(), &NAMED));
 }
 
 /// Whether the first lines of a schema are refused for the line that is missing.
@@ -397,13 +396,14 @@ fn is_cut(alloc: Global, lines: usize) -> Result<bool, AllocError> {
     ends_so(alloc, &(&input, end))
 }
 
+/// Whether so are all parts of it that end with a line.
+fn are_cut(alloc: Global) -> bool {
+    (0..22usize).all(|lines| is_cut(alloc, lines) == Ok(true))
+}
+
 #[test]
-fn inputs_that_end_within_their_schema(rt: HostRuntime) -> Result<(), Fail> {
-    for lines in 0..22usize {
-        let cut = is_cut(rt.alloc(), lines)?;
-        assert!(rt; cut);
-    }
-    Ok(())
+fn inputs_that_end_within_their_schema(rt: HostRuntime) {
+    assert!(rt; are_cut(rt.alloc()));
 }
 
 /// Places whose nodes have numbers of their own.
@@ -421,6 +421,6 @@ const CASES: [Case; 1] = [
 ];
 
 #[test]
-fn nodes_with_numbers(rt: HostRuntime) -> Result<(), Fail> {
-    expect_each(&rt, &CASES)
+fn nodes_with_numbers(rt: HostRuntime) {
+    assert!(rt; hold(rt.alloc(), &CASES));
 }

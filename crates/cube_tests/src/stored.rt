@@ -1,11 +1,10 @@
 //! Contents of stores, written out as tables.
-use cube_base::{Bytes, Ids};
+use cube_base::{Bytes, Ids, Memory};
 use fact_keeper::{
     ColNums, KeptFact, KeptFacts, KeptRows, KeptRowsList, MemKeeper, NodeNums, Stored,
 };
 use shared_list::SharedPairs;
 use std::alloc::Global;
-use std::test::Fail;
 
 /// Two cities of a state, with the number measure Hours, under the policy of counts. The nodes are All 0, TX 1, Austin 2 and Dallas 3;
 /// the cells Austin 0 and Dallas 1.
@@ -34,28 +33,56 @@ pub const SPREADS: [SpreadRow; 4] = [
     (4, 3, &[(0, 2), (1, 1)]),
 ];
 
+/// What is kept of three repairs in a city and one in some city of Texas, over the schema of repairs.
+pub const REPAIR_FACTS: [FactRow; 4] = [
+    (1, &[2, 2], &[100]),
+    (2, &[2, 2], &[300]),
+    (3, &[3, 2], &[50]),
+    (4, &[1, 2], &[600]),
+];
+
+/// How they are spread. Behind the cities, the code of a cell is four times the place of the city, and that of the model.
+pub const REPAIR_SPREADS: [SpreadRow; 4] = [
+    (1, 1, &[(0, 1)]),
+    (2, 1, &[(0, 1)]),
+    (3, 1, &[(4, 1)]),
+    (4, 3, &[(0, 2), (4, 1)]),
+];
+
+/// The kept fact of a row.
+fn fact_of(alloc: Global, row: &FactRow) -> Result<KeptFact, Memory> {
+    let (id, nodes, cols) = *row;
+    Ok(KeptFact {
+        id,
+        nodes: NodeNums::from(Vec::from_slice(alloc, nodes)?),
+        cols: ColNums::from(Vec::from_slice(alloc, cols)?),
+    })
+}
+
 /// The kept facts of a table.
-fn facts_of(alloc: Global, table: &[FactRow]) -> Result<KeptFacts, Fail> {
+fn facts_of(alloc: Global, table: &[FactRow]) -> Result<KeptFacts, Memory> {
     let mut facts = KeptFacts::new(alloc);
-    for (id, nodes, cols) in table {
-        facts.push(KeptFact {
-            id: *id,
-            nodes: NodeNums::from(Vec::from_slice(alloc, nodes)?),
-            cols: ColNums::from(Vec::from_slice(alloc, cols)?),
-        })?;
+    for row in table {
+        facts.push(fact_of(alloc, row)?)?;
     }
     Ok(facts)
 }
 
+/// The kept rows of a row.
+fn spread_of(alloc: Global, row: &SpreadRow) -> Result<KeptRows, Memory> {
+    let (id, den, rows) = *row;
+    Ok(KeptRows {
+        id,
+        den,
+        rows: SharedPairs::from_vec(alloc, Vec::from_slice(alloc, rows)?)?,
+    })
+}
+
 /// The kept rows of a table.
-fn rows_of(alloc: Global, table: &[SpreadRow]) -> Result<KeptRowsList, Fail> {
+fn rows_of(alloc: Global, table: &[SpreadRow]) -> Result<KeptRowsList, Memory> {
     let mut list = KeptRowsList::new(alloc);
-    for (id, den, rows) in table {
-        list.push(KeptRows {
-            id: *id,
-            den: *den,
-            rows: SharedPairs::from_vec(alloc, Vec::from_slice(alloc, rows)?)?,
-        })?;
+    for row in table {
+        list.push(spread_of(alloc, row)?)?;
     }
     Ok(list)
 }
@@ -67,7 +94,7 @@ pub fn keeper_of(
     facts: &[FactRow],
     spreads: &[SpreadRow],
     fails: &[u64],
-) -> Result<MemKeeper, Fail> {
+) -> Result<MemKeeper, Memory> {
     let content = Stored {
         schema: Bytes::from(Vec::from_slice(alloc, schema.as_bytes())?),
         facts: facts_of(alloc, facts)?,
@@ -75,4 +102,28 @@ pub fn keeper_of(
     };
     let fails = Ids::from(Vec::from_slice(alloc, fails)?);
     Ok(MemKeeper::new(alloc, content, fails))
+}
+
+/// Whether a fact is that of a row.
+fn is_fact(fact: &KeptFact, row: &FactRow) -> bool {
+    let (id, nodes, cols) = *row;
+    fact.id == id && fact.nodes.as_slice() == nodes && fact.cols.as_slice() == cols
+}
+
+/// Whether kept rows are those of a row.
+pub fn is_spread(kept: &KeptRows, row: &SpreadRow) -> bool {
+    let (id, den, rows) = *row;
+    kept.id == id && kept.den == den && kept.rows.as_slice() == rows
+}
+
+/// Whether a content has just these facts, spread so.
+pub fn holds_just(content: &Stored, facts: &[FactRow], spreads: &[SpreadRow]) -> bool {
+    let (kept, rows) = (content.facts.as_slice(), content.rows.as_slice());
+    kept.len() == facts.len()
+        && rows.len() == spreads.len()
+        && kept.iter().zip(facts).all(|(fact, row)| is_fact(fact, row))
+        && rows
+            .iter()
+            .zip(spreads)
+            .all(|(kept, row)| is_spread(kept, row))
 }

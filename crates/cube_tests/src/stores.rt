@@ -1,13 +1,16 @@
 //! Stores that are made, worked on and audited.
 use crate::limits::large_schema;
-use crate::runs::{Ending, WHOLE, joined, run, run_kept, run_over};
-use crate::stored::{CITIES, FACTS, FactRow, SPREADS, SpreadRow, keeper_of};
-use cube_base::Code;
+use crate::replies::FOUR_REPAIRS;
+use crate::runs::{Ending, REPAIRS, WHOLE, joined, run, run_kept, run_over};
+use crate::stored::{
+    CITIES, FACTS, FactRow, REPAIR_FACTS, REPAIR_SPREADS, SPREADS, SpreadRow, holds_just,
+    is_spread, keeper_of,
+};
+use cube_base::{Code, Memory};
 use cube_cli::End;
 use cube_core::Finding;
-use fact_keeper::{Batch, MemKeeper};
+use fact_keeper::{Batch, KeptRows, MemKeeper};
 use std::alloc::Global;
-use std::test::Fail;
 
 /// The schema as it is written by hand: a comment first, lines that end with CR LF, and behind its end what is passed over.
 const BY_HAND: &str =
@@ -24,32 +27,43 @@ fn keeps_schema(batch: &Batch, text: &str) -> bool {
         && batch.rows.as_slice().is_empty()
 }
 
-/// Whether the text of the schema as it is written is kept by one batch, and answered.
-fn is_made(alloc: Global) -> Result<bool, Fail> {
+/// The schema of repairs without its view, written by hand, and as it is kept.
+const REPAIRS_BY_HAND: &str =
+    "# repairs\r\ncube\t1\r\npolicy\tcount\r\nnumber\tRepair\r\ndimension\tPlace\r\nnode\t0\tAll\r\nnode\t1\tTX\r\nnode\t2\tAustin\r\nnode\t2\tDallas\r\nnode\t2\tHouston\r\nnode\t1\tCA\r\nnode\t2\tLA\r\nnode\t2\tSF\r\ndimension\tAuto\r\nnode\t0\tAll\r\nnode\t1\tSedan\r\nnode\t2\tCamry\r\nnode\t2\tCivic\r\nnode\t1\tTruck\r\nnode\t2\tF150\r\nnode\t2\tSierra\r\nend\r\n";
+
+const REPAIRS_WITHOUT_VIEW: &str =
+    "cube\t1\npolicy\tcount\nnumber\tRepair\ndimension\tPlace\nnode\t0\tAll\nnode\t1\tTX\nnode\t2\tAustin\nnode\t2\tDallas\nnode\t2\tHouston\nnode\t1\tCA\nnode\t2\tLA\nnode\t2\tSF\ndimension\tAuto\nnode\t0\tAll\nnode\t1\tSedan\nnode\t2\tCamry\nnode\t2\tCivic\nnode\t1\tTruck\nnode\t2\tF150\nnode\t2\tSierra\nend\n";
+
+/// An input, and the text that is kept of it.
+const MADE: [(&str, &str); 3] = [
+    (BY_HAND, CITIES),
+    (REPAIRS_BY_HAND, REPAIRS_WITHOUT_VIEW),
+    (REPAIRS, REPAIRS),
+];
+
+/// Whether the text of a schema is kept by one batch, and answered.
+fn is_made(alloc: Global, row: &(&str, &str)) -> Result<bool, Memory> {
+    let (input, text) = *row;
     let mut keeper = keeper_of(alloc, "", &[], &[], &[])?;
-    let ran = run_kept(
-        alloc,
-        &["init", "s"],
-        BY_HAND.as_bytes(),
-        &WHOLE,
-        &mut keeper,
-    )?;
+    let ran = run_kept(alloc, &["init", "s"], input.as_bytes(), &WHOLE, &mut keeper)?;
     let is_kept = match keeper.journal() {
-        [batch] => keeps_schema(batch, CITIES),
+        [batch] => keeps_schema(batch, text),
         _ => false,
     };
     Ok(
         is_kept
             && ran.is(Ending::Finished { refused: 0 }, "ok\t0\n")
-            && keeper.content().schema.as_slice() == CITIES.as_bytes(),
+            && keeper.content().schema.as_slice() == text.as_bytes(),
     )
 }
 
+fn are_made(alloc: Global, rows: &[(&str, &str)]) -> bool {
+    rows.iter().all(|row| is_made(alloc, row) == Ok(true))
+}
+
 #[test]
-fn a_store_is_made(rt: HostRuntime) -> Result<(), Fail> {
-    let made = is_made(rt.alloc())?;
-    assert!(rt; made);
-    Ok(())
+fn a_store_is_made(rt: HostRuntime) {
+    assert!(rt; are_made(rt.alloc(), &MADE));
 }
 
 /// A word, the schema, facts and rows of a store, an input, how the run ends, and whether all of the input is left.
@@ -63,15 +77,47 @@ type Refusal = (
     bool,
 );
 
-const REFUSALS: [Refusal; 11] = [
+const REFUSALS: [Refusal; 19] = [
     ("init", CITIES, &[], &[], CITIES, Ending::HasCube, true),
     ("init", "x", &[], &[], CITIES, Ending::HasCube, true),
     ("init", "", &FACTS, &[], CITIES, Ending::HasCube, true),
     ("init", "", &[], &SPREADS, CITIES, Ending::HasCube, true),
     ("run", "", &[], &[], CITIES, Ending::NoCube, true),
     ("check", "", &[], &[], CITIES, Ending::NoCube, true),
+    ("import", "", &[], &[], CITIES, Ending::NoCube, true),
+    ("export", "", &[], &[], CITIES, Ending::NoCube, true),
     ("run", "x\n", &[], &[], CITIES, Ending::BadStore, true),
     ("run", CITIES, &FACTS, &[], CITIES, Ending::BadStore, true),
+    ("import", "x\n", &[], &[], CITIES, Ending::BadStore, true),
+    (
+        "import",
+        CITIES,
+        &FACTS,
+        &[],
+        CITIES,
+        Ending::BadStore,
+        true,
+    ),
+    ("export", "x\n", &[], &[], CITIES, Ending::BadStore, true),
+    (
+        "export",
+        CITIES,
+        &FACTS,
+        &[],
+        CITIES,
+        Ending::BadStore,
+        true,
+    ),
+    (
+        "init",
+        REPAIRS,
+        &REPAIR_FACTS,
+        &REPAIR_SPREADS,
+        REPAIRS,
+        Ending::HasCube,
+        true,
+    ),
+    ("run", "", &[], &[], FOUR_REPAIRS, Ending::NoCube, true),
     (
         "init",
         "",
@@ -111,7 +157,7 @@ const REFUSALS: [Refusal; 11] = [
 ];
 
 /// Whether a run is refused, and nothing written or kept.
-fn is_refused(alloc: Global, row: &Refusal) -> Result<bool, Fail> {
+fn is_refused(alloc: Global, row: &Refusal) -> Result<bool, Memory> {
     let (word, schema, facts, spreads, input, end, is_unread) = *row;
     let mut keeper = keeper_of(alloc, schema, facts, spreads, &[])?;
     let ran = run_kept(alloc, &[word, "s"], input.as_bytes(), &WHOLE, &mut keeper)?;
@@ -119,13 +165,18 @@ fn is_refused(alloc: Global, row: &Refusal) -> Result<bool, Fail> {
     Ok(ran.is(end, "") && ran.left == left && keeper.journal().is_empty())
 }
 
-#[test]
-fn stores_that_are_there_or_not(rt: HostRuntime) -> Result<(), Fail> {
-    for row in &REFUSALS {
-        let refused = is_refused(rt.alloc(), row)?;
-        assert!(rt; refused);
+fn are_refused(alloc: Global, rows: &[Refusal]) -> bool {
+    for row in rows {
+        if is_refused(alloc, row) != Ok(true) {
+            return false;
+        }
     }
-    Ok(())
+    true
+}
+
+#[test]
+fn stores_that_are_there_or_not(rt: HostRuntime) {
+    assert!(rt; are_refused(rt.alloc(), &REFUSALS));
 }
 
 /// Four facts, a repeat, a question, a withdrawal by which the fourth lies otherwise, and a change to an equal fact.
@@ -177,56 +228,144 @@ fn has_batches(keeper: &MemKeeper, batches: &[Ids]) -> bool {
             .all(|(batch, ids)| has_ids(batch, ids))
 }
 
+/// The repairs, and then a fact with another value.
+const REPAIR_SCRIPT: &str =
+    "insert\t1\tAustin\tCamry\t100\ninsert\t2\tAustin\tCamry\t300\ninsert\t3\tDallas\tCamry\t50\ninsert\t4\tTX\tCamry\t600\nrows\t4\nchange\t2\tAustin\tCamry\t301\nsum\tRepair\tAustin\tCamry\n";
+
+const REPAIR_REPLIES: &str =
+    "ok\t1\nok\t1\nok\t1\nok\t1\nrows\t3\t2\tAustin\tCamry\t2\tDallas\tCamry\t1\nok\t0\nsum\t801.000000000\t801.000000000\t801\n";
+
+/// The last batch puts the fact, and none of its rows.
+const REPAIR_BATCHES: [Ids; 5] = [
+    (&[], &[1], &[1]),
+    (&[], &[2], &[2]),
+    (&[], &[3], &[3]),
+    (&[], &[4], &[4]),
+    (&[], &[2], &[]),
+];
+
+/// The facts that are left of the cities, with the last one's city by the only fact of each.
+const LEFT: [FactRow; 3] = [(1, &[2], &[10]), (2, &[3], &[20]), (4, &[1], &[40])];
+
+const LEFT_SPREADS: [SpreadRow; 3] = [
+    (1, 1, &[(0, 1)]),
+    (2, 1, &[(1, 1)]),
+    (4, 2, &[(0, 1), (1, 1)]),
+];
+
+/// The repairs with the other value.
+const REPAIRS_LEFT: [FactRow; 4] = [
+    (1, &[2, 2], &[100]),
+    (2, &[2, 2], &[301]),
+    (3, &[3, 2], &[50]),
+    (4, &[1, 2], &[600]),
+];
+
+/// The schema of a store without facts, a script over it, its replies and how many of its lines are refused, its batches, and the
+/// facts and rows that are then kept.
+type Scripted = (
+    &'static str,
+    &'static str,
+    &'static str,
+    u64,
+    &'static [Ids],
+    &'static [FactRow],
+    &'static [SpreadRow],
+);
+
+const SCRIPTED: [Scripted; 2] = [
+    (CITIES, SCRIPT, REPLIES, 1, &BATCHES, &LEFT, &LEFT_SPREADS),
+    (
+        REPAIRS,
+        REPAIR_SCRIPT,
+        REPAIR_REPLIES,
+        0,
+        &REPAIR_BATCHES,
+        &REPAIRS_LEFT,
+        &REPAIR_SPREADS,
+    ),
+];
+
 /// Whether a script over a new store replies as one without a store, and keeps what its edits make.
-fn is_run(alloc: Global) -> Result<bool, Fail> {
-    let mut keeper = keeper_of(alloc, CITIES, &[], &[], &[])?;
-    let ran = run_kept(alloc, &["run", "s"], SCRIPT.as_bytes(), &WHOLE, &mut keeper)?;
-    Ok(ran.is(Ending::Finished { refused: 1 }, REPLIES) && has_batches(&keeper, &BATCHES))
+fn is_run(alloc: Global, row: &Scripted) -> Result<bool, Memory> {
+    let (schema, script, replies, refused, batches, facts, spreads) = *row;
+    let mut keeper = keeper_of(alloc, schema, &[], &[], &[])?;
+    let ran = run_kept(alloc, &["run", "s"], script.as_bytes(), &WHOLE, &mut keeper)?;
+    Ok(
+        ran.is(Ending::Finished { refused }, replies)
+            && has_batches(&keeper, batches)
+            && holds_just(keeper.content(), facts, spreads),
+    )
+}
+
+fn are_run(alloc: Global, rows: &[Scripted]) -> bool {
+    for row in rows {
+        if is_run(alloc, row) != Ok(true) {
+            return false;
+        }
+    }
+    true
 }
 
 #[test]
-fn a_script_over_a_store(rt: HostRuntime) -> Result<(), Fail> {
-    let done = is_run(rt.alloc())?;
-    assert!(rt; done);
-    Ok(())
+fn a_script_over_a_store(rt: HostRuntime) {
+    assert!(rt; are_run(rt.alloc(), &SCRIPTED));
 }
 
 /// Whether the same script is replied to so where nothing is kept.
-fn is_tried(alloc: Global) -> Result<bool, Fail> {
+fn is_tried(alloc: Global) -> Result<bool, Memory> {
     let input = joined(alloc, CITIES, SCRIPT)?;
     let ran = run(alloc, &["try"], input.as_bytes(), &WHOLE)?;
     Ok(ran.is(Ending::Finished { refused: 1 }, REPLIES))
 }
 
-/// Whether what the script leaves is sound, and is worked on by a later run: three facts with four rows, and the fact of id 4.
-fn is_loaded_again(alloc: Global) -> Result<bool, Fail> {
+/// The word, the input, how many lines are refused, what is written, and how much of the input is left.
+type Call = (&'static str, &'static str, u64, &'static str, usize);
+
+/// What the script leaves is sound, and is worked on by a later run: three facts with four rows, and the fact of id 4.
+const CALLS: [Call; 3] = [
+    ("run", SCRIPT, 1, REPLIES, 0),
+    ("check", "x", 0, "sound\t3\t4\n", 1),
+    (
+        "run",
+        "rows\t4\nwithdraw\t1\n",
+        0,
+        "rows\t2\t2\tAustin\t1\tDallas\t1\nok\t1\n",
+        0,
+    ),
+];
+
+/// Whether a call over a store is answered so.
+fn is_answered(alloc: Global, keeper: &mut MemKeeper, call: &Call) -> Result<bool, Memory> {
+    let (word, input, refused, replies, left) = *call;
+    let ran = run_kept(alloc, &[word, "s"], input.as_bytes(), &WHOLE, keeper)?;
+    Ok(ran.is(Ending::Finished { refused }, replies) && ran.left == left)
+}
+
+/// Whether so are calls one after another.
+fn are_answered(alloc: Global, keeper: &mut MemKeeper, calls: &[Call]) -> Result<bool, Memory> {
+    for call in calls {
+        if !is_answered(alloc, keeper, call)? {
+            return Ok(false);
+        }
+    }
+    Ok(true)
+}
+
+/// Whether a new store is loaded again and again.
+fn is_loaded_again(alloc: Global) -> Result<bool, Memory> {
     let mut keeper = keeper_of(alloc, CITIES, &[], &[], &[])?;
-    let _ = run_kept(alloc, &["run", "s"], SCRIPT.as_bytes(), &WHOLE, &mut keeper)?;
-    let audit = run_kept(alloc, &["check", "s"], b"x", &WHOLE, &mut keeper)?;
-    let again = run_kept(
-        alloc,
-        &["run", "s"],
-        b"rows\t4\nwithdraw\t1\n",
-        &WHOLE,
-        &mut keeper,
-    )?;
-    Ok(
-        audit.is(Ending::Finished { refused: 0 }, "sound\t3\t4\n")
-            && audit.left == 1
-            && again.is(
-                Ending::Finished { refused: 0 },
-                "rows\t2\t2\tAustin\t1\tDallas\t1\nok\t1\n",
-            ),
-    )
+    are_answered(alloc, &mut keeper, &CALLS)
 }
 
 #[test]
-fn a_script_without_a_store_and_over_one_again(rt: HostRuntime) -> Result<(), Fail> {
-    let tried = is_tried(rt.alloc())?;
-    assert!(rt; tried);
-    let loaded = is_loaded_again(rt.alloc())?;
-    assert!(rt; loaded);
-    Ok(())
+fn a_script_without_a_store(rt: HostRuntime) {
+    assert!(rt; is_tried(rt.alloc()) == Ok(true));
+}
+
+#[test]
+fn a_script_over_a_store_again(rt: HostRuntime) {
+    assert!(rt; is_loaded_again(rt.alloc()) == Ok(true));
 }
 
 /// The schema, facts and rows of a store, and what is told of it on standard error.
@@ -358,18 +497,18 @@ const DAMAGES: [Damage; 14] = [
 ];
 
 /// Whether the audit of a store tells this, with the status of a bad store, and writes nothing.
-fn is_told(alloc: Global, keeper: &mut MemKeeper, text: &str) -> Result<bool, Fail> {
-    let (end, written, _) = run_over(alloc, &["check", "s"], b"", &WHOLE, keeper)?;
+fn is_told(alloc: Global, keeper: &mut MemKeeper, text: &str) -> Result<bool, Memory> {
+    let (end, sink, _) = run_over(alloc, &["check", "s"], b"", &WHOLE, keeper)?;
     let (status, line) = end.told();
     let said = match line {
         Some(line) => line.to_string(alloc)?,
         None => String::new(alloc),
     };
-    Ok(status == 5 && said.as_str() == text && written.is_empty())
+    Ok(status == 5 && said.as_str() == text && sink.bytes().is_empty())
 }
 
 /// Whether the audit finds what is damaged so.
-fn is_found(alloc: Global, row: &Damage) -> Result<bool, Fail> {
+fn is_found(alloc: Global, row: &Damage) -> Result<bool, Memory> {
     let (schema, facts, spreads, text) = *row;
     let mut keeper = keeper_of(alloc, schema, facts, spreads, &[])?;
     is_told(alloc, &mut keeper, text)
@@ -379,7 +518,7 @@ fn is_found(alloc: Global, row: &Damage) -> Result<bool, Fail> {
 const LARGE: [FactRow; 3] = [(1, &[0, 1], &[]), (2, &[0, 1], &[]), (3, &[0, 1], &[])];
 
 /// Whether their rows are too many.
-fn are_too_many(alloc: Global) -> Result<bool, Fail> {
+fn are_too_many(alloc: Global) -> Result<bool, Memory> {
     let schema = large_schema(alloc)?;
     let mut keeper = keeper_of(alloc, schema.as_str(), &LARGE, &[], &[])?;
     is_told(alloc, &mut keeper, "cube: bad store: 3145728 rows")
@@ -389,37 +528,90 @@ fn are_too_many(alloc: Global) -> Result<bool, Fail> {
 const REMARKED: &str =
     "# two cities\ncube\t1\npolicy\tcount\nnumber\tHours\ndimension\tPlace\nnode\t0\tAll\nnode\t1\tTX\nnode\t2\tAustin\nnode\t2\tDallas\nend\n";
 
-/// Whether a store whose schema has a comment is sound.
-fn is_sound(alloc: Global) -> Result<bool, Fail> {
-    let mut keeper = keeper_of(alloc, REMARKED, &FACTS, &SPREADS, &[])?;
+/// The schema, facts and rows of a store that is sound, and what is written of it.
+type Sound = (
+    &'static str,
+    &'static [FactRow],
+    &'static [SpreadRow],
+    &'static str,
+);
+
+const SOUND: [Sound; 2] = [
+    (REMARKED, &FACTS, &SPREADS, "sound\t4\t5\n"),
+    (REPAIRS, &REPAIR_FACTS, &REPAIR_SPREADS, "sound\t4\t5\n"),
+];
+
+/// Whether a store is sound.
+fn is_sound(alloc: Global, row: &Sound) -> Result<bool, Memory> {
+    let (schema, facts, spreads, line) = *row;
+    let mut keeper = keeper_of(alloc, schema, facts, spreads, &[])?;
     let ran = run_kept(alloc, &["check", "s"], b"", &WHOLE, &mut keeper)?;
-    Ok(ran.is(Ending::Finished { refused: 0 }, "sound\t4\t5\n"))
+    Ok(ran.is(Ending::Finished { refused: 0 }, line))
+}
+
+fn are_sound(alloc: Global, rows: &[Sound]) -> bool {
+    for row in rows {
+        if is_sound(alloc, row) != Ok(true) {
+            return false;
+        }
+    }
+    true
 }
 
 #[test]
-fn findings_in_damaged_stores(rt: HostRuntime) -> Result<(), Fail> {
-    let sound = is_sound(rt.alloc())?;
-    assert!(rt; sound);
-    let many = are_too_many(rt.alloc())?;
-    assert!(rt; many);
-    for row in &DAMAGES {
-        let found = is_found(rt.alloc(), row)?;
-        assert!(rt; found);
-    }
-    Ok(())
+fn sound_stores(rt: HostRuntime) {
+    assert!(rt; are_sound(rt.alloc(), &SOUND));
 }
 
-/// Kept rows, the place where they differ from those of the four facts, and whether any are there in each.
-type Differing = (&'static [SpreadRow], u64, bool, bool);
+fn are_found(alloc: Global, rows: &[Damage]) -> bool {
+    for row in rows {
+        if is_found(alloc, row) != Ok(true) {
+            return false;
+        }
+    }
+    true
+}
 
-const DIFFERING: [Differing; 3] = [
+#[test]
+fn findings_in_damaged_stores(rt: HostRuntime) {
+    assert!(rt; are_found(rt.alloc(), &DAMAGES));
+}
+
+#[test]
+fn too_many_rows_in_a_store(rt: HostRuntime) {
+    assert!(rt; are_too_many(rt.alloc()) == Ok(true));
+}
+
+/// The rows of the repairs, but for the weight of the fourth in Austin.
+const OTHER_WEIGHT: [SpreadRow; 4] = [
+    (1, 1, &[(0, 1)]),
+    (2, 1, &[(0, 1)]),
+    (3, 1, &[(4, 1)]),
+    (4, 3, &[(0, 3), (4, 1)]),
+];
+
+/// The schema and facts of a store, kept rows, the place where they differ from those of the facts, and what is there in each.
+type Differing = (
+    &'static str,
+    &'static [FactRow],
+    &'static [SpreadRow],
+    u64,
+    Option<SpreadRow>,
+    Option<SpreadRow>,
+);
+
+const DIFFERING: [Differing; 4] = [
     (
+        CITIES,
+        &FACTS,
         &[(1, 1, &[(0, 1)]), (2, 1, &[(1, 1)]), (3, 1, &[(0, 1)])],
         3,
-        false,
-        true,
+        None,
+        Some((4, 3, &[(0, 2), (1, 1)])),
     ),
     (
+        CITIES,
+        &FACTS,
         &[
             (1, 1, &[(0, 1)]),
             (2, 1, &[(1, 1)]),
@@ -428,10 +620,12 @@ const DIFFERING: [Differing; 3] = [
             (5, 1, &[(0, 1)]),
         ],
         4,
-        true,
-        false,
+        Some((5, 1, &[(0, 1)])),
+        None,
     ),
     (
+        CITIES,
+        &FACTS,
         &[
             (1, 1, &[(1, 1)]),
             (2, 1, &[(1, 1)]),
@@ -439,29 +633,57 @@ const DIFFERING: [Differing; 3] = [
             (4, 3, &[(0, 2), (1, 1)]),
         ],
         0,
-        true,
-        true,
+        Some((1, 1, &[(1, 1)])),
+        Some((1, 1, &[(0, 1)])),
+    ),
+    (
+        REPAIRS,
+        &REPAIR_FACTS,
+        &OTHER_WEIGHT,
+        3,
+        Some((4, 3, &[(0, 3), (4, 1)])),
+        Some((4, 3, &[(0, 2), (4, 1)])),
     ),
 ];
 
-/// Whether the audit finds that the rows differ so.
-fn differ_so(alloc: Global, row: &Differing) -> Result<bool, Fail> {
-    let (spreads, at, is_kept, is_anew) = *row;
-    let mut keeper = keeper_of(alloc, CITIES, &FACTS, spreads, &[])?;
-    let (end, _, _) = run_over(alloc, &["check", "s"], b"", &WHOLE, &mut keeper)?;
-    Ok(match end {
+/// Whether rows are those of a row, or there are none where it is none.
+fn are_as(kept: &Option<KeptRows>, row: &Option<SpreadRow>) -> bool {
+    match (kept, row) {
+        (Some(kept), Some(row)) => is_spread(kept, row),
+        (None, None) => true,
+        _ => false,
+    }
+}
+
+/// Whether rows that differ so are what a run ended with, which has the status of a bad store.
+fn ended_with(end: &End, row: &Differing) -> bool {
+    let (_, _, _, at, kept_as, anew_as) = row;
+    match end {
         End::BadStore(Finding::Rows { place, kept, anew }) => {
-            place == at && kept.is_some() == is_kept && anew.is_some() == is_anew
+            place == at && are_as(kept, kept_as) && are_as(anew, anew_as) && end.status() == 5
         }
         _ => false,
-    })
+    }
+}
+
+/// Whether the audit finds that the rows differ so.
+fn differ_so(alloc: Global, row: &Differing) -> Result<bool, Memory> {
+    let (schema, facts, spreads, _, _, _) = *row;
+    let mut keeper = keeper_of(alloc, schema, facts, spreads, &[])?;
+    let (end, _, _) = run_over(alloc, &["check", "s"], b"", &WHOLE, &mut keeper)?;
+    Ok(ended_with(&end, row))
+}
+
+fn differ_each(alloc: Global, rows: &[Differing]) -> bool {
+    for row in rows {
+        if differ_so(alloc, row) != Ok(true) {
+            return false;
+        }
+    }
+    true
 }
 
 #[test]
-fn rows_that_differ(rt: HostRuntime) -> Result<(), Fail> {
-    for row in &DIFFERING {
-        let differ = differ_so(rt.alloc(), row)?;
-        assert!(rt; differ);
-    }
-    Ok(())
+fn rows_that_differ(rt: HostRuntime) {
+    assert!(rt; differ_each(rt.alloc(), &DIFFERING));
 }
