@@ -57,10 +57,13 @@ fn batch_of(alloc: Global, gone: &[u64], id: u32) -> Result<Batch, Fail> {
     })
 }
 
-/// Commits the batches that have no fault.
-fn commit_three(alloc: Global, keeper: &mut MemKeeper) -> Result<(), Fail>
+/// Commits the batches that have no fault, where nothing was kept before.
+fn commit_three(alloc: Global, keeper: &mut MemKeeper, was_empty: bool) -> Result<(), Fail>
     requires { IsTrue keeper.old.is_open }
 {
+    if !was_empty {
+        return Err("something is kept".into());
+    }
     let _ = keeper.commit(&batch_of(alloc, &[], 1)?);
     let _ = keeper.commit(&batch_of(alloc, &[], 2)?);
     let _ = keeper.commit(&batch_of(alloc, &[1], 3)?);
@@ -69,13 +72,10 @@ fn commit_three(alloc: Global, keeper: &mut MemKeeper) -> Result<(), Fail>
 
 /// Loads and commits, unless the load has a fault.
 fn load_and_commit(alloc: Global, keeper: &mut MemKeeper) -> Result<(), Fail> {
-    if let Ok(content) = keeper.load(alloc, "any") {
-        if !content.is_empty() {
-            return Err("something is kept".into());
-        }
-        commit_three(alloc, keeper)?;
+    match keeper.load(alloc, "any") {
+        Ok(content) => commit_three(alloc, keeper, content.is_empty()),
+        Err(_) => Ok(()),
     }
-    Ok(())
 }
 
 /// Whether facts and rows of these ids are kept.
@@ -111,13 +111,21 @@ fn batches_without_fault_are_kept(rt: HostRuntime) -> Result<(), Fail> {
     Ok(())
 }
 
+/// Whether what is loaded is empty.
+fn gives_nothing(alloc: Global, keeper: &mut NoKeeper) -> bool {
+    match keeper.load(alloc, "any") {
+        Ok(content) => content.is_empty(),
+        Err(_) => false,
+    }
+}
+
 /// Whether what is committed is done, and what is loaded is empty before and after.
 fn keeps_nothing(alloc: Global) -> Result<bool, Fail> {
     let mut keeper = NoKeeper::new();
-    let before = keeper.load(alloc, "any").ok().ok_or("no load")?;
-    let is_done = keeper.commit(&batch_of(alloc, &[], 1)?).is_ok();
-    let after = keeper.load(alloc, "any").ok().ok_or("no load")?;
-    Ok(is_done && before.is_empty() && after.is_empty())
+    let is_before = gives_nothing(alloc, &mut keeper);
+    let batch = batch_of(alloc, &[], 1)?;
+    let is_done = keeper.commit(&batch).is_ok();
+    Ok(is_done && is_before && gives_nothing(alloc, &mut keeper))
 }
 
 #[test]

@@ -68,24 +68,47 @@ fn ids_by_patterns<L: Ledger>(
     ids_at(alloc, index, codes.as_slice())
 }
 
-fn are_found(alloc: Global, rows: &[Row]) -> Result<bool, Fail> {
-    let space = space_of(alloc, &[&CITIES, &CARS])?;
-    let (index, patterns) = index_of(alloc, &space, &THERE)?;
-    for (nodes, ids) in rows {
-        if ids_by_patterns::<Brand>(
-            alloc,
-            &index,
-            &patterns,
-            &space,
-            nodes,
-            Blank::new(1),
-        )?.as_slice()
-            != *ids
-        {
+/// Whether the ids over a cell are these.
+fn is_found(
+    alloc: Global,
+    index: &RegionIndex,
+    patterns: &DepthPatterns,
+    space: &Space,
+    row: &Row,
+) -> Result<bool, Fail>
+    requires { HasPatterns space.now index.now patterns.now }
+{
+    let (nodes, ids) = *row;
+    let found = ids_by_patterns::<Brand>(alloc, index, patterns, space, nodes, Blank::new(1))?;
+    Ok(found.as_slice() == ids)
+}
+
+fn are_found_by(
+    alloc: Global,
+    index: &RegionIndex,
+    patterns: &DepthPatterns,
+    space: &Space,
+    rows: &[Row],
+) -> Result<bool, Fail>
+    requires { HasPatterns space.now index.now patterns.now }
+{
+    for row in rows {
+        if !is_found(alloc, index, patterns, space, row)? {
             return Ok(false);
         }
     }
     Ok(true)
+}
+
+/// The same where index and patterns are made of the facts.
+fn are_found_in(alloc: Global, space: &Space, rows: &[Row]) -> Result<bool, Fail> {
+    let (index, patterns) = index_of(alloc, space, &THERE)?;
+    are_found_by(alloc, &index, &patterns, space, rows)
+}
+
+fn are_found(alloc: Global, rows: &[Row]) -> Result<bool, Fail> {
+    let space = space_of(alloc, &[&CITIES, &CARS])?;
+    are_found_in(alloc, &space, rows)
 }
 
 #[test]

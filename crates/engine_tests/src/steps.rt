@@ -122,6 +122,30 @@ fn has_rows(spread: &Alloc, rows: &[(u64, u64)]) -> Result<bool, Memory> {
     Ok(spread.shared_rows()?.as_slice() == rows && spread.share()?.rows() == rows)
 }
 
+/// Whether an allocation has these rows after each step.
+fn follow<P: WeightPolicy>(
+    alloc: Global,
+    space: &Space,
+    policy: &P,
+    region: Region,
+    stats: &mut StatIndex,
+    spread: &mut Alloc,
+    steps: &[Step],
+) -> Result<bool, Fail>
+    requires region { IsRegion space.now region }
+    requires kept { AreKept 1000 (P.weigh policy.now) space.now region stats.old spread.old }
+{
+    for (changed, rows) in steps {
+        *spread = step_kept(alloc, space, policy, MOST, stats, spread, region, changed)?.ok_or(
+            "no step",
+        )?;
+        if !has_rows(spread, rows)? {
+            return Ok(false);
+        }
+    }
+    Ok(true)
+}
+
 /// Whether a region has these rows after each step.
 fn are_stepped<P: WeightPolicy>(
     alloc: Global,
@@ -132,35 +156,36 @@ fn are_stepped<P: WeightPolicy>(
 ) -> Result<bool, Fail> {
     let region = space.region(nodes).ok_or("no region")?;
     let (mut stats, mut spread) = start(alloc, space, policy, region)?;
-    for (changed, rows) in steps {
-        spread = step_kept(
-            alloc, space, policy, MOST, &mut stats, &spread, region, changed,
-        )?
-        .ok_or("no step")?;
-        if !has_rows(&spread, rows)? {
-            return Ok(false);
-        }
-    }
-    Ok(true)
+    follow(alloc, space, policy, region, &mut stats, &mut spread, steps)
 }
 
-/// Of one dimension, by each policy.
+/// By each policy.
+fn are_stepped_by_each(alloc: Global, space: &Space) -> Result<bool, Fail> {
+    Ok(
+        are_stepped(alloc, space, &Uniform, &[0], &EVENLY)?
+            && are_stepped(alloc, space, &ByCount, &[0], &BY_COUNT)?
+            && are_stepped(alloc, space, &BySum, &[0], &BY_SUM)?,
+    )
+}
+
+/// Of one dimension.
 fn are_all_stepped(alloc: Global) -> Result<bool, Fail> {
     let space = space_of(alloc, &[&PLACES])?;
+    are_stepped_by_each(alloc, &space)
+}
+
+/// By the number of facts.
+fn are_both_stepped(alloc: Global, space: &Space) -> Result<bool, Fail> {
     Ok(
-        are_stepped(alloc, &space, &Uniform, &[0], &EVENLY)?
-            && are_stepped(alloc, &space, &ByCount, &[0], &BY_COUNT)?
-            && are_stepped(alloc, &space, &BySum, &[0], &BY_SUM)?,
+        are_stepped(alloc, space, &ByCount, &[1, 2], &WITHDRAWN)?
+            && are_stepped(alloc, space, &ByCount, &[1, 2], &MOVED)?,
     )
 }
 
-/// Of two dimensions, by the number of facts.
+/// Of two dimensions.
 fn are_stepped_in_two(alloc: Global) -> Result<bool, Fail> {
     let space = space_of(alloc, &[&CITIES, &CARS])?;
-    Ok(
-        are_stepped(alloc, &space, &ByCount, &[1, 2], &WITHDRAWN)?
-            && are_stepped(alloc, &space, &ByCount, &[1, 2], &MOVED)?,
-    )
+    are_both_stepped(alloc, &space)
 }
 
 #[test]

@@ -38,14 +38,18 @@ fn is_touched(alloc: Global, space: &Space, row: &Row) -> Result<bool, Fail> {
     }
 }
 
-fn are_touched(alloc: Global, rows: &[Row]) -> Result<bool, Fail> {
-    let space = space_of(alloc, &[&CITIES, &CARS])?;
+fn are_touched_in(alloc: Global, space: &Space, rows: &[Row]) -> Result<bool, Fail> {
     for row in rows {
-        if !is_touched(alloc, &space, row)? {
+        if !is_touched(alloc, space, row)? {
             return Ok(false);
         }
     }
     Ok(true)
+}
+
+fn are_touched(alloc: Global, rows: &[Row]) -> Result<bool, Fail> {
+    let space = space_of(alloc, &[&CITIES, &CARS])?;
+    are_touched_in(alloc, &space, rows)
 }
 
 #[test]

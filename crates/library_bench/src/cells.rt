@@ -14,7 +14,7 @@ use std::alloc::Global;
 
 /// Walks all cells of a space so many times: the number of the cells, and the sum of their codes.
 pub fn walk(alloc: Global, rounds: u32, sizes: &[String]) -> Result<(u64, u64)> {
-    let space = space_of(alloc, sizes)?;
+    let space = space_of(alloc, sizes, 0)?;
     let mut walked = (0, 0);
     for _ in 0..rounds {
         walked = walk_once(&space)?;
@@ -40,7 +40,7 @@ pub fn spread<P: WeightPolicy>(
     rounds: u32,
     sizes: &[String],
 ) -> Result<(u64, u64)> {
-    let space = space_of(alloc, sizes)?;
+    let space = space_of(alloc, sizes, 0)?;
     let mut spread = (0, 0);
     for _ in 0..rounds {
         let rows = spread_once(alloc, policy, &space)?;

@@ -3,9 +3,10 @@ ghost use Rattle.std.specs.Prelude.{◌≡◌, ◌<◌, All, IfOk, length};
 ghost use Rattle.cube_model.specs.Cells.{all_cells};
 ghost use Rattle.region_algebra.specs.Space.{IsRegion};
 
-use crate::random::{Random, any_cell, any_region};
-use crate::spaces::grouped_space;
+use crate::random::{Drawn, Random, any_region};
+use crate::spaces::{GROUP, space_of};
 use anyhow::{Context, Result};
+use cube_base::Ids;
 use cube_model::Region;
 use region_algebra::Space;
 use region_index::{RegionIndex, Steps};
@@ -13,61 +14,57 @@ use std::alloc::Global;
 use std::marker::Brand;
 use std::sync::ledger::{Blank, Ledger};
 
-/// Indexes so many facts, and finds those over so many cells: how many were found, and how many cells were asked.
-pub fn cover_often(alloc: Global, facts: u32, numbers: &[String]) -> Result<(u64, u64)> {
+/// Indexes so many facts, and finds those over so many cells: how many cells were asked, and how many ids were found. Where it
+/// compares, cells over which a walk through the facts finds others do not count.
+pub fn cover_often(
+    alloc: Global,
+    compares: bool,
+    facts: u32,
+    numbers: &[String],
+) -> Result<(u64, u64)> {
     let (cells, sizes) = numbers.split_first().context("no number")?;
     let cells = cells.parse::<u32>()?;
-    let space = grouped_space(alloc, sizes)?;
+    let space = space_of(alloc, sizes, GROUP)?;
+    cover_in(alloc, &space, compares, facts, cells)
+}
+
+/// The same in a space.
+fn cover_in(
+    alloc: Global,
+    space: &Space,
+    compares: bool,
+    facts: u32,
+    cells: u32,
+) -> Result<(u64, u64)> {
     let mut random = Random::new();
-    let regions = regions_of(alloc, &space, &mut random, facts)?;
-    let index = index_of(alloc, &space, &regions)?;
-    let found = found_over(&index, &space, &mut random, cells)?;
-    Ok((found, u64::from(cells)))
+    let regions = regions_of(alloc, space, &mut random, facts)?;
+    let index = index_of(alloc, space, &regions)?;
+    cover_all(alloc, &index, space, &regions, &mut random, compares, cells)
 }
 
-/// The same, where each is compared with what a walk through the facts finds: how many are equal, and how many ids were found.
-pub fn cover_and_compare(alloc: Global, facts: u32, numbers: &[String]) -> Result<(u64, u64)> {
-    let (cells, sizes) = numbers.split_first().context("no number")?;
-    let cells = cells.parse::<u32>()?;
-    let space = grouped_space(alloc, sizes)?;
-    let mut random = Random::new();
-    let regions = regions_of(alloc, &space, &mut random, facts)?;
-    let index = index_of(alloc, &space, &regions)?;
-    equal_covers(alloc, &index, &space, &regions, &mut random, cells)
-}
-
-/// How many ids are found over so many cells.
-fn found_over(index: &RegionIndex, space: &Space, random: &mut Random, cells: u32) -> Result<u64> {
-    let mut found = 0u64;
-    for _ in 0..cells {
-        let cell = cell_of(space, random)?;
-        found = found.wrapping_add(ids_over::<Brand>(index, space, cell, Blank::new(1))?);
-    }
-    Ok(found)
-}
-
-/// Over how many of so many cells the index finds what a walk through the facts does, and how many ids.
-fn equal_covers(
+/// Finds the facts over so many cells, and counts the cells and the ids.
+fn cover_all(
     alloc: Global,
     index: &RegionIndex,
     space: &Space,
     regions: &[Region],
     random: &mut Random,
+    compares: bool,
     cells: u32,
 ) -> Result<(u64, u64)>
     requires { All (IsRegion space.now) regions.now }
 {
-    let mut equal = 0u64;
+    let mut counted = 0u64;
     let mut found = 0u64;
     for _ in 0..cells {
         let cell = cell_of(space, random)?;
-        let (ids, codes) = over(alloc, space, regions, cell)?;
-        if is_found::<Brand>(index, space, cell, &ids, &codes, Blank::new(1))? {
-            equal = equal.wrapping_add(1);
+        let ids = ids_over::<Brand>(index, space, cell, Blank::new(1))?;
+        found = found.wrapping_add(ids.as_slice().len() as u64);
+        if !compares || is_walked(alloc, index, space, regions, cell, &ids)? {
+            counted = counted.wrapping_add(1);
         }
-        found = found.wrapping_add(ids.len() as u64);
     }
-    Ok((equal, found))
+    Ok((counted, found))
 }
 
 /// So many regions.
@@ -76,7 +73,7 @@ fn regions_of(alloc: Global, space: &Space, random: &mut Random, facts: u32) -> 
 {
     let mut regions = Vec::new(alloc);
     for _ in 0..facts {
-        regions.push(any_region(space, random)?)?;
+        regions.push(any_region(space, random, Drawn::Node)?)?;
     }
     Ok(regions)
 }
@@ -99,21 +96,20 @@ fn index_of(alloc: Global, space: &Space, regions: &[Region]) -> Result<RegionIn
 fn cell_of(space: &Space, random: &mut Random) -> Result<u64>
     ensures { IfOk result (λ cell. cell < length (all_cells space.now)) }
 {
-    let region = any_cell(space, random)?;
+    let region = any_region(space, random, Drawn::Leaf)?;
     space.cell_code(region).context("no cell")
 }
 
-/// How many ids are over a cell.
-fn ids_over<L: Ledger>(index: &RegionIndex, space: &Space, cell: u64, blank: Blank) -> Result<u64>
+/// The ids that the index finds over a cell.
+fn ids_over<L: Ledger>(index: &RegionIndex, space: &Space, cell: u64, blank: Blank) -> Result<Ids>
     requires ledger { (blank.name ≡ L.name) × (blank.parts ≡ L.parts) × (0 < L.parts) }
     requires cell { cell < length (all_cells space.now) }
 {
     let mut steps = Steps::<L>::new(blank);
-    let ids = index
+    index
         .covering(space, cell, &mut steps)
         .ok()
-        .context("out of memory")?;
-    Ok(ids.as_slice().len() as u64)
+        .context("out of memory")
 }
 
 /// The ids of the facts over a cell, and the codes of their regions, ascending.
@@ -134,12 +130,30 @@ fn over(alloc: Global, space: &Space, regions: &[Region], cell: u64) -> Result<(
     Ok((ids, codes))
 }
 
-/// Whether the index finds these ids over a cell, and these codes.
-fn is_found<L: Ledger>(
+/// Whether a walk through the facts finds these ids over a cell, and the codes at which the index holds them.
+fn is_walked(
+    alloc: Global,
+    index: &RegionIndex,
+    space: &Space,
+    regions: &[Region],
+    cell: u64,
+    found: &Ids,
+) -> Result<bool>
+    requires regions { All (IsRegion space.now) regions.now }
+    requires cell { cell < length (all_cells space.now) }
+{
+    let (ids, codes) = over(alloc, space, regions, cell)?;
+    Ok(
+        found.as_slice() == ids.as_slice()
+            && has_codes::<Brand>(index, space, cell, &codes, Blank::new(1))?,
+    )
+}
+
+/// Whether the index holds ids over a cell at these codes.
+fn has_codes<L: Ledger>(
     index: &RegionIndex,
     space: &Space,
     cell: u64,
-    ids: &[u64],
     codes: &[u64],
     blank: Blank,
 ) -> Result<bool>
@@ -147,13 +161,9 @@ fn is_found<L: Ledger>(
     requires cell { cell < length (all_cells space.now) }
 {
     let mut steps = Steps::<L>::new(blank);
-    let found = index
-        .covering(space, cell, &mut steps)
-        .ok()
-        .context("out of memory")?;
     let held = index
         .held_codes_over(space, cell, &mut steps)
         .ok()
         .context("out of memory")?;
-    Ok(found.as_slice() == ids && held.as_slice() == codes)
+    Ok(held.as_slice() == codes)
 }

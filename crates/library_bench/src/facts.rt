@@ -23,17 +23,28 @@ pub fn put_and_take(
 ) -> Result<(u64, u64)> {
     let takes: u32 = numbers.first().context("no number")?.parse()?;
     let mut facts = FactList::new(alloc);
-    for place in 0..puts {
-        put(&mut facts, id_at(order, place))?;
-    }
+    put_all(&mut facts, order, puts)?;
     for place in 0..takes {
         let _ = facts.take(id_at(order, place));
     }
+    Ok((facts.len(), sum_of(&facts)))
+}
+
+/// The sum of the ids.
+fn sum_of(facts: &FactList) -> u64 {
     let mut sum = 0u64;
     for fact in facts.iter() {
         sum = sum.wrapping_add(fact.id);
     }
-    Ok((facts.len(), sum))
+    sum
+}
+
+/// Puts so many facts into the list.
+fn put_all(facts: &mut FactList, order: u64, puts: u32) -> Result<()> {
+    for place in 0..puts {
+        put(facts, id_at(order, place))?;
+    }
+    Ok(())
 }
 
 /// The id at a place of an order.

@@ -23,11 +23,15 @@ const SCALE: u32 = 7;
 pub fn group(alloc: Global, rounds: u32, text: &str) -> Result<(u64, u64)> {
     let mut seen = (0, 0);
     for _ in 0..rounds {
-        let terms = terms_of(alloc, text)?;
-        let last = terms.len().checked_sub(1).context("no term")?;
-        seen = (terms.len(), terms.den_at(last));
+        seen = last_of(&terms_of(alloc, text)?)?;
     }
     Ok(seen)
+}
+
+/// The number of terms, and the last denominator of them.
+pub fn last_of(terms: &Terms) -> Result<(u64, u64)> {
+    let last = terms.len().checked_sub(1).context("no term")?;
+    Ok((terms.len(), terms.den_at(last)))
 }
 
 /// Adds up, so many times, 1 over each of the denominators in a text, a line each: the number of the terms, and what is

@@ -51,8 +51,8 @@ fn done(
         "weighed" => cells::spread(alloc, &Uniform, first, numbers),
         "ascending" => facts::put_and_take(alloc, facts::ASCENDING, first, numbers),
         "shuffled" => facts::put_and_take(alloc, facts::SHUFFLED, first, numbers),
-        "steps" => steps::step_often(alloc, first, numbers),
-        "covers" => covers::cover_often(alloc, first, numbers),
+        "steps" => steps::step_often(alloc, false, first, numbers),
+        "covers" => covers::cover_often(alloc, false, first, numbers),
         "puts" => views::put_often(alloc, first, numbers),
         _ => done_otherwise(alloc, task, first, numbers, text),
     }
@@ -67,8 +67,8 @@ fn done_otherwise(
     text: &str,
 ) -> Result<(u64, u64)> {
     match task {
-        "compare-steps" => steps::step_and_compare(alloc, first, numbers),
-        "compare-covers" => covers::cover_and_compare(alloc, first, numbers),
+        "compare-steps" => steps::step_often(alloc, true, first, numbers),
+        "compare-covers" => covers::cover_often(alloc, true, first, numbers),
         "compare-views" => views::edit_and_compare(alloc, first, numbers),
         _ => done_over_text(alloc, task, first, text),
     }

@@ -33,58 +33,35 @@ impl Random {
     }
 }
 
+/// What stands for a node of a region that is drawn: the node itself, a leaf, or a group.
+#[derive(Clone, Copy)]
+pub enum Drawn {
+    Node,
+    Leaf,
+    Group,
+}
+
+impl Drawn {
+    /// The node, its first leaf where it is none, or its group where it has one: the root stands before the first group, and each
+    /// group before its leaves.
+    fn stands_for(self, node: u32) -> u32 {
+        match self {
+            Drawn::Leaf if node == 0 => 2,
+            Drawn::Leaf if node % (GROUP + 1) == 1 => node.saturating_add(1),
+            Drawn::Group if node > 0 => node - (node - 1) % (GROUP + 1),
+            _ => node,
+        }
+    }
+}
+
 /// A region.
-pub fn any_region(space: &Space, random: &mut Random) -> Result<Region>
+pub fn any_region(space: &Space, random: &mut Random, drawn: Drawn) -> Result<Region>
     ensures { IfOk result (IsRegion space.now) }
 {
     let mut nodes = [0; MAX_DIMS];
     let dims = space.dims() as usize;
     for d in 0..dims {
-        nodes[d] = random.below(space.dim(d as u32).len());
+        nodes[d] = drawn.stands_for(random.below(space.dim(d as u32).len()));
     }
     space.region(&nodes[..dims]).context("no region")
-}
-
-/// A region that is one cell.
-pub fn any_cell(space: &Space, random: &mut Random) -> Result<Region>
-    ensures { IfOk result (IsRegion space.now) }
-{
-    let mut nodes = [0; MAX_DIMS];
-    let dims = space.dims() as usize;
-    for d in 0..dims {
-        nodes[d] = leaf_at(random.below(space.dim(d as u32).len()));
-    }
-    space.region(&nodes[..dims]).context("no region")
-}
-
-/// A region of groups and roots.
-pub fn any_coarse(space: &Space, random: &mut Random) -> Result<Region>
-    ensures { IfOk result (IsRegion space.now) }
-{
-    let mut nodes = [0; MAX_DIMS];
-    let dims = space.dims() as usize;
-    for d in 0..dims {
-        nodes[d] = group_at(random.below(space.dim(d as u32).len()));
-    }
-    space.region(&nodes[..dims]).context("no region")
-}
-
-/// The node where it is a leaf, and else its first leaf: the root stands before the first group, and each group before its leaves.
-fn leaf_at(node: u32) -> u32 {
-    if node == 0 {
-        2
-    } else if node % (GROUP + 1) == 1 {
-        node.saturating_add(1)
-    } else {
-        node
-    }
-}
-
-/// The group of a node, and the root where it is the root.
-fn group_at(node: u32) -> u32 {
-    if node == 0 {
-        0
-    } else {
-        node - (node - 1) % (GROUP + 1)
-    }
 }

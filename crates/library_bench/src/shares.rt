@@ -2,6 +2,7 @@
 ghost use Rattle.std.specs.Prelude.{All, IfOk};
 ghost use Rattle.library_bench.specs.Units.{IsUnit};
 
+use crate::fractions::last_of;
 use anyhow::{Context, Result, bail};
 use cube_base::Cols;
 use group_sum::{Share, Terms, terms_of_shares};
@@ -13,9 +14,7 @@ pub fn group_at_once(alloc: Global, rounds: u32, text: &str) -> Result<(u64, u64
     let shares = shares_of(alloc, &numbers_of(alloc, text)?)?;
     let mut seen = (0, 0);
     for _ in 0..rounds {
-        let terms = terms_of(alloc, &shares)?;
-        let last = terms.len().checked_sub(1).context("no term")?;
-        seen = (terms.len(), terms.den_at(last));
+        seen = last_of(&terms_of(alloc, &shares)?)?;
     }
     Ok(seen)
 }

@@ -9,23 +9,14 @@ use dim_tree::Dim;
 use region_algebra::Space;
 use std::alloc::Global;
 
-/// The space over dimensions of so many leaves each.
-pub fn space_of(alloc: Global, sizes: &[String]) -> Result<Space> {
-    let mut dims = Vec::new(alloc);
-    for size in sizes {
-        dims.push(dim_of(alloc, size.parse()?)?)?;
-    }
-    Space::new(alloc, dims).ok().context("no space")
-}
-
 /// How many leaves a group has.
 pub const GROUP: u32 = 8;
 
-/// The space over dimensions of so many groups of leaves each.
-pub fn grouped_space(alloc: Global, sizes: &[String]) -> Result<Space> {
+/// The space over dimensions of so many nodes each, all under the root and with so many leaves under each.
+pub fn space_of(alloc: Global, sizes: &[String], leaves: u32) -> Result<Space> {
     let mut dims = Vec::new(alloc);
     for size in sizes {
-        dims.push(grouped_dim(alloc, size.parse()?)?)?;
+        dims.push(dim_of(alloc, size.parse()?, leaves)?)?;
     }
     Space::new(alloc, dims).ok().context("no space")
 }
@@ -39,33 +30,27 @@ pub fn everything(space: &Space) -> Result<Region>
     space.region(&roots[..dims]).context("no region")
 }
 
-/// A dimension of a root and so many leaves under it.
-fn dim_of(alloc: Global, leaves: u32) -> Result<Dim> {
+/// A dimension of a root, so many nodes under it, and so many leaves under each of these.
+fn dim_of(alloc: Global, nodes: u32, leaves: u32) -> Result<Dim> {
     let mut lines = Vec::new(alloc);
-    lines.push(line_of(alloc, 0, 0)?)?;
-    for leaf in 0..leaves {
-        lines.push(line_of(alloc, 1, u64::from(leaf) + 1)?)?;
-    }
-    Dim::build(alloc, &lines).ok().context("no dimension")
-}
-
-/// A dimension of a root, so many groups under it, and leaves under these.
-fn grouped_dim(alloc: Global, groups: u32) -> Result<Dim> {
-    let mut lines = Vec::new(alloc);
-    lines.push(line_of(alloc, 0, 0)?)?;
-    for group in 0..groups {
-        let first = u64::from(group) * u64::from(GROUP + 1) + 1;
-        lines.push(line_of(alloc, 1, first)?)?;
-        for leaf in 0..GROUP {
-            lines.push(line_of(alloc, 2, first + 1 + u64::from(leaf))?)?;
+    push_line(alloc, &mut lines, 0)?;
+    for _ in 0..nodes {
+        push_line(alloc, &mut lines, 1)?;
+        for _ in 0..leaves {
+            push_line(alloc, &mut lines, 2)?;
         }
     }
     Dim::build(alloc, &lines).ok().context("no dimension")
 }
 
-/// A node whose name is a number.
-fn line_of(alloc: Global, depth: u8, number: u64) -> Result<NodeLine> {
-    let text = format!(in alloc; "{number}")?;
-    let name = Name::new(alloc, &text).ok().flatten().context("no name")?;
-    Ok(NodeLine { depth, name })
+/// Appends a node, whose name is its place.
+fn push_line(alloc: Global, lines: &mut Vec<NodeLine>, depth: u8) -> Result<()> {
+    let text = format!(in alloc; "{}", lines.len())?;
+    let name = name_of(alloc, &text)?;
+    lines.push(NodeLine { depth, name })?;
+    Ok(())
+}
+
+pub fn name_of(alloc: Global, text: &str) -> Result<Name> {
+    Name::new(alloc, text).ok().flatten().context("no name")
 }

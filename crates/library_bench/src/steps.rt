@@ -20,64 +20,56 @@ const MOST: u32 = 1;
 const NO_FACTS: CellStat = CellStat { count: 0, sum: 0 };
 
 /// Steps the allocation over all cells so many times, where one fact of a cell or of two comes or goes: how many steps were
-/// taken, and the number of rows at the end.
-pub fn step_often(alloc: Global, steps: u32, sizes: &[String]) -> Result<(u64, u64)> {
-    let space = space_of(alloc, sizes)?;
-    let region = everything(&space)?;
-    let (mut stats, mut spread) = start(alloc, &space, region)?;
-    step_all(alloc, &space, &mut stats, &mut spread, region, steps)?;
-    Ok((u64::from(steps), spread.rows().len() as u64))
+/// taken, and the number of rows at the end. Where it compares, steps after which the allocation is not the one made anew do not
+/// count.
+pub fn step_often(
+    alloc: Global,
+    compares: bool,
+    steps: u32,
+    sizes: &[String],
+) -> Result<(u64, u64)> {
+    let space = space_of(alloc, sizes, 0)?;
+    step_in(alloc, &space, compares, steps)
 }
 
-/// The same, where each is compared with the allocation made anew: how many are equal, and the number of rows at the end.
-pub fn step_and_compare(alloc: Global, steps: u32, sizes: &[String]) -> Result<(u64, u64)> {
-    let space = space_of(alloc, sizes)?;
-    let region = everything(&space)?;
-    let (mut stats, mut spread) = start(alloc, &space, region)?;
-    let equal = equal_steps(alloc, &space, &mut stats, &mut spread, region, steps)?;
-    Ok((equal, spread.rows().len() as u64))
+/// The same in a space.
+fn step_in(alloc: Global, space: &Space, compares: bool, steps: u32) -> Result<(u64, u64)> {
+    let region = everything(space)?;
+    let (mut stats, mut spread) = start(alloc, space, region)?;
+    let counted = step_all(
+        alloc,
+        space,
+        &mut stats,
+        &mut spread,
+        region,
+        compares,
+        steps,
+    )?;
+    Ok((counted, spread.rows().len() as u64))
 }
 
-/// Takes so many steps.
+/// Takes so many steps, and counts them.
 fn step_all(
     alloc: Global,
     space: &Space,
     stats: &mut StatIndex,
     spread: &mut Alloc,
     region: Region,
-    steps: u32,
-) -> Result<()>
-    requires region { IsRegion space.now region }
-    requires kept { AreKept 1 weigh_sum space.now region stats.old spread.old }
-{
-    let mut random = Random::new();
-    for _ in 0..steps {
-        step_once(alloc, space, stats, spread, region, &mut random)?;
-    }
-    Ok(())
-}
-
-/// Takes so many steps: after how many the allocation is the one made anew.
-fn equal_steps(
-    alloc: Global,
-    space: &Space,
-    stats: &mut StatIndex,
-    spread: &mut Alloc,
-    region: Region,
+    compares: bool,
     steps: u32,
 ) -> Result<u64>
     requires region { IsRegion space.now region }
     requires kept { AreKept 1 weigh_sum space.now region stats.old spread.old }
 {
     let mut random = Random::new();
-    let mut equal = 0u64;
+    let mut counted = 0u64;
     for _ in 0..steps {
         step_once(alloc, space, stats, spread, region, &mut random)?;
-        if is_anew(alloc, space, stats, spread, region)? {
-            equal = equal.wrapping_add(1);
+        if !compares || is_anew(alloc, space, stats, spread, region)? {
+            counted = counted.wrapping_add(1);
         }
     }
-    Ok(equal)
+    Ok(counted)
 }
 
 /// Takes a step.

@@ -3,11 +3,11 @@ ghost use Rattle.std.specs.Prelude.{◌≡◌, ◌+◌, ◌<◌, ◌≤◌, ◌^
 ghost use Rattle.fact_records.specs.Valid.{IsEditOver};
 ghost use Rattle.region_algebra.specs.Space.{IsRegion};
 
-use crate::random::{Random, any_cell, any_coarse, any_region};
-use crate::spaces::grouped_space;
+use crate::random::{Drawn, Random, any_region};
+use crate::spaces::{GROUP, name_of, space_of};
 use anyhow::{Context, Result};
 use cell_weight::ByCount;
-use cube_base::{Cols, Name};
+use cube_base::Cols;
 use cube_model::{Edit, Fact, Region};
 use edit_plan::{State, plan};
 use fact_records::{Kind, Measure, Shape};
@@ -27,58 +27,48 @@ const VALUES: u32 = 1000;
 /// Puts so many facts into cells of a state with so many views: how many were put, and the number of rows.
 pub fn put_often(alloc: Global, puts: u32, numbers: &[String]) -> Result<(u64, u64)> {
     let (views, sizes) = numbers.split_first().context("no number")?;
-    let mut state = state_of(alloc, views.parse()?, sizes)?;
-    let put = put_all(alloc, &mut state, puts)?;
-    Ok((put, state.row_count()))
+    let views = views.parse::<u32>()?;
+    let mut state = state_of(alloc, views, sizes)?;
+    put_all(alloc, &mut state, puts)
 }
 
 /// Makes so many edits in no order of a state with a view and of one without, and asks both the same after each: how many were
 /// alike, and the number of rows at the end.
 pub fn edit_and_compare(alloc: Global, edits: u32, sizes: &[String]) -> Result<(u64, u64)> {
     let mut viewed = state_of(alloc, 1, sizes)?;
-    let mut plain = state_of(alloc, 0, sizes)?;
-    let equal = equal_edits(alloc, &mut viewed, &mut plain, edits)?;
-    Ok((equal, plain.row_count()))
+    edit_beside(alloc, &mut viewed, edits, sizes)
 }
 
-/// Puts so many facts into cells: how many were put.
-fn put_all(alloc: Global, state: &mut State<ByCount>, puts: u32) -> Result<u64> {
+/// The same with the state that has the view.
+fn edit_beside(
+    alloc: Global,
+    viewed: &mut State<ByCount>,
+    edits: u32,
+    sizes: &[String],
+) -> Result<(u64, u64)> {
+    let mut plain = state_of(alloc, 0, sizes)?;
+    equal_edits(alloc, viewed, &mut plain, edits)
+}
+
+/// Puts so many facts into cells: how many were put, and the number of rows.
+fn put_all(alloc: Global, state: &mut State<ByCount>, puts: u32) -> Result<(u64, u64)> {
     let mut random = Random::new();
     let mut put = 0u64;
     for place in 0..puts {
-        if put_once(alloc, state, &mut random, place)? {
+        if edit_once(alloc, state, &mut random, Some(place))? {
             put = put.wrapping_add(1);
         }
     }
-    Ok(put)
+    Ok((put, state.row_count()))
 }
 
-/// Puts a fact into a cell: whether it was accepted.
-fn put_once(
-    alloc: Global,
-    state: &mut State<ByCount>,
-    random: &mut Random,
-    place: u32,
-) -> Result<bool> {
-    let edit = put_of(state.space(), random, place)?;
-    Ok(is_done::<Brand>(alloc, state, &edit, Blank::new(1)))
-}
-
-/// The put of a fact into a cell.
-fn put_of(space: &Space, random: &mut Random, place: u32) -> Result<Edit>
-    ensures { IfOk result (IsEditOver space.now) }
-{
-    let region = any_cell(space, random)?;
-    Ok(Edit::Put(fact_of(place, region, random)?))
-}
-
-/// Makes so many edits of both states: how many were alike.
+/// Makes so many edits of both states: how many were alike, and the number of rows at the end.
 fn equal_edits(
     alloc: Global,
     viewed: &mut State<ByCount>,
     plain: &mut State<ByCount>,
     edits: u32,
-) -> Result<u64> {
+) -> Result<(u64, u64)> {
     let mut first = Random::new();
     let mut second = Random::new();
     let mut equal = 0u64;
@@ -87,7 +77,7 @@ fn equal_edits(
             equal = equal.wrapping_add(1);
         }
     }
-    Ok(equal)
+    Ok((equal, plain.row_count()))
 }
 
 /// Makes the same edit of both states, and asks both the same: whether they answer alike. Each has its own generator, and both
@@ -99,38 +89,43 @@ fn are_alike(
     first: &mut Random,
     second: &mut Random,
 ) -> Result<bool> {
-    let one = edit_once(alloc, viewed, first)?;
-    let other = edit_once(alloc, plain, second)?;
+    let one = edit_once(alloc, viewed, first, None)?;
+    let other = edit_once(alloc, plain, second, None)?;
     let terms = ask_once(viewed, first)?;
     Ok(one == other && are_same(&terms, &ask_once(plain, second)?))
 }
 
 /// Makes an edit: whether it was accepted.
-fn edit_once(alloc: Global, state: &mut State<ByCount>, random: &mut Random) -> Result<bool> {
-    let edit = any_edit(state.space(), random)?;
+fn edit_once(
+    alloc: Global,
+    state: &mut State<ByCount>,
+    random: &mut Random,
+    put: Option<u32>,
+) -> Result<bool> {
+    let edit = any_edit(state.space(), random, put)?;
     Ok(is_done::<Brand>(alloc, state, &edit, Blank::new(1)))
 }
 
 /// What the facts add up to in a region that the view serves.
 fn ask_once(state: &State<ByCount>, random: &mut Random) -> Result<Terms> {
-    let region = any_coarse(state.space(), random)?;
+    let region = any_region(state.space(), random, Drawn::Group)?;
     state.answer(region).ok().context("out of memory")
 }
 
-/// A fact that comes, changes or goes.
-fn any_edit(space: &Space, random: &mut Random) -> Result<Edit>
+/// The put of a fact into a cell, by its place, or where there is none any fact that comes, changes or goes.
+fn any_edit(space: &Space, random: &mut Random, put: Option<u32>) -> Result<Edit>
     ensures { IfOk result (IsEditOver space.now) }
 {
-    let place = random.below(IDS);
-    let kind = random.below(3);
-    let region = any_region(space, random)?;
+    let (place, kind, drawn) = match put {
+        Some(place) => (place, 0, Drawn::Leaf),
+        None => (random.below(IDS), random.below(3), Drawn::Node),
+    };
+    let region = any_region(space, random, drawn)?;
     let fact = fact_of(place, region, random)?;
-    Ok(if kind == 0 {
-        Edit::Put(fact)
-    } else if kind == 1 {
-        Edit::Change(fact)
-    } else {
-        Edit::Withdraw(fact.id)
+    Ok(match kind {
+        0 => Edit::Put(fact),
+        1 => Edit::Change(fact),
+        _ => Edit::Withdraw(fact.id),
     })
 }
 
@@ -179,7 +174,7 @@ fn are_same(terms: &Terms, others: &Terms) -> bool {
 
 /// A state without facts over a grouped space, with so many views.
 fn state_of(alloc: Global, views: u32, sizes: &[String]) -> Result<State<ByCount>> {
-    let space = grouped_space(alloc, sizes)?;
+    let space = space_of(alloc, sizes, GROUP)?;
     let defs = views_of(alloc, views, space.dims())?;
     State::new(alloc, space, shape_of(alloc)?, ByCount, &defs)
         .ok()
@@ -215,8 +210,4 @@ fn shape_of(alloc: Global) -> Result<Shape> {
         first_col: 1,
     };
     Ok(Shape::new(vec![in alloc; measure]?))
-}
-
-fn name_of(alloc: Global, text: &str) -> Result<Name> {
-    Name::new(alloc, text).ok().flatten().context("no name")
 }

@@ -55,24 +55,34 @@ pub fn spread_alone<P: WeightPolicy>(
     Ok(allocate(alloc, space, policy, &stats, &fact)?)
 }
 
-/// Whether a fact is spread evenly, whatever cells weigh.
-fn is_spread(alloc: Global, space: &Space, row: &Row) -> Result<bool, Fail> {
-    let (node, rows) = row;
-    Ok(
-        spread_alone(alloc, space, &Uniform, *node)?.rows() == *rows
-            && spread_alone(alloc, space, &ByCount, *node)?.rows() == *rows
-            && spread_alone(alloc, space, &BySum, *node)?.rows() == *rows,
-    )
+/// Whether a fact is spread evenly by a policy.
+fn is_spread<P: WeightPolicy>(
+    alloc: Global,
+    space: &Space,
+    policy: &P,
+    row: &Row,
+) -> Result<bool, Fail> {
+    let (node, rows) = *row;
+    let spread = spread_alone(alloc, space, policy, node)?;
+    Ok(spread.rows() == rows)
 }
 
-fn are_spread(alloc: Global, rows: &[Row]) -> Result<bool, Fail> {
-    let space = space_of(alloc, &[&PLACES])?;
+/// Whether facts are, whatever cells weigh.
+fn are_spread_over(alloc: Global, space: &Space, rows: &[Row]) -> Result<bool, Fail> {
     for row in rows {
-        if !is_spread(alloc, &space, row)? {
+        if !is_spread(alloc, space, &Uniform, row)?
+            || !is_spread(alloc, space, &ByCount, row)?
+            || !is_spread(alloc, space, &BySum, row)?
+        {
             return Ok(false);
         }
     }
     Ok(true)
+}
+
+fn are_spread(alloc: Global, rows: &[Row]) -> Result<bool, Fail> {
+    let space = space_of(alloc, &[&PLACES])?;
+    are_spread_over(alloc, &space, rows)
 }
 
 #[test]

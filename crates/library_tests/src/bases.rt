@@ -1,6 +1,6 @@
 //! Names, lists and sinks.
 use crate::fixtures::name_of;
-use cube_base::{MemSink, PlainList, Sink, write_whole};
+use cube_base::{MemSink, Names, PlainList, Sink, write_whole};
 use std::alloc::Global;
 use std::test::Fail;
 
@@ -10,13 +10,18 @@ const NAMES: [&str; 3] = ["a", "All products", LONGEST];
 const LONGEST: &str =
     "the longest name has one hundred and twenty-eight bytes, which is what a line of a schema leaves to it in each of all its fields";
 
-/// Whether a copy of the name stands in a list behind it.
-fn is_listed(alloc: Global, text: &str) -> Result<bool, Fail> {
+/// Appends a name and a copy of it.
+fn push_both(alloc: Global, names: &mut Names, text: &str) -> Result<(), Fail> {
     let name = name_of(alloc, text)?;
-    let copy = name.copy()?;
-    let mut names = PlainList::new(alloc);
+    names.push(name.copy()?)?;
     names.push(name)?;
-    names.push(copy)?;
+    Ok(())
+}
+
+/// Whether a copy of the name stands in a list beside it.
+fn is_listed(alloc: Global, text: &str) -> Result<bool, Fail> {
+    let mut names = Names::new(alloc);
+    push_both(alloc, &mut names, text)?;
     Ok(names.as_slice().iter().all(|name| name.text() == text))
 }
 

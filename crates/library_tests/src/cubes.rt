@@ -110,9 +110,18 @@ fn are_answered(cube: &Cube<BySum>, answers: &[Answer]) -> Result<bool, Fail> {
 }
 
 /// Whether edits are done one after another, and questions then answered.
+fn does_and_answers(
+    cube: &mut Cube<BySum>,
+    steps: &[Step],
+    answers: &[Answer],
+) -> Result<bool, Fail> {
+    Ok(are_done(cube, steps)? && are_answered(cube, answers)?)
+}
+
+/// One function alone owns the cube.
 fn are_done_and_answered(alloc: Global, steps: &[Step], answers: &[Answer]) -> Result<bool, Fail> {
     let mut cube = Cube::new(alloc, schema_of(alloc, REPAIRS)?, BySum)?;
-    Ok(are_done(&mut cube, steps)? && are_answered(&cube, answers)?)
+    does_and_answers(&mut cube, steps, answers)
 }
 
 #[test]
@@ -131,9 +140,13 @@ const FAULTS: [(EditFault, &str); 4] = [
     (EditFault::Memory, "no memory"),
 ];
 
+fn is_shown(alloc: Global, fault: &EditFault, text: &str) -> Result<bool, Fail> {
+    Ok(format!(in alloc; "{fault}")?.as_str() == text)
+}
+
 fn are_shown(alloc: Global, faults: &[(EditFault, &str)]) -> Result<bool, Fail> {
     for (fault, text) in faults {
-        if format!(in alloc; "{fault}")?.as_str() != *text {
+        if !is_shown(alloc, fault, text)? {
             return Ok(false);
         }
     }

@@ -1,5 +1,5 @@
 //! Dimensions built from nodes.
-use crate::fixtures::{Node, lines_of, name_of};
+use crate::fixtures::{Node, dim_of, name_of};
 use cube_model::NodeLine;
 use dim_tree::Dim;
 use std::alloc::Global;
@@ -26,13 +26,15 @@ fn plain_lines_of(alloc: Global, nodes: &[Node]) -> Result<Vec<NodeLine>, Fail> 
 
 /// How many nodes there are with their places as numbers.
 fn plain_len(alloc: Global, nodes: &[Node]) -> Result<u32, Fail> {
-    Ok(Dim::build(alloc, &plain_lines_of(alloc, nodes)?)?.len())
+    let lines = plain_lines_of(alloc, nodes)?;
+    let dim = Dim::build(alloc, &lines)?;
+    Ok(dim.len())
 }
 
 /// How many nodes there are with their numbers, in a copy.
 fn copied_len(alloc: Global, nodes: &[Node]) -> Result<u32, Fail> {
-    let dim = Dim::build_numbered(alloc, &lines_of(alloc, nodes)?)?;
-    Ok(dim.copy()?.len())
+    let copy = dim_of(alloc, nodes)?.copy()?;
+    Ok(copy.len())
 }
 
 /// Whether all nodes are there, with their places as numbers and with their numbers.

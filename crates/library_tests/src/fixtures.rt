@@ -31,11 +31,17 @@ pub fn lines_of(alloc: Global, nodes: &[Node]) -> Result<Vec<NumberedLine>, Fail
     Ok(lines)
 }
 
+/// The dimension of some nodes.
+pub fn dim_of(alloc: Global, nodes: &[Node]) -> Result<Dim, Fail> {
+    let lines = lines_of(alloc, nodes)?;
+    Ok(Dim::build_numbered(alloc, &lines)?)
+}
+
 /// The space over dimensions of these nodes.
 pub fn space_of(alloc: Global, dims: &[&[Node]]) -> Result<Space, Fail> {
     let mut built = Vec::new(alloc);
     for nodes in dims {
-        built.push(Dim::build_numbered(alloc, &lines_of(alloc, nodes)?)?)?;
+        built.push(dim_of(alloc, nodes)?)?;
     }
     Ok(Space::new(alloc, built).ok().ok_or("no space")?)
 }

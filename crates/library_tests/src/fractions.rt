@@ -1,7 +1,8 @@
 //! What a sum and a quotient print.
 use cube_model::MAX_SCALE;
-use exact_fraction::{Terms, one, ratio};
+use exact_fraction::{Quotient, Terms, Value, one, ratio};
 use std::alloc::Global;
+use std::fmt::Debug;
 use std::test::Fail;
 
 /// A column of terms of which there are none, and what its sum and its quotient print.
@@ -20,19 +21,25 @@ const PRINTED: [Row; 2] = [
     ),
 ];
 
+/// Whether a value prints so.
+fn prints<T: Debug>(alloc: Global, value: &T, text: &str) -> Result<bool, Fail> {
+    Ok(format!(in alloc; "{value:?}")?.as_str() == text)
+}
+
+/// The sum and the quotient of a column of no terms.
+fn both_of(alloc: Global, col: u32) -> Option<(Value, Quotient)> {
+    let terms = Terms::empty(alloc, 3);
+    if col >= terms.columns() {
+        return None;
+    }
+    Some((one(&terms, col), ratio(&terms, col, MAX_SCALE)))
+}
+
 /// Whether a column prints as its row says.
 fn is_printed(alloc: Global, row: &Row) -> Result<bool, Fail> {
-    let (col, sum, quotient) = row;
-    let terms = Terms::empty(alloc, 3);
-    if *col >= terms.columns() {
-        return Ok(false);
-    }
-    let value = one(&terms, *col);
-    let average = ratio(&terms, *col, MAX_SCALE);
-    Ok(
-        format!(in alloc; "{value:?}")?.as_str() == *sum
-            && format!(in alloc; "{average:?}")?.as_str() == *quotient,
-    )
+    let (col, sum, quotient) = *row;
+    let (value, average) = both_of(alloc, col).ok_or("no column")?;
+    Ok(prints(alloc, &value, sum)? && prints(alloc, &average, quotient)?)
 }
 
 fn are_printed(alloc: Global, rows: &[Row]) -> Result<bool, Fail> {

@@ -1,5 +1,5 @@
 //! Dimensions that grow leaf by leaf, against lists of nodes into which leaves are inserted.
-use crate::fixtures::{Node, lines_of, name_of};
+use crate::fixtures::{Node, dim_of, name_of};
 use cube_base::Name;
 use cube_model::{MAX_DEPTH, MAX_NODES};
 use dim_tree::Dim;
@@ -75,35 +75,54 @@ fn are_alike(left: &Dim, right: &Dim) -> bool {
     left.len() == right.len() && (0..left.len()).all(|place| are_alike_at(left, right, place))
 }
 
-fn dim_of(alloc: Global, nodes: &[Node]) -> Result<Dim, Fail> {
-    Ok(Dim::build_numbered(alloc, &lines_of(alloc, nodes)?)?)
+/// The dimension of nodes, with a leaf of this name more.
+fn grown_of(alloc: Global, nodes: &[Node], parent: u32, text: &str) -> Result<Dim, Fail> {
+    let name = name_of(alloc, text)?;
+    grown(&dim_of(alloc, nodes)?, parent, &name)
+}
+
+/// Whether a dimension is that of nodes.
+fn is_of(alloc: Global, dim: &Dim, nodes: &[Node]) -> Result<bool, Fail> {
+    let other = dim_of(alloc, nodes)?;
+    Ok(are_alike(dim, &other))
 }
 
 /// Whether a leaf under the node at a place makes the same of the dimension as of the list of its nodes, which gets it.
 fn grows_alike(alloc: Global, nodes: &mut Vec<Node>, place: usize) -> Result<bool, Fail> {
     let parent = nodes.get(place).ok_or("no parent")?.2;
     let text = *NAMES.get(nodes.len()).ok_or("no name")?;
-    let dim = grown(&dim_of(alloc, nodes)?, parent, &name_of(alloc, text)?)?;
+    let dim = grown_of(alloc, nodes, parent, text)?;
     insert_leaf(nodes, place, text)?;
-    Ok(are_alike(&dim, &dim_of(alloc, nodes)?))
+    is_of(alloc, &dim, nodes)
 }
 
 /// Whether so many leaves, each under a node by chance, grow alike. A tree that has all the names gives way to a new root.
 fn grow_alike(alloc: Global, leaves: u32) -> Result<bool, Fail> {
-    let mut chance = SEED;
     let mut nodes = Vec::new(alloc);
+    grow_each_alike(alloc, &mut nodes, leaves)
+}
+
+/// Whether so many grow alike from these nodes on.
+fn grow_each_alike(alloc: Global, nodes: &mut Vec<Node>, leaves: u32) -> Result<bool, Fail> {
+    let mut chance = SEED;
     for _ in 0..leaves {
-        if nodes.is_empty() || nodes.len() == NAMES.len() {
-            nodes.clear();
-            nodes.push((0, NAMES[0], 0))?;
-        }
+        plant_anew(nodes)?;
         chance = next_chance(chance);
         let place = chosen(chance, nodes.len());
-        if !grows_alike(alloc, &mut nodes, place)? {
+        if !grows_alike(alloc, nodes, place)? {
             return Ok(false);
         }
     }
     Ok(true)
+}
+
+/// Puts a root in place of no tree, and of one that has all the names.
+fn plant_anew(nodes: &mut Vec<Node>) -> Result<(), Fail> {
+    if nodes.is_empty() || nodes.len() == NAMES.len() {
+        nodes.clear();
+        nodes.push((0, NAMES[0], 0))?;
+    }
+    Ok(())
 }
 
 #[test]

@@ -11,6 +11,8 @@ mod cubes;
 #[cfg(test)]
 mod dims;
 #[cfg(test)]
+mod fact_files;
+#[cfg(test)]
 mod facts;
 #[cfg(test)]
 mod fixtures;

@@ -14,17 +14,27 @@ fn place_and_set(map: &mut Staged<u64>, key: u64) -> Result<(), Memory> {
     Ok(())
 }
 
-/// Whether the keys that were given a place and a value are those that have one.
-fn are_kept(alloc: Global, keys: &[u64]) -> Result<bool, Memory> {
+/// A map of keys that were given a place and a value.
+fn map_of(alloc: Global, keys: &[u64]) -> Result<Staged<u64>, Memory> {
     let mut map = Staged::new(alloc);
     for key in keys {
         place_and_set(&mut map, *key)?;
     }
+    Ok(map)
+}
+
+/// Whether these keys are those that have a value.
+fn has_just(map: &Staged<u64>, keys: &[u64]) -> Result<bool, Memory> {
     let kept = map.keys()?;
     Ok(
         kept.as_slice().iter().all(|key| map.get(*key) == Some(key))
             && keys.iter().all(|key| kept.as_slice().contains(key)),
     )
+}
+
+fn are_kept(alloc: Global, keys: &[u64]) -> Result<bool, Memory> {
+    let map = map_of(alloc, keys)?;
+    has_just(&map, keys)
 }
 
 fn are_each_kept(alloc: Global, lists: &[[u64; 4]]) -> bool {

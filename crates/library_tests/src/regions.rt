@@ -42,6 +42,5 @@ fn are_made(rows: &[Row]) -> bool {
 
 #[test]
 fn regions_have_up_to_six_nodes(rt: HostRuntime) {
-    assert!(rt; are_made(&NODES));
-    assert!(rt; Region::of_node(4).node(0) == 4);
+    assert!(rt; are_made(&NODES) && Region::of_node(4).node(0) == 4);
 }

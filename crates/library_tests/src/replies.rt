@@ -27,14 +27,28 @@ fn rows_reply(alloc: Global, schema: &Schema) -> Result<Reply, Fail>
     })
 }
 
-/// Whether a reply has this text, alone and behind itself.
-fn is_written(alloc: Global, schema: &Schema, reply: &Reply, text: &str) -> Result<bool, Fail>
+/// Whether this text is written of a reply.
+fn is_written_alone(alloc: Global, schema: &Schema, reply: &Reply, text: &str) -> Result<bool, Fail>
     requires { NamesCells schema.now.dims reply.now }
 {
     let written = write_reply(alloc, schema, reply)?;
+    Ok(written.as_slice() == text.as_bytes())
+}
+
+/// Whether this text is appended of a reply.
+fn is_appended(alloc: Global, schema: &Schema, reply: &Reply, text: &str) -> Result<bool, Fail>
+    requires { NamesCells schema.now.dims reply.now }
+{
     let mut appended = Vec::new(alloc);
     append_reply(&mut appended, schema, reply)?;
-    Ok(written.as_slice() == text.as_bytes() && written.as_slice() == appended.as_slice())
+    Ok(appended.as_slice() == text.as_bytes())
+}
+
+/// Whether a reply has this text, either way.
+fn is_written(alloc: Global, schema: &Schema, reply: &Reply, text: &str) -> Result<bool, Fail>
+    requires { NamesCells schema.now.dims reply.now }
+{
+    Ok(is_written_alone(alloc, schema, reply, text)? && is_appended(alloc, schema, reply, text)?)
 }
 
 /// Whether replies of one field are written.
@@ -58,13 +72,17 @@ fn are_rows_written(alloc: Global, schema: &Schema) -> Result<bool, Fail> {
 }
 
 /// Whether a reply of each kind is written.
+fn are_each_written(alloc: Global, schema: &Schema) -> Result<bool, Fail> {
+    Ok(
+        are_short_written(alloc, schema)?
+            && are_terms_written(alloc, schema)?
+            && are_rows_written(alloc, schema)?,
+    )
+}
+
 fn are_written(alloc: Global) -> Result<bool, Fail> {
     let schema = schema_of(alloc, TEXAS)?;
-    Ok(
-        are_short_written(alloc, &schema)?
-            && are_terms_written(alloc, &schema)?
-            && are_rows_written(alloc, &schema)?,
-    )
+    are_each_written(alloc, &schema)
 }
 
 #[test]

@@ -40,10 +40,15 @@ fn are_coded(space: &Space, rows: &[Row]) -> bool {
     rows.iter().all(|(nodes, code, cells)| is_coded(space, nodes, *code, *cells))
 }
 
+/// Whether a copy of the space has these regions.
+fn is_copied(alloc: Global, rows: &[Row]) -> Result<bool, Fail> {
+    let copy = space_of(alloc, &DIMS)?.copy()?;
+    Ok(are_coded(&copy, rows))
+}
+
 #[test]
 fn spaces_are_made_and_copied(rt: HostRuntime) -> Result<(), Fail> {
-    let space = space_of(rt.alloc(), &DIMS)?;
-    assert!(rt; are_coded(&space.copy()?, &REGIONS));
+    assert!(rt; is_copied(rt.alloc(), &REGIONS)?);
     Ok(())
 }
 
@@ -64,9 +69,14 @@ fn with_van(alloc: Global, space: &Space) -> Result<Space, Fail> {
     Ok(space.grown(1, 0, van).ok().ok_or("refused")?)
 }
 
+/// Whether the space with one more kind of auto has these regions.
+fn is_grown(alloc: Global, rows: &[Row]) -> Result<bool, Fail> {
+    let larger = with_van(alloc, &space_of(alloc, &DIMS)?)?;
+    Ok(are_coded(&larger, rows))
+}
+
 #[test]
 fn spaces_grow(rt: HostRuntime) -> Result<(), Fail> {
-    let space = space_of(rt.alloc(), &DIMS)?;
-    assert!(rt; are_coded(&with_van(rt.alloc(), &space)?, &LARGER_REGIONS));
+    assert!(rt; is_grown(rt.alloc(), &LARGER_REGIONS)?);
     Ok(())
 }

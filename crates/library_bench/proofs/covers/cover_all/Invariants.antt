@@ -1,4 +1,4 @@
-use Rattle.engine_tests.proofs.covers.are_covered.Given as goal
+use Rattle.library_bench.proofs.covers.cover_all.Given as goal
 
 -- the steps are counted by the ledger of the blank
 abbrev pub ghosts-ids_over : goal.ghosts-ids_over

@@ -1,4 +1,4 @@
-use Rattle.library_bench.proofs.covers.found_over.Given as goal
+use Rattle.engine_tests.proofs.covers.is_covered.Given as goal
 
 -- the steps are counted by the ledger of the blank
 abbrev pub ghosts-ids_over : goal.ghosts-ids_over

@@ -1,4 +1,4 @@
-use Rattle.engine_tests.proofs.patterns.are_found.Given as goal
+use Rattle.engine_tests.proofs.patterns.is_found.Given as goal
 
 -- the steps are counted by the ledger of the blank
 abbrev pub ghosts-ids_by_patterns : goal.ghosts-ids_by_patterns

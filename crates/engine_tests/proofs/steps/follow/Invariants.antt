@@ -1,5 +1,5 @@
 use Rattle.kept_spread.specs.Kept.{AreKept}
-use Rattle.engine_tests.proofs.steps.are_stepped.Given as goal
+use Rattle.engine_tests.proofs.steps.follow.Given as goal
 
 -- the allocation is the one by the statistics
 abbrev pub invariant-loop-changed : goal.invariant-loop-changed
