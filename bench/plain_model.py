@@ -1,5 +1,5 @@
 #!/usr/bin/env python3
-"""A plain model of `cube try`, to compare the program with: plain_model.py try <INPUT
+"""A plain model of `cube try`, and of files of facts, to compare the program with: plain_model.py try <INPUT
 
 It is the definitions made literal: lists, filters and sums over whole numbers of any size, cells listed one by one, and
 every fact allocated anew at each line. It shares nothing with the program, is slow, and is meant to be read.
@@ -7,6 +7,8 @@ every fact allocated anew at each line. It shares nothing with the program, is s
 Left out are faults of the streams, want of memory, and the limit on the bytes of the input. Words of schemas and scripts
 that the program does not have yet are refused here as any unknown word is.
 """
+import csv
+import io
 import sys
 from fractions import Fraction
 from itertools import product
@@ -149,6 +151,7 @@ class View(NamedTuple):
 
 
 class Schema(NamedTuple):
+    names: list  # of the dimensions
     weight: Callable  # what a cell weighs by its number of precise facts, and by the sum of the weight measure over them
     weight_measure: int | None  # its place among the measures
     measures: list
@@ -311,7 +314,7 @@ def read_schema(lines):
             raise SchemaFault(place, refused.code) from None
         if draft.last_word == b"end":
             measure = weight_measure_of(draft)
-            schema = Schema(draft.weight, measure, draft.measures, dimensions_of(draft), draft.views)
+            schema = Schema(draft.dimensions, draft.weight, measure, draft.measures, dimensions_of(draft), draft.views)
             return schema, lines[place:]
     raise SchemaFault(len(lines) + 1, "cut")
 
@@ -720,6 +723,83 @@ def do_lines(schema, lines):
             refusals += 1
         replies.append(reply)
     return b"".join(replies), refusals
+
+
+# Files of facts. What a record is, Python's `csv` says.
+
+MARK = b"\xef\xbb\xbf"  # of the order of bytes
+
+
+class BadRecord(Exception):
+    """The first record of a file that is refused, the header having index 0, and its code."""
+
+    def __init__(self, index, code):
+        super().__init__(index, code)
+        self.index = index
+        self.code = code
+
+
+class TooManyRows(Exception):
+    """All facts with those of a file would have so many rows."""
+
+    def __init__(self, would):
+        super().__init__(would)
+        self.would = would
+
+
+def records_of(file):
+    """The records of a file behind one mark. An empty line is none. Bytes go through as characters of one byte each."""
+    text = file.removeprefix(MARK).decode("latin-1")
+    rows = csv.reader(io.StringIO(text, newline=""))
+    return [[field.encode("latin-1") for field in row] for row in rows if row]
+
+
+def header_of(schema):
+    return [b"id", *schema.names, *(measure.name for measure in schema.measures)]
+
+
+def read_record(schema, facts, record):
+    """The fact of a record, which may be put where these are."""
+    refuse_where(len(record) != len(header_of(schema)), "fields")
+    refuse_where(not all(map(is_utf8, record)), "text")
+    fact = read_fact(schema, *record)
+    refuse_where(has_id(facts, fact.id), "exists")
+    refuse_where(cell_count(schema, fact.region) > MAX_CELLS, "region")
+    refuse_where(len(facts) >= MAX_FACTS, "facts")
+    return fact
+
+
+def import_file(schema, facts, file):
+    """The reply to a file of facts, and the facts after it."""
+    header, *records = records_of(file) or [[]]
+    if header != header_of(schema):
+        raise BadRecord(0, "header")
+    later = facts
+    for index, record in enumerate(records, 1):
+        try:
+            later = with_fact(later, read_record(schema, later, record))
+        except Refused as refused:
+            raise BadRecord(index, refused.code) from None
+    after = extended(schema, later)
+    would = sum(len(allocation.rows) for _, allocation in after)
+    if would > MAX_ROWS:
+        raise TooManyRows(would)
+    return reply_line(b"imported", len(records), len(refreshed(extended(schema, facts), after))), later
+
+
+def values_text(values):
+    return ":".join(map(str, values))
+
+
+def export_file(schema, facts):
+    """The file of facts, in order of their ids."""
+    out = io.StringIO(newline="")
+    rows = csv.writer(out, lineterminator="\n")
+    rows.writerow(field.decode("latin-1") for field in header_of(schema))
+    for fact in sorted(facts, key=lambda fact: fact.id):
+        nodes = [dim.names[node].decode("latin-1") for dim, node in zip(schema.dimensions, fact.region)]
+        rows.writerow([fact.id, *nodes, *map(values_text, fact.values)])
+    return out.getvalue().encode("latin-1")
 
 
 # The program.

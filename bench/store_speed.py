@@ -1,17 +1,21 @@
 #!/usr/bin/env python3
-"""How long stores take: store_speed.py PROGRAM
+"""How long stores take: store_speed.py PROGRAM [FOLDER]
 
 `check` of a store of a million precise facts that SQLite made, with its seconds of a processor and its memory; and a script of ten thousand
-inserts over a store, beside the same script without one, and beside the same rows put by SQLite from Python, a transaction each.
+inserts over a store, beside the same script without one, and beside the same rows put by SQLite from Python, a transaction each. Last, three
+times in turn, the script beside the same batches through the `sqlite` crate of the kit alone: `sqlite_alone`, which is proved and built first,
+in some three minutes where that was never done. The stores are made in FOLDER, the current one where none is named.
 """
 import os
 import resource
+import shutil
 import sqlite3
 import struct
 import subprocess
 import sys
 import tempfile
 import time
+from pathlib import Path
 
 sys.dont_write_bytecode = True
 
@@ -20,6 +24,7 @@ import stores
 FACTS = 1_000_000
 EDITS = 10_000
 CITIES = 1000
+RUNS = 3
 
 
 def schema():
@@ -71,9 +76,47 @@ def put_by_sqlite(path):
     return now.ru_utime + now.ru_stime - used.ru_utime - used.ru_stime, time.time() - start
 
 
+def built_alone(name, libraries, words, text, folder):
+    """A program over libraries of the kit alone, built from its source beside this script, as a project of its own: the gate has no part in it,
+    and would stop at a source that no crate has, by its ending. It is tried on these words and this input."""
+    crate = Path(folder, "crates", name)
+    (crate / "src").mkdir(parents=True)
+    shutil.copy(Path(__file__).parent / f"{name}.rt.txt", crate / "src" / "main.rt")
+    Path(folder, "crates.txt").write_text(f"{name}: {libraries}\n")
+    built = subprocess.run(["rt", "run", "--", *words], input=text, cwd=crate, capture_output=True)
+    if built.returncode != 0:
+        sys.exit(f"bench: {name} is not built: {built.stdout[-2000:]}{built.stderr[-2000:]}")
+    return crate / "out" / name
+
+
+def content(path):
+    base = sqlite3.connect(f"file:{path}?mode=ro", uri=True)
+    kept = [base.execute(f"SELECT * FROM {table} ORDER BY id").fetchall() for table in ("fact", "alloc")]
+    base.close()
+    return kept
+
+
+def against_alone(program, alone, folder, script):
+    """The script beside its batches through the `sqlite` crate alone, plain and with the tables that are missing made in each batch."""
+    stores.must(stores.call(program, ["init", f"{folder}/cube.cube"], schema())[:2], (b"ok\t0\n", 0), "init")
+    seconds, clock, _, said, status = timed(["run", f"{folder}/cube.cube"], script, program)
+    stores.must((said, status), (b"ok\t1\n" * EDITS, 0), "run")
+    text = f"run of {EDITS} inserts: {seconds:.2f} s of a processor, {clock:.2f} s on the clock"
+    for what, words in ("the sqlite crate alone", []), ("with its tables made in each batch", ["tables"]):
+        path = f"{folder}/alone.cube"
+        by_alone, clock, _, said, status = timed([path, str(EDITS), *words], b"", alone)
+        stores.must((said, status), (f"{EDITS}\n".encode(), 0), "sqlite_alone")
+        stores.must(content(path), content(f"{folder}/cube.cube"), "rows of sqlite_alone")
+        text += f"; {what} {by_alone:.2f} and {clock:.2f}, {seconds / by_alone:.2f} times"
+        for file in Path(folder).glob("alone.cube*"):
+            file.unlink()
+    print(text)
+
+
 def main():
     program = sys.argv[1]
-    with tempfile.TemporaryDirectory(dir=".") as folder:
+    place = sys.argv[2] if len(sys.argv) > 2 else "."
+    with tempfile.TemporaryDirectory(dir=place) as folder, tempfile.TemporaryDirectory() as project:
         path = f"{folder}/million.cube"
         made_by_sqlite(path)
         seconds, clock, memory, said, status = timed(["check", path], b"", program)
@@ -87,8 +130,12 @@ def main():
         seconds, clock, memory, said, status = timed(["try"], schema() + script, program)
         stores.must((said, status), (b"ok\t1\n" * EDITS, 0), "try")
         print(f"try of the same: {seconds:.2f} s of a processor, {clock:.2f} s on the clock, {memory:.0f} MB")
-        seconds, clock = put_by_sqlite(f"{folder}/alone.cube")
+        seconds, clock = put_by_sqlite(f"{folder}/python.cube")
         print(f"the same rows by stock SQLite from Python: {seconds:.2f} s of a processor, {clock:.2f} s on the clock")
+        alone = built_alone("sqlite_alone", "anyhow sqlite", [f"{folder}/tried.cube", "1"], b"", project)
+        for _ in range(RUNS):
+            with tempfile.TemporaryDirectory(dir=place) as run:
+                against_alone(program, alone, run, script)
 
 
 if __name__ == "__main__":
