@@ -14,11 +14,11 @@ use Rattle.schema_text.specs.SchemaText.{BadLine, schema_of}
 use Rattle.stored_state.specs.Sound.{IsFinding, IsSound}
 use Rattle.stored_state.specs.declared.finding.Finding.{Finding}
 use Rattle.stored_state.specs.declared.finding.Finding.TheVariants as finding
-use Rattle.script_run.specs.Seen.{KeepFailed, KeeperSeen, WriteFailed}
+use Rattle.script_run.specs.Seen.{KeepFailed, KeeperSeen, ReadFailed, SourceSeen, WriteFailed}
 use Rattle.cube_cli.specs.End.{EndsImport, EndsInit, EndsRun, EndsTask, EndsTelling, ImportOver, InitOver, IsCompleteInit, IsCompleteTask, IsCompleteTelling, IsDone, IsImportDone, IsTaskDone, RunOver, SaysOfStore, SaysOfTask, SaysOfTelling, TaskOver, TellingOver}
-use Rattle.cube_cli.specs.Input.{INPUT_LIMIT, GoesOn}
+use Rattle.line_cutter.specs.Input.{INPUT_LIMIT, GoesOn}
 use Rattle.cube_cli.specs.SchemaAlone.{schema_alone}
-use Rattle.cube_cli.specs.Seen.{ReadFailed, Seen, SourceSeen, WasRead}
+use Rattle.cube_cli.specs.Seen.{Seen, WasRead}
 use Rattle.cube_cli.specs.Store.{Finds, FindsBy, IsSoundContent, IsSoundOver, policy_of}
 use Rattle.cube_cli.specs.declared.command.StoreCommand.TheVariants.{Init}
 use Rattle.cube_cli.specs.declared.store.InputTask.{InputTask}
@@ -28,7 +28,7 @@ use Rattle.cube_cli.specs.declared.end.End.{End}
 use Rattle.cube_cli.specs.declared.end.End.TheVariants.{Finished, Usage, Schema, NoCube, HasCube, BadStore, ReadFault, WriteFault, KeepFault, Memory, TooLong, BadRecord, ImportRows}
 
 -- an input that goes on behind the limit is longer
-not_longer : (left after : Option (List ℕ)) (P : List ℕ → Type 0) → GoesOn INPUT_LIMIT left after → IfSome left (λ input. length input ≤ INPUT_LIMIT → P input)
+pub not_longer : (left after : Option (List ℕ)) (P : List ℕ → Type 0) → GoesOn INPUT_LIMIT left after → IfSome left (λ input. length input ≤ INPUT_LIMIT → P input)
 not_longer None after P goes = tt
 not_longer (Some input) None P goes = absurd goes.bytes
 not_longer (Some input) (Some rest) P goes = λ few. absurd (omega (arith, few, goes.above, ap length goes.bytes, length-append goes.input rest))
@@ -41,11 +41,11 @@ of_read source P Q says read = each source.left read
     each None here = tt
     each (Some input) here = says input here.2
 
-of_all : {X : Type 0} (told : Option X) (P : X → Type 0) → ((x : X) → P x) → IfSome told P
+pub of_all : {X : Type 0} (told : Option X) (P : X → Type 0) → ((x : X) → P x) → IfSome told P
 of_all None P each = tt
 of_all (Some x) P each = each x
 
-of_told : {X : Type 0} (told : Option X) (P Q : X → Type 0) → ((x : X) → P x → Q x) → IfSome told P → IfSome told Q
+pub of_told : {X : Type 0} (told : Option X) (P Q : X → Type 0) → ((x : X) → P x → Q x) → IfSome told P → IfSome told Q
 of_told None P Q weaker here = tt
 of_told (Some x) P Q weaker here = weaker x here
 
@@ -110,7 +110,7 @@ module _ (seen : Seen) (keeper : KeeperSeen) where
   done_run NoCube ends read write keep content over sound = absurd (not_empty content sound over)
   done_run (BadStore found) ends read write keep content over sound = absurd (nothing_found content found sound over.1)
   done_run (ReadFault done) ends read write keep content over sound = absurd (read ends.cause)
-  done_run (TooLong done) ends read write keep content over sound = not_longer seen.source.left seen.source.left_after (λ input. ⊥) ends.long
+  done_run (TooLong done) ends read write keep content over sound = not_longer seen.source.left seen.source.left_after (λ input. ⊥) ends.1
   done_run (WriteFault done) ends read write keep content over sound = absurd (write ends.cause)
   done_run (KeepFault done) ends read write keep content over sound = absurd (keep ends.cause)
   done_run (BadRecord bad) ends read write keep content over sound = absurd ends

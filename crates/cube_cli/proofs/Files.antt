@@ -13,11 +13,11 @@ use Rattle.fact_sequence.specs.declared.fact_seq.FactSeq.{FactSeq}
 use Rattle.schema_text.specs.Schema.{SchemaValue, policy_in}
 use Rattle.stored_state.specs.Sound.{facts_told}
 use Rattle.script_run.specs.Kept.{Commits}
-use Rattle.script_run.specs.Seen.{KeeperSeen, NoKeepFault, NoWriteFault, SinkSeen, WroteNothing}
+use Rattle.script_run.specs.Seen.{KeeperSeen, NoKeepFault, NoReadFault, NoWriteFault, SinkSeen, WroteNothing}
 use Rattle.cube_cli.specs.End.{DidNothing, EndsImport, ImportOver, NoFaultAtAll, TookFile}
 use Rattle.cube_cli.specs.Files.{EndsImporting, ImportedNothing, Imports, count_line, imported_line, seq_of}
-use Rattle.cube_cli.specs.Input.{INPUT_LIMIT, Taken}
-use Rattle.cube_cli.specs.Seen.{NoReadFault, Seen, WasRead}
+use Rattle.line_cutter.specs.Input.{INPUT_LIMIT, Taken}
+use Rattle.cube_cli.specs.Seen.{Seen, WasRead}
 use Rattle.cube_cli.specs.Steps.{IsCubeOf, TellsText}
 use Rattle.cube_cli.specs.Store.{policy_of}
 use Rattle.cube_cli.specs.declared.end.End.{End}

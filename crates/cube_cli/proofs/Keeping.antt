@@ -6,11 +6,11 @@ use Rattle.fact_keeper.specs.Batch.{empty_content}
 use Rattle.fact_keeper.specs.declared.content.Stored.{Stored}
 use Rattle.schema_text.specs.Schema.{SchemaValue}
 use Rattle.script_run.specs.Kept.{Commits}
-use Rattle.script_run.specs.Seen.{KeeperSeen, NoKeepFault, SinkSeen, Told, WroteNothing}
+use Rattle.script_run.specs.Seen.{KeeperSeen, NoKeepFault, NoReadFault, SinkSeen, Told, WroteNothing}
 use Rattle.cube_cli.specs.End.{DidNothing, EndsInit, INIT_LINE, InitOver, SaysOfStore, WritesLine}
-use Rattle.cube_cli.specs.Input.{INPUT_LIMIT, Taken}
+use Rattle.line_cutter.specs.Input.{INPUT_LIMIT, Taken}
 use Rattle.cube_cli.specs.SchemaAlone.{schema_alone}
-use Rattle.cube_cli.specs.Seen.{NoReadFault, Seen, WasRead}
+use Rattle.cube_cli.specs.Seen.{Seen, WasRead}
 use Rattle.cube_cli.specs.Steps.{EndsKeeping, KeptAnd}
 use Rattle.cube_cli.specs.Store.{CommitsSchema, IsUntouched, schema_batch}
 use Rattle.cube_cli.specs.declared.end.End.{End}

@@ -1,5 +1,5 @@
 -- What each end of a run says of the words, of the input, of the store and of what was written.
-use Rattle.std.specs.Prelude.{◌≡◌, ◌≢◌, ℕ, ◌+◌, ◌≤◌, List, [], ◌∷◌, ◌⊎◌, length, take, drop, codes, ⊤, Option, Some, None, IfSome, IsSome, IsSomeAnd, IsOk, IsOkAnd, Ok, Err}
+use Rattle.std.specs.Prelude.{◌≡◌, ◌≢◌, ℕ, ◌+◌, ◌≤◌, true, List, [], ◌∷◌, ◌⊎◌, length, take, drop, codes, ⊤, Option, Some, None, IfSome, IsSome, IsSomeAnd, IsOk, IsOkAnd, Ok, Err}
 use Rattle.std.specs.Option.{option_map, option_map_or}
 use Rattle.std.specs.Result.{result_ok}
 use Rattle.std.specs.List.{concat}
@@ -15,13 +15,16 @@ use Rattle.schema_text.specs.Schema.{SchemaValue}
 use Rattle.stored_state.specs.Sound.{facts_told}
 use Rattle.script_run.specs.Kept.{Commits}
 use Rattle.script_run.specs.Run.{Outcome, run_of}
-use Rattle.script_run.specs.Seen.{KeepFailed, KeeperSeen, NoKeepFault, NoWriteFault, SinkSeen, WriteFailed, Wrote, WroteNothing}
+use Rattle.script_run.specs.Seen.{KeepFailed, KeeperSeen, NoKeepFault, NoReadFault, NoWriteFault, ReadFailed, SinkSeen, SourceSeen, WriteFailed, Wrote, WroteNothing}
 use Rattle.script_run.specs.Written.{Answered, Broken, Stopped}
 use Rattle.cube_cli.specs.Command.{command_of}
 use Rattle.cube_cli.specs.Files.{EndsImporting, text_told}
-use Rattle.cube_cli.specs.Input.{INPUT_LIMIT, GoesOn, TakesAtMost}
+use Rattle.line_cutter.specs.Input.{INPUT_LIMIT, GoesOn, TakesAtMost}
+use Rattle.line_cutter.specs.Pieces.{lf_count, line_end}
+use Rattle.line_cutter.specs.Reading.{PIECE_LIMIT}
 use Rattle.cube_cli.specs.SchemaAlone.{schema_alone}
-use Rattle.cube_cli.specs.Seen.{NoFault, NoReadFault, ReadFailed, ReadNothing, Seen, SourceSeen, WasRead}
+use Rattle.cube_cli.specs.SchemaLines.{has_end}
+use Rattle.cube_cli.specs.Seen.{NoFault, ReadNothing, Seen, Took, WasRead}
 use Rattle.cube_cli.specs.Store.{CommitsSchema, Finds, Holds, IsSoundContent, IsSoundOver, IsUntouched, batches_over, outcome_over, policy_of, replies_over}
 use Rattle.cube_cli.specs.declared.command.Command.{Command}
 use Rattle.cube_cli.specs.declared.command.Command.TheVariants.{Drill, Store, Try}
@@ -49,10 +52,20 @@ outcome_of input = option_map (λ read. run_of read.schema (script_of input read
 abbrev pub replies_of : List ℕ → List (List ℕ)
 replies_of input = option_map_or (λ outcome. outcome.replies) (outcome_of input) []
 
--- the whole input is read before a line is done
-pub record NoneDone (done : ℕ) (sink : SinkSeen) : Type 0 where
-  pub none : done ≡ 0
-  pub nothing : WroteNothing sink
+-- how many lines of its script end in what was taken of an input, and how many bytes it has up to and with the LF of its script's
+-- n-th line
+abbrev pub script_lines_in : List ℕ → List ℕ → ℕ
+script_lines_in input taken = option_map_or (λ read. lf_count (drop read.size taken)) (schema_in input) 0
+
+abbrev pub script_line_end : List ℕ → ℕ → ℕ
+script_line_end input n = option_map_or (λ read. read.size + line_end (drop read.size input) n) (schema_in input) 0
+
+-- Reading stopped behind these bytes of an input. If its schema is refused, the line `end` had not come; else the lines of the script
+-- that had come whole are done and answered.
+pub record StoppedReading (input taken : List ℕ) (done : ℕ) (sink : SinkSeen) : Type 0 where
+  pub count : done ≡ script_lines_in input taken
+  pub awaits : has_end taken ≡ true → IsSome (schema_in input)
+  pub answered : Answered (replies_of input) done sink
 
 -- no command was named: nothing was read, nothing written
 abbrev pub SaysOfNone : Seen → End → Type 0
@@ -80,17 +93,17 @@ SaysOfTry seen (BadRecord _) = ⊥
 SaysOfTry seen (ImportRows _) = ⊥
 SaysOfTry seen (KeepFault _) = ⊥
 -- the input's schema is refused: this is its first line at fault, and why
-SaysOfTry seen (Schema line why) = NoFault seen × WroteNothing seen.sink × WasRead seen.source (λ input. schema_of input ≡ Err (record { line = line; reason = why }))
+SaysOfTry seen (Schema line why) = NoFault seen × WroteNothing seen.sink × IfSome seen.source.left (λ input. schema_of input ≡ Err (record { line = line; reason = why }))
 -- the bytes written are the replies of the run, which refuses so many lines
 SaysOfTry seen (Finished refused) = NoFault seen
     × WasRead seen.source (λ input. IsSomeAnd (outcome_of input) (λ outcome. (refused ≡ outcome.refused) × Appends seen.sink.taken seen.sink.taken_after (concat outcome.replies)))
--- a read failed, and the lines before it are answered
-SaysOfTry seen (ReadFault done) = ReadFailed seen.source × NoWriteFault seen.sink × IfSome seen.source.left (λ input. Answered (replies_of input) done seen.sink) × NoneDone done seen.sink
--- 2^30 bytes were taken, and one more came; the lines before it are answered
-SaysOfTry seen (TooLong done) = NoFault seen × GoesOn INPUT_LIMIT seen.source.left seen.source.left_after × IfSome seen.source.left (λ input. Answered (replies_of input) done seen.sink)
-    × NoneDone done seen.sink
--- a write failed: the last of the first `done` replies is not whole
-SaysOfTry seen (WriteFault done) = WriteFailed seen.sink × NoReadFault seen.source × WasRead seen.source (λ input. Wrote seen.sink.taken seen.sink.taken_after (Broken (replies_of input) done))
+-- a read failed, and the lines that had come whole are answered
+SaysOfTry seen (ReadFault done) = ReadFailed seen.source × NoWriteFault seen.sink × IfSome seen.source.left (λ input. Took seen.source (λ taken. StoppedReading input taken done seen.sink))
+-- 2^30 bytes were taken, and one more came; the lines that had come whole before it are answered
+SaysOfTry seen (TooLong done) = NoFault seen × GoesOn INPUT_LIMIT seen.source.left seen.source.left_after × IfSome seen.source.left (λ input. StoppedReading input (take INPUT_LIMIT input) done seen.sink)
+-- a write failed: the last of the first `done` replies is not whole, and its line ends in the last piece that was taken
+SaysOfTry seen (WriteFault done) = WriteFailed seen.sink × NoReadFault seen.source
+    × IfSome seen.source.left (λ input. Wrote seen.sink.taken seen.sink.taken_after (Broken (replies_of input) done) × TakesAtMost (script_line_end input done + PIECE_LIMIT) seen.source.left seen.source.left_after)
 -- memory was wanting
 SaysOfTry seen (Memory done) = NoFault seen × IfSome seen.source.left (λ input. Wrote seen.sink.taken seen.sink.taken_after (Stopped (replies_of input) done))
 
@@ -230,6 +243,12 @@ InitOver content (KeepFault _) = ⊤
 InitOver content (Memory _) = ⊤
 InitOver content end = content ≡ empty_content
 
+-- a read failed, and nothing else
+pub record OnlyReadFailed (seen : Seen) (keeper : KeeperSeen) : Type 0 where
+  pub cause : ReadFailed seen.source
+  pub write : NoWriteFault seen.sink
+  pub keep : NoKeepFault keeper
+
 -- What each end says of a run of `run`, whatever the store holds.
 abbrev pub EndsRun : Seen → KeeperSeen → End → Type 0
 EndsRun seen keeper Usage = ⊥
@@ -240,8 +259,8 @@ EndsRun seen keeper (ImportRows _) = ⊥
 EndsRun seen keeper NoCube = LeftAll seen keeper
 EndsRun seen keeper (BadStore found) = LeftAll seen keeper
 EndsRun seen keeper (Finished refused) = NoFaultAtAll seen keeper
-EndsRun seen keeper (ReadFault done) = FailedReading seen keeper done
-EndsRun seen keeper (TooLong done) = TookLong seen keeper done
+EndsRun seen keeper (ReadFault done) = OnlyReadFailed seen keeper
+EndsRun seen keeper (TooLong done) = NoFaultAtAll seen keeper × GoesOn INPUT_LIMIT seen.source.left seen.source.left_after
 EndsRun seen keeper (WriteFault done) = FailedWriting seen keeper
 EndsRun seen keeper (KeepFault done) = FailedKeeping seen keeper
 EndsRun seen keeper (Memory done) = NoFaultAtAll seen keeper
@@ -265,11 +284,19 @@ pub record WantedMemory (content : Stored) (lines : List (List ℕ)) (done : ℕ
   pub wrote : Wrote seen.sink.taken seen.sink.taken_after (Stopped (replies_over content lines) done)
   pub kept : KeptFirst content lines done keeper
 
--- They stopped at the keeper behind the first so many, whose replies are all written: the line behind these commits.
-pub record StoppedAtEdit (content : Stored) (lines : List (List ℕ)) (done : ℕ) (seen : Seen) (keeper : KeeperSeen) : Type 0 where
+-- They stopped behind the first so many: the replies to these are all written, and what these commit is kept.
+pub record StoppedBehind (content : Stored) (lines : List (List ℕ)) (done : ℕ) (seen : Seen) (keeper : KeeperSeen) : Type 0 where
   pub answered : Answered (replies_over content lines) done seen.sink
   pub kept : KeptFirst content lines done keeper
+
+-- They stopped so at the keeper: the line behind these commits.
+pub record StoppedAtEdit (content : Stored) (lines : List (List ℕ)) (done : ℕ) (seen : Seen) (keeper : KeeperSeen) : Type 0 where
+  pub behind : StoppedBehind content lines done seen keeper
   pub next : length (batches_over content (take (done + 1) lines)) ≡ length (batches_over content (take done lines)) + 1
+
+-- no more was taken than to the LF of the n-th line and one piece
+abbrev pub TookToLine : Seen → List ℕ → ℕ → Type 0
+TookToLine seen input n = TakesAtMost (line_end input n + PIECE_LIMIT) seen.source.left seen.source.left_after
 
 -- What each end of `run` says of a content that the store held.
 abbrev pub RunOver : Stored → Seen → KeeperSeen → End → Type 0
@@ -283,11 +310,12 @@ RunOver content seen keeper NoCube = content ≡ empty_content
 -- this is found in it first
 RunOver content seen keeper (BadStore found) = (content ≢ empty_content) × Finds content found
 RunOver content seen keeper (Finished refused) = IsSoundContent content × WasRead seen.source (λ input. Ran content (lines_of input) refused seen keeper)
-RunOver content seen keeper (ReadFault done) = IsSoundContent content
-RunOver content seen keeper (TooLong done) = IsSoundContent content
-RunOver content seen keeper (WriteFault done) = IsSoundContent content × WasRead seen.source (λ input. BrokeOff content (lines_of input) done seen keeper)
+-- a read failed, or 2^30 bytes were taken and one more came, behind the lines that had come whole
+RunOver content seen keeper (ReadFault done) = IsSoundContent content × IfSome seen.source.left (λ input. Took seen.source (λ taken. done ≡ lf_count taken) × StoppedBehind content (lines_of input) done seen keeper)
+RunOver content seen keeper (TooLong done) = IsSoundContent content × IfSome seen.source.left (λ input. (done ≡ lf_count (take INPUT_LIMIT input)) × StoppedBehind content (lines_of input) done seen keeper)
+RunOver content seen keeper (WriteFault done) = IsSoundContent content × IfSome seen.source.left (λ input. BrokeOff content (lines_of input) done seen keeper × TookToLine seen input done)
 -- the keeper failed at the load, or at an edit
-RunOver content seen keeper (KeepFault done) = StoppedFirst seen keeper done ⊎ (IsSoundContent content × WasRead seen.source (λ input. StoppedAtEdit content (lines_of input) done seen keeper))
+RunOver content seen keeper (KeepFault done) = StoppedFirst seen keeper done ⊎ (IsSoundContent content × IfSome seen.source.left (λ input. StoppedAtEdit content (lines_of input) done seen keeper × TookToLine seen input (done + 1)))
 RunOver content seen keeper (Memory done) = IfSome seen.source.left (λ input. WantedMemory content (lines_of input) done seen keeper)
 
 -- a content is sound, and with its schema this holds

@@ -3,10 +3,11 @@ pub mod End
 pub mod Examples
 pub mod Expectations
 pub mod Files
-pub mod Input
 pub mod RunEnd
 pub mod SchemaAlone
+pub mod SchemaLines
 pub mod Seen
 pub mod Status
 pub mod Steps
 pub mod Store
+pub mod Trying

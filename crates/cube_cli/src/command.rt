@@ -3,8 +3,8 @@ ghost use Rattle.std.specs.Prelude.{◌≡◌, map, string_bytes, IfSome};
 ghost use Rattle.cube_cli.specs.Command.{command_of, drill_named, store_command, store_named};
 ghost use Rattle.cube_cli.specs.End.{IsComplete, Says, TookFew};
 ghost use Rattle.cube_cli.specs.Expectations.{AddsUpAfterEachLine, AddsUpOverStore, ExpectsAfterEachLine, ExpectsOverStore};
-ghost use Rattle.cube_cli.specs.Seen.{seen_of, source_seen};
-ghost use Rattle.script_run.specs.Seen.{keeper_seen};
+ghost use Rattle.cube_cli.specs.Seen.{seen_of};
+ghost use Rattle.script_run.specs.Seen.{keeper_seen, source_seen};
 
 use crate::End;
 use crate::drill::drill;
@@ -43,17 +43,18 @@ pub enum StoreCommand {
 /// Runs the program: the words of the command line without the program's name, the input, where replies go, and where cubes are
 /// kept.
 ///
-/// The word `try` takes the whole input, at most 2^30 bytes. It begins with a schema, and each line behind it is done
-/// in order on a cube of that schema and its policy, and answered unless it is skipped. Replies are gathered into writes
-/// of some tens of kilobytes. Of a run that stops, the sink has a part of the replies to the first `done` lines, with all
-/// but the last of them whole.
+/// The word `try` takes an input of at most 2^30 bytes, which begins with a schema up to its line `end`. Each line behind it is done in
+/// order on a cube of that schema and its policy, and answered unless it is skipped. The input is read in pieces of at most 65,536
+/// bytes: the lines of a piece that have come whole are done, and their replies written, before the next is read. Of a run that stops,
+/// the sink has a part of the replies to the first `done` lines, with all but the last of them whole; where a read failed or the input
+/// is too long, all of them, and these are the lines that had come whole.
 ///
 /// The words `drill` and a number from 1 to 100,000, which has one spelling, do the drill of the number, and write its line. No input
 /// is taken. Neither of these calls the keeper.
 ///
 /// The words `init`, `run`, `check`, `import` and `export` each take the name of a store, which is not empty, and load it first. `init` takes a schema
 /// alone, keeps its one canonical text as the batch of a store in which there was nothing, and answers `ok` and 0. `run` does the lines of the
-/// whole input on the cube of the store. Each edit that is accepted commits one batch before it is answered, and all replies before it are
+/// input on the cube of the store, as they come. Each edit that is accepted commits one batch before it is answered, and all replies before it are
 /// written by then: the store holds at each stop what the first `done` lines made of it. `check` takes no input and answers `sound` with
 /// the numbers of the facts and of their rows. A store with nothing in it has no cube, and one that is not sound is left as it is.
 ///

@@ -26,8 +26,7 @@ pub enum End {
     HasCube,
     /// What the store holds is not sound: what is found first in it.
     BadStore(Finding),
-    /// Reading failed when `done` lines were done, and their replies are written. The whole input is read before a line
-    /// is done, so `done` is 0.
+    /// Reading failed when `done` lines of a script had come whole. They are done, and their replies are written.
     ReadFault { done: u64 },
     /// Writing failed. The reply to line `done`, counted from 1, is not whole; lines behind it may have been done.
     WriteFault { done: u64 },
@@ -35,8 +34,8 @@ pub enum End {
     KeepFault { done: u64 },
     /// An allocation was refused. Lines behind the first `done` may have been done.
     Memory { done: u64 },
-    /// The input has more than 2^30 bytes. The replies to the `done` lines that were done are written. The whole input is
-    /// read before a line is done, so `done` is 0.
+    /// The input has more than 2^30 bytes. The `done` lines of a script that had come whole within these are done, and their replies are
+    /// written.
     TooLong { done: u64 },
     /// The file to be imported is refused: the first record that is, and why. Nothing of it is kept.
     BadRecord(BadRecord),

@@ -1,19 +1,20 @@
 //! The command that makes a store.
 ghost use Rattle.std.specs.Prelude.{◌≡◌, IfOk, IsTrue};
 ghost use Rattle.fact_keeper.specs.Batch.{empty_content};
-ghost use Rattle.script_run.specs.Seen.{keeper_seen, sink_seen};
+ghost use Rattle.script_run.specs.Seen.{keeper_seen, sink_seen, source_seen};
 ghost use Rattle.cube_cli.specs.End.{EndsInit, InitOver, IsCompleteStore, SaysOfStore, TookFew};
-ghost use Rattle.cube_cli.specs.Seen.{seen_of, source_seen};
+ghost use Rattle.cube_cli.specs.Seen.{seen_of};
 ghost use Rattle.cube_cli.specs.Steps.{EndsKeeping};
 ghost use Rattle.cube_cli.specs.Store.{schema_batch};
 ghost use Rattle.cube_cli.specs.declared.command.StoreCommand.TheVariants as command;
 
 use crate::End;
-use crate::input::{InputStop, MAX_INPUT, take_input};
+use crate::run_end::end_of_stop;
 use crate::saying::write_line;
 use crate::schema_alone::read_schema_alone;
 use cube_base::{Ids, Memory, Sink, Source};
 use fact_keeper::{Batch, KeepError, Keeper, KeptFacts, KeptRowsList};
+use line_cutter::{MAX_INPUT, take_input};
 use schema_text::{Schema, SchemaFault, write_schema};
 use std::alloc::Global;
 
@@ -60,9 +61,7 @@ fn init_empty<S: Source, K: Sink, Q: Keeper>(
 {
     let input = match take_input(alloc, source, MAX_INPUT) {
         Ok(input) => input,
-        Err(InputStop::Fault) => return End::ReadFault { done: 0 },
-        Err(InputStop::TooLong) => return End::TooLong { done: 0 },
-        Err(InputStop::Memory) => return End::Memory { done: 0 },
+        Err(stop) => return end_of_stop(stop),
     };
     match read_schema_alone(alloc, &input) {
         Ok(schema) => keep_schema(alloc, &schema, out, keeper),

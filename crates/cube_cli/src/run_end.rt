@@ -3,17 +3,19 @@ ghost use Rattle.std.specs.Prelude.{◌≡◌};
 ghost use Rattle.cube_cli.specs.RunEnd.{end_of_break_off, end_of_import, end_of_load, end_of_run, end_of_stop};
 
 use crate::End;
-use crate::input::InputStop;
 use cube_core::{ImportFault, LoadFault};
-use script_run::BreakOff;
+use line_cutter::InputStop;
+use script_run::{BreakOff, StreamStop};
 
-/// The end of the program whose script refused so many lines or broke off.
-pub fn end_of_run(run: Result<u64, BreakOff>) -> End
+/// The end of the program whose script refused so many lines or stopped.
+pub fn end_of_run(run: Result<u64, StreamStop>) -> End
     ensures { result ≡ end_of_run run }
 {
     match run {
         Ok(refused) => End::Finished { refused },
-        Err(off) => end_of_break_off(off),
+        Err(StreamStop::Broke(off)) => end_of_break_off(off),
+        Err(StreamStop::Read { done }) => End::ReadFault { done },
+        Err(StreamStop::TooLong { done }) => End::TooLong { done },
     }
 }
 

@@ -1,22 +1,22 @@
 //! The commands that take an input over a store that is there.
 ghost use Rattle.std.specs.Prelude.{◌≡◌, IfErr, IfOk, IsTrue};
 ghost use Rattle.fact_keeper.specs.declared.content.Stored.{Stored};
-ghost use Rattle.script_run.specs.Seen.{keeper_seen};
-ghost use Rattle.cube_cli.specs.End.{EndsTask, IsCompleteTask, Opened, SaysOfOpening, SaysOfTask, TaskOver, TookFew};
-ghost use Rattle.cube_cli.specs.Seen.{seen_of, source_seen};
+ghost use Rattle.script_run.specs.Seen.{keeper_seen, source_seen};
+ghost use Rattle.cube_cli.specs.End.{EndsImport, EndsRun, EndsTask, ImportOver, IsCompleteTask, Opened, RunOver, SaysOfOpening, SaysOfTask, TaskOver, TookFew};
+ghost use Rattle.cube_cli.specs.Seen.{seen_of};
 ghost use Rattle.cube_cli.specs.Steps.{HoldsSchema, IsCubeOf, WeighsAs};
 
 use crate::End;
 use crate::importing::import_file;
-use crate::input::{MAX_INPUT, take_input};
 use crate::run_end::{end_of_load, end_of_run, end_of_stop};
 use crate::schema_alone::read_schema_alone;
 use cell_weight::{ByCount, BySum, Uniform, WeightPolicy};
 use cube_base::{Sink, Source};
 use cube_core::{Cube, Finding};
 use fact_keeper::{KeepError, Keeper, Stored};
+use line_cutter::{LineInput, MAX_INPUT, take_input};
 use schema_text::{PolicyWord, Schema, SchemaFault};
-use script_run::run_script;
+use script_run::run_stream;
 use std::alloc::Global;
 
 /// What is done with an input over the cube of a store.
@@ -122,7 +122,7 @@ fn do_under<P: WeightPolicy + Drop, S: Source, K: Sink, Q: Keeper>(
     }
 }
 
-// Takes the input, and does what is to be done with it on a cube whose content an open store holds.
+// Does what is to be done with the input on a cube whose content an open store holds.
 fn do_cube<P: WeightPolicy + Drop, S: Source, K: Sink, Q: Keeper>(
     alloc: Global,
     task: InputTask,
@@ -136,11 +136,46 @@ fn do_cube<P: WeightPolicy + Drop, S: Source, K: Sink, Q: Keeper>(
     ensures over { (content : Stored) → IsCubeOf P.weigh cube content → TaskOver task content (seen_of S.left S.faults K.taken K.faults source.old source.new out.old out.new) (keeper_seen Q.content Q.journal Q.faults keeper.old keeper.new) result }
     ensures few { TookFew (source_seen S.left S.faults source.old source.new) result }
 {
+    match task {
+        InputTask::Run => run_over(alloc, cube, source, out, keeper),
+        InputTask::Import => import_over(alloc, cube, source, out, keeper),
+    }
+}
+
+// Does the lines of a script as its input comes.
+fn run_over<P: WeightPolicy + Drop, S: Source, K: Sink, Q: Keeper>(
+    alloc: Global,
+    cube: Cube<P>,
+    source: &mut S,
+    out: &mut K,
+    keeper: &mut Q,
+) -> End
+    requires { IsTrue (Q.is_open keeper.old) }
+    ensures ends { EndsRun (seen_of S.left S.faults K.taken K.faults source.old source.new out.old out.new) (keeper_seen Q.content Q.journal Q.faults keeper.old keeper.new) result }
+    ensures over { (content : Stored) → IsCubeOf P.weigh cube content → RunOver content (seen_of S.left S.faults K.taken K.faults source.old source.new out.old out.new) (keeper_seen Q.content Q.journal Q.faults keeper.old keeper.new) result }
+    ensures few { TookFew (source_seen S.left S.faults source.old source.new) result }
+{
+    let Ok(input) = LineInput::new(alloc) else {
+        return End::Memory { done: 0 };
+    };
+    end_of_run(run_stream(alloc, cube, input, true, source, out, keeper))
+}
+
+// Takes the whole input, and puts the facts of it.
+fn import_over<P: WeightPolicy + Drop, S: Source, K: Sink, Q: Keeper>(
+    alloc: Global,
+    cube: Cube<P>,
+    source: &mut S,
+    out: &mut K,
+    keeper: &mut Q,
+) -> End
+    requires { IsTrue (Q.is_open keeper.old) }
+    ensures ends { EndsImport (seen_of S.left S.faults K.taken K.faults source.old source.new out.old out.new) (keeper_seen Q.content Q.journal Q.faults keeper.old keeper.new) result }
+    ensures over { (content : Stored) → IsCubeOf P.weigh cube content → ImportOver content (seen_of S.left S.faults K.taken K.faults source.old source.new out.old out.new) (keeper_seen Q.content Q.journal Q.faults keeper.old keeper.new) result }
+    ensures few { TookFew (source_seen S.left S.faults source.old source.new) result }
+{
     match take_input(alloc, source, MAX_INPUT) {
-        Ok(input) => match task {
-            InputTask::Run => end_of_run(run_script(alloc, cube, &input, true, out, keeper)),
-            InputTask::Import => import_file(alloc, cube, &input, out, keeper),
-        },
+        Ok(input) => import_file(alloc, cube, &input, out, keeper),
         Err(stop) => end_of_stop(stop),
     }
 }

@@ -1,10 +1,10 @@
 //! The commands that tell what a store holds.
 ghost use Rattle.std.specs.Prelude.{◌≡◌, IfOk};
 ghost use Rattle.schema_text.specs.Schema.{policy_in};
-ghost use Rattle.script_run.specs.Seen.{keeper_seen, sink_seen};
+ghost use Rattle.script_run.specs.Seen.{SourceSeen, keeper_seen, sink_seen};
 ghost use Rattle.cube_cli.specs.End.{IsCompleteTelling, SaysOfTelling, TellingOver};
 ghost use Rattle.cube_cli.specs.Files.{text_told};
-ghost use Rattle.cube_cli.specs.Seen.{SourceSeen, WasNotRead};
+ghost use Rattle.cube_cli.specs.Seen.{WasNotRead};
 ghost use Rattle.cube_cli.specs.Steps.{EndsAudit, HoldsSchema, TellsText, WeighsAs};
 
 use crate::End;

@@ -1,78 +1,81 @@
 //! The command that does a script on a cube without a store.
-ghost use Rattle.std.specs.Prelude.{◌≡◌, ◌≤◌, false, length, IfErr, IfOk};
-ghost use Rattle.text_lines.specs.Text.{lines_of};
-ghost use Rattle.script_run.specs.Kept.{is_keep};
-ghost use Rattle.script_run.specs.Progress.{BreaksOff, Done};
-ghost use Rattle.script_run.specs.Run.{empty_state, run, run_of};
-ghost use Rattle.script_run.specs.Seen.{sink_seen};
+ghost use Rattle.std.specs.Prelude.{◌≡◌, ◌+◌, ◌<◌, ◌^◌, ℕ, List, false, true, length, IfErr};
+ghost use Rattle.std.specs.Io.KnownBytes.{IsAtEnd};
+ghost use Rattle.line_cutter.specs.Pieces.{pieces_of};
+ghost use Rattle.schema_text.specs.Schema.{weigh_of};
+ghost use Rattle.script_run.specs.Run.{empty_state};
+ghost use Rattle.script_run.specs.Seen.{sink_seen, source_seen};
+ghost use Rattle.script_run.specs.Stream.{is_keep_stop};
 ghost use Rattle.cube_cli.specs.End.{IsCompleteTry, SaysOfTry, TookFew};
-ghost use Rattle.cube_cli.specs.Seen.{seen_of, source_seen};
+ghost use Rattle.cube_cli.specs.Seen.{seen_of};
+ghost use Rattle.cube_cli.specs.Trying.{EndsUnkept};
 
 use crate::End;
-use crate::input::{InputStop, MAX_INPUT, take_input};
 use crate::run_end::end_of_run;
+use crate::schema_lines::take_schema;
 use cell_weight::{ByCount, BySum, Uniform, WeightPolicy};
 use cube_base::{Sink, Source};
 use cube_core::Cube;
 use fact_keeper::NoKeeper;
-use schema_text::{PolicyWord, Schema, SchemaFault, read_schema};
-use script_run::{BreakOff, run_script};
+use line_cutter::LineInput;
+use schema_text::{PolicyWord, Schema};
+use script_run::{BreakOff, StreamStop, run_stream};
 use std::alloc::Global;
 
-/// Takes the input, and does the script behind its schema.
+/// Takes a schema, and does the script behind it as its input comes.
 pub fn try_input<S: Source, K: Sink>(alloc: Global, source: &mut S, out: &mut K) -> End
     ensures says { SaysOfTry (seen_of S.left S.faults K.taken K.faults source.old source.new out.old out.new) result }
     ensures complete { IsCompleteTry (seen_of S.left S.faults K.taken K.faults source.old source.new out.old out.new) result }
     ensures few { TookFew (source_seen S.left S.faults source.old source.new) result }
 {
-    let input = match take_input(alloc, source, MAX_INPUT) {
-        Ok(input) => input,
-        Err(InputStop::Fault) => return End::ReadFault { done: 0 },
-        Err(InputStop::TooLong) => return End::TooLong { done: 0 },
-        Err(InputStop::Memory) => return End::Memory { done: 0 },
+    let Ok(mut input) = LineInput::new(alloc) else {
+        return End::Memory { done: 0 };
     };
-    match read_schema(alloc, &input) {
-        Ok((schema, size)) => end_of_run(run_schema_script(alloc, schema, &input[size..], out)),
-        Err(SchemaFault::Bad { line, code }) => End::Schema { line, code },
-        Err(SchemaFault::Memory) => End::Memory { done: 0 },
+    match take_schema(alloc, &mut input, source) {
+        Ok(schema) => end_of_run(run_schema_script(alloc, schema, input, source, out)),
+        Err(end) => end,
     }
 }
 
-// Does the lines of a script on a cube of the schema and its policy, writes their replies, and says how many are refused.
-fn run_schema_script<K: Sink>(
+// Does the lines of a script on a cube of the schema and its policy as its input comes, writes their replies, and says how many are
+// refused.
+fn run_schema_script<S: Source, K: Sink>(
     alloc: Global,
     schema: Schema,
-    script: &[u8],
+    input: LineInput,
+    source: &mut S,
     out: &mut K,
-) -> Result<u64, BreakOff>
-    requires { length script.now ≤ MAX_INPUT }
-    ensures done { IfOk result (Done (run_of schema (lines_of script.now)) (sink_seen K.taken K.faults out.old out.new)) }
-    ensures broken { IfErr result (BreaksOff (run_of schema (lines_of script.now)).replies (sink_seen K.taken K.faults out.old out.new)) }
-    ensures no_keep { IfErr result (λ off. is_keep off ≡ false) }
+) -> Result<u64, StreamStop>
+    requires short { length input.lines.lines + input.pieces.room < 2 ^ 61 }
+    requires ended { input.pieces.is_ended ≡ true → IsAtEnd (S.left source.old) }
+    ensures ends { (text : List ℕ) → input.lines.lines ≡ pieces_of text →
+        EndsUnkept (weigh_of schema.policy) schema text input.pieces.room (source_seen S.left S.faults source.old source.new) (sink_seen K.taken K.faults out.old out.new) result }
+    ensures no_keep { IfErr result (λ stop. is_keep_stop stop ≡ false) }
 {
     match schema.policy() {
-        PolicyWord::Uniform => run_under(alloc, schema, Uniform, script, out),
-        PolicyWord::Count => run_under(alloc, schema, ByCount, script, out),
-        PolicyWord::Weight(_) => run_under(alloc, schema, BySum, script, out),
+        PolicyWord::Uniform => run_under(alloc, schema, Uniform, input, source, out),
+        PolicyWord::Count => run_under(alloc, schema, ByCount, input, source, out),
+        PolicyWord::Weight(_) => run_under(alloc, schema, BySum, input, source, out),
     }
 }
 
-// Does the lines of a script on a cube of the schema under a policy, writes their replies, and says how many are refused. Nothing
-// is kept.
-fn run_under<P: WeightPolicy + Drop, K: Sink>(
+// The same under a policy. Nothing is kept.
+fn run_under<P: WeightPolicy + Drop, S: Source, K: Sink>(
     alloc: Global,
     schema: Schema,
     policy: P,
-    script: &[u8],
+    input: LineInput,
+    source: &mut S,
     out: &mut K,
-) -> Result<u64, BreakOff>
-    requires { length script.now ≤ MAX_INPUT }
-    ensures done { IfOk result (Done (run (P.weigh policy) schema (empty_state schema) (lines_of script.now)) (sink_seen K.taken K.faults out.old out.new)) }
-    ensures broken { IfErr result (BreaksOff (run (P.weigh policy) schema (empty_state schema) (lines_of script.now)).replies (sink_seen K.taken K.faults out.old out.new)) }
-    ensures no_keep { IfErr result (λ off. is_keep off ≡ false) }
+) -> Result<u64, StreamStop>
+    requires short { length input.lines.lines + input.pieces.room < 2 ^ 61 }
+    requires ended { input.pieces.is_ended ≡ true → IsAtEnd (S.left source.old) }
+    ensures ends { (text : List ℕ) → input.lines.lines ≡ pieces_of text →
+        EndsUnkept (P.weigh policy) schema text input.pieces.room (source_seen S.left S.faults source.old source.new) (sink_seen K.taken K.faults out.old out.new) result }
+    ensures no_keep { IfErr result (λ stop. is_keep_stop stop ≡ false) }
 {
     let Ok(cube) = Cube::new(alloc, schema, policy) else {
-        return Err(BreakOff::Memory { done: 0 });
+        return Err(StreamStop::Broke(BreakOff::Memory { done: 0 }));
     };
-    run_script(alloc, cube, script, false, out, &mut NoKeeper::new())
+    run_stream(alloc, cube, input, false, source, out, &mut NoKeeper::new())
 }

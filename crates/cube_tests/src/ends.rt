@@ -1,9 +1,10 @@
 //! Command lines, and what is told of each end.
 use crate::runs::{ALL, Ending, REPAIRS, WHOLE, run, source_of};
 use cube_base::Code;
-use cube_cli::{End, InputStop, take_input};
+use cube_cli::End;
 use cube_core::Finding;
 use fact_sequence::BadRecord;
+use line_cutter::{InputStop, take_input};
 use std::alloc::{AllocError, Global};
 
 /// Words of no command.

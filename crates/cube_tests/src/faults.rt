@@ -10,23 +10,53 @@ const SCRIPT: &str =
 const REPLIES: &str =
     "ok\t1\nok\t1\nok\t2\nerror\texists\nok\t2\nrows\t2\t2\tAustin\tCamry\t1\tHouston\tCamry\t1\nterms\t2\t1\t2\t150\t2\t2\t1200\nok\t1\nerror\tcommand\nrows\t1\t1\tHouston\tCamry\t1\n";
 
-/// How many bytes a read gives, and how many reads there are, of which the last finds the end.
-const READS: [(usize, u64); 3] = [(16, 30), (100, 6), (ALL, 2)];
+/// How many bytes of the replies there are once so many lines are done.
+const REPLIED: [usize; 13] = [0, 5, 10, 10, 15, 15, 28, 33, 73, 98, 103, 117, 142];
 
-/// Whether each read that fails ends the run before anything is written, and one behind the end is not made.
+/// How many bytes a read gives, and how many reads there are, of which the last finds the end.
+const READS: [(usize, u64); 4] = [(1, 456), (16, 30), (100, 6), (ALL, 2)];
+
+/// How many lines of the script end in the first so many bytes of the input.
+fn lines_in(input: &[u8], taken: usize) -> usize {
+    match input.get(REPAIRS.len()..taken.min(input.len())) {
+        Some(script) => script.iter().filter(|byte| **byte == b'\n').count(),
+        None => 0,
+    }
+}
+
+/// Whether a read that fails behind so many bytes ends the run behind the lines that came whole, which are answered.
+fn stops_behind(
+    alloc: Global,
+    input: &[u8],
+    taken: usize,
+    outside: &Outside,
+) -> Result<bool, AllocError> {
+    let done = lines_in(input, taken);
+    let ran = run(alloc, &["try"], input, outside)?;
+    let Some(replied) = REPLIED.get(done) else {
+        return Ok(false);
+    };
+    let Some(replies) = REPLIES.get(..*replied) else {
+        return Ok(false);
+    };
+    Ok(ran.is(Ending::ReadFault { done: done as u64 }, replies))
+}
+
+/// Whether it is so at each read, and one behind the end is not made.
 fn fails_at_each(alloc: Global, row: &(usize, u64)) -> Result<bool, AllocError> {
     let (read_step, reads) = *row;
     let input = joined(alloc, REPAIRS, SCRIPT)?;
+    let mut taken: usize = 0;
     for call in 1..=reads {
         let outside = Outside {
             read_step,
             read_fails: call,
             ..WHOLE
         };
-        let ran = run(alloc, &["try"], input.as_bytes(), &outside)?;
-        if !ran.is(Ending::ReadFault { done: 0 }, "") {
+        if !stops_behind(alloc, input.as_bytes(), taken, &outside)? {
             return Ok(false);
         }
+        taken = taken.saturating_add(read_step);
     }
     let outside = Outside {
         read_step,

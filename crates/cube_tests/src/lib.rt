@@ -30,6 +30,8 @@ mod stored;
 #[cfg(test)]
 mod stores;
 #[cfg(test)]
+mod streams;
+#[cfg(test)]
 mod weights;
 #[cfg(test)]
 mod worlds;

@@ -1,5 +1,5 @@
 //! Runs over a source and a sink in memory.
-use cube_base::{Bytes, Code, Ids, MemSink, MemSource};
+use cube_base::{Bytes, Code, Failed, Ids, MemSink, MemSource, Source};
 use cube_cli::{End, cube};
 use fact_keeper::{MemKeeper, Stored};
 use std::alloc::{AllocError, Global};
@@ -96,19 +96,64 @@ fn words_of(alloc: Global, words: &[&str]) -> Result<Vec<String>, AllocError> {
         .try_collect(alloc)
 }
 
+/// A source in memory, and behind its bytes so many more, each an `x`. It is the one kind of source here, since each kind has the
+/// whole program linked and proved once more.
+#[derive(Drop)]
+pub struct Padded {
+    pub input: MemSource,
+    pub more: usize,
+}
+
+impl Source for Padded {
+    ghost use Rattle.std.specs.Prelude.{None};
+
+    ghost left = { λ s. None };
+
+    ghost faults = { λ s. s.input.faults };
+
+    fn read(&mut self, into: &mut [u8]) -> Result<usize, Failed> {
+        let count = self.input.read(into)?;
+        if count > 0 {
+            return Ok(count);
+        }
+        let count = into.len().min(self.more);
+        into[..count].fill(b'x');
+        self.more -= count;
+        Ok(count)
+    }
+}
+
 /// A source of an input.
 pub fn source_of(
     alloc: Global,
     input: &[u8],
     step: usize,
     fails: u64,
-) -> Result<MemSource, AllocError> {
+) -> Result<Padded, AllocError> {
     let fails = Ids::from(Vec::from_slice(alloc, &[fails])?);
     let bytes = Bytes::from(Vec::from_slice(alloc, input)?);
-    Ok(MemSource::new(alloc, bytes, step.max(1), fails))
+    Ok(Padded {
+        input: MemSource::new(alloc, bytes, step.max(1), fails),
+        more: 0,
+    })
 }
 
-/// Runs the words over an input and a keeper.
+/// Runs the words over a source and a keeper.
+pub fn run_from(
+    alloc: Global,
+    words: &[&str],
+    source: &mut Padded,
+    outside: &Outside,
+    keeper: &mut MemKeeper,
+) -> Result<Outcome, AllocError> {
+    let words = words_of(alloc, words)?;
+    let write_fails = Ids::from(Vec::from_slice(alloc, &[outside.write_fails])?);
+    let mut sink = MemSink::new(alloc, outside.write_step.max(1), write_fails);
+    let end = cube(alloc, &words, source, &mut sink, keeper);
+    Ok((end, sink, source.input.left().len()))
+}
+
+/// The same over an input.
 pub fn run_over(
     alloc: Global,
     words: &[&str],
@@ -116,12 +161,8 @@ pub fn run_over(
     outside: &Outside,
     keeper: &mut MemKeeper,
 ) -> Result<Outcome, AllocError> {
-    let words = words_of(alloc, words)?;
-    let write_fails = Ids::from(Vec::from_slice(alloc, &[outside.write_fails])?);
     let mut source = source_of(alloc, input, outside.read_step, outside.read_fails)?;
-    let mut sink = MemSink::new(alloc, outside.write_step.max(1), write_fails);
-    let end = cube(alloc, &words, &mut source, &mut sink, keeper);
-    Ok((end, sink, source.left().len()))
+    run_from(alloc, words, &mut source, outside, keeper)
 }
 
 /// The same of what may be compared.

@@ -1,32 +1,39 @@
 -- However a text is cut, the lines that are handed out are those of the whole text.
-use Rattle.std.proofs.Common.{◌≡◌, ◌≢◌, ℕ, Bool, true, false, List, [], ◌∷◌, ◌++◌, map, refl, ap, sym, subst, ◌∙◌, append-nil, append_assoc, arith, length}
+use Rattle.std.proofs.Common.{◌≡◌, ◌≢◌, ℕ, Bool, true, false, if◌then◌else◌, List, [], ◌∷◌, ◌++◌, map, refl, ap, sym, subst, ◌∙◌, append-nil, append_assoc, arith, length}
 use Rattle.std.proofs.lemmas.List.{map-append}
 use Rattle.std.specs.List.{concat, onto_first, slice_split}
 use Rattle.text_lines.specs.Text.{lines_of}
 use Rattle.line_cutter.specs.Pieces.{front, is_lf, last_line, lines_ahead, lines_given, pieces_of, rest_of, whole_lines}
 use Rattle.line_cutter.proofs.Fronts.{NoLf, NoLf-front, NoLf-one, front-front, one_piece-is, pieces_of-same, some_piece}
 
--- the lines of a text that goes on are the pieces but the last, and the lines of the last one that goes on
-behind_lf : (parts : List (List ℕ)) (more : List ℕ) (lines : List (List ℕ)) → parts ≢ [] → lines ≡ whole_lines parts ++ lines_of (rest_of parts ++ more)
-    → [] ∷ lines ≡ whole_lines ([] ∷ parts) ++ lines_of (rest_of ([] ∷ parts) ++ more)
-behind_lf [] more lines some are = absurd (some refl)
-behind_lf (part ∷ parts) more lines some are = ap (λ l. [] ∷ l) are
+-- What cuts a text at each LF cuts one that goes on into the pieces but the last, and what it cuts the last one into that goes on.
+module _ (cut : List ℕ → List (List ℕ)) (step : (b : ℕ) (text : List ℕ) → cut (b ∷ text) ≡ (if is_lf b then [] ∷ cut text else onto_first b (cut text))) where
+  behind_lf : (parts : List (List ℕ)) (more : List ℕ) (lines : List (List ℕ)) → parts ≢ [] → lines ≡ whole_lines parts ++ cut (rest_of parts ++ more)
+      → [] ∷ lines ≡ whole_lines ([] ∷ parts) ++ cut (rest_of ([] ∷ parts) ++ more)
+  behind_lf [] more lines some are = absurd (some refl)
+  behind_lf (part ∷ parts) more lines some are = ap (λ l. [] ∷ l) are
 
-behind_byte : (b : ℕ) (parts : List (List ℕ)) (more : List ℕ) (lines : List (List ℕ)) → is_lf b ≡ false → parts ≢ [] → lines ≡ whole_lines parts ++ lines_of (rest_of parts ++ more)
-    → onto_first b lines ≡ whole_lines (onto_first b parts) ++ lines_of (rest_of (onto_first b parts) ++ more)
-behind_byte b [] more lines other some are = absurd (some refl)
-behind_byte b (part ∷ []) more lines other some are = rw other (ap (onto_first b) are)
-behind_byte b (part ∷ next ∷ parts) more lines other some are = ap (onto_first b) are
+  behind_byte : (b : ℕ) (parts : List (List ℕ)) (more : List ℕ) (lines : List (List ℕ)) → is_lf b ≡ false → parts ≢ [] → lines ≡ whole_lines parts ++ cut (rest_of parts ++ more)
+      → onto_first b lines ≡ whole_lines (onto_first b parts) ++ cut (rest_of (onto_first b parts) ++ more)
+  behind_byte b [] more lines other some are = absurd (some refl)
+  behind_byte b (part ∷ []) more lines other some are = ap (onto_first b) are ∙ sym (step b (part ++ more) ∙ rw other refl)
+  behind_byte b (part ∷ next ∷ parts) more lines other some are = ap (onto_first b) are
 
-lines_of-step : (b : ℕ) (text more : List ℕ) (lf : Bool) → is_lf b ≡ lf
-    → lines_of (text ++ more) ≡ whole_lines (slice_split is_lf text) ++ lines_of (rest_of (slice_split is_lf text) ++ more)
-    → lines_of (b ∷ (text ++ more)) ≡ whole_lines (slice_split is_lf (b ∷ text)) ++ lines_of (rest_of (slice_split is_lf (b ∷ text)) ++ more)
-lines_of-step b text more true lf are = rw lf (behind_lf (slice_split is_lf text) more (lines_of (text ++ more)) (some_piece text) are)
-lines_of-step b text more false lf are = rw lf (behind_byte b (slice_split is_lf text) more (lines_of (text ++ more)) lf (some_piece text) are)
+  cut-step : (b : ℕ) (text more : List ℕ) (lf : Bool) → is_lf b ≡ lf
+      → cut (text ++ more) ≡ whole_lines (slice_split is_lf text) ++ cut (rest_of (slice_split is_lf text) ++ more)
+      → (if is_lf b then [] ∷ cut (text ++ more) else onto_first b (cut (text ++ more))) ≡ whole_lines (slice_split is_lf (b ∷ text)) ++ cut (rest_of (slice_split is_lf (b ∷ text)) ++ more)
+  cut-step b text more true lf are = rw lf (behind_lf (slice_split is_lf text) more (cut (text ++ more)) (some_piece text) are)
+  cut-step b text more false lf are = rw lf (behind_byte b (slice_split is_lf text) more (cut (text ++ more)) lf (some_piece text) are)
 
-lines_of-more : (text more : List ℕ) → lines_of (text ++ more) ≡ whole_lines (slice_split is_lf text) ++ lines_of (rest_of (slice_split is_lf text) ++ more)
-lines_of-more [] more = refl
-lines_of-more (b ∷ text) more = lines_of-step b text more (is_lf b) refl (lines_of-more text more)
+  cut-more : (text more : List ℕ) → cut (text ++ more) ≡ whole_lines (slice_split is_lf text) ++ cut (rest_of (slice_split is_lf text) ++ more)
+  cut-more [] more = refl
+  cut-more (b ∷ text) more = step b (text ++ more) ∙ cut-step b text more (is_lf b) refl (cut-more text more)
+
+pub lines_of-more : (text more : List ℕ) → lines_of (text ++ more) ≡ whole_lines (slice_split is_lf text) ++ lines_of (rest_of (slice_split is_lf text) ++ more)
+lines_of-more = cut-more lines_of (λ b text. refl)
+
+pub slice_split-more : (text more : List ℕ) → slice_split is_lf (text ++ more) ≡ whole_lines (slice_split is_lf text) ++ slice_split is_lf (rest_of (slice_split is_lf text) ++ more)
+slice_split-more = cut-more (slice_split is_lf) (λ b text. refl)
 
 -- the last piece has no LF
 rest-lf : (parts : List (List ℕ)) → NoLf (rest_of parts) → NoLf (rest_of ([] ∷ parts))
@@ -42,28 +49,28 @@ rest-step : (b : ℕ) (text : List ℕ) (lf : Bool) → is_lf b ≡ lf → NoLf 
 rest-step b text true lf none = rw lf (rest-lf (slice_split is_lf text) none)
 rest-step b text false lf none = rw lf (rest-byte b (slice_split is_lf text) lf none)
 
-NoLf-rest : (text : List ℕ) → NoLf (rest_of (slice_split is_lf text))
+pub NoLf-rest : (text : List ℕ) → NoLf (rest_of (slice_split is_lf text))
 NoLf-rest [] = tt
 NoLf-rest (b ∷ text) = rest-step b text (is_lf b) refl (NoLf-rest text)
 
 -- of each its front
-whole_lines-map : (parts : List (List ℕ)) → whole_lines (map front parts) ≡ map front (whole_lines parts)
+pub whole_lines-map : (parts : List (List ℕ)) → whole_lines (map front parts) ≡ map front (whole_lines parts)
 whole_lines-map [] = refl
 whole_lines-map (part ∷ []) = refl
 whole_lines-map (part ∷ next ∷ parts) = ap (λ l. front part ∷ l) (whole_lines-map (next ∷ parts))
 
-rest_of-map : (parts : List (List ℕ)) → rest_of (map front parts) ≡ front (rest_of parts)
+pub rest_of-map : (parts : List (List ℕ)) → rest_of (map front parts) ≡ front (rest_of parts)
 rest_of-map [] = refl
 rest_of-map (part ∷ []) = refl
 rest_of-map (part ∷ next ∷ parts) = rest_of-map (next ∷ parts)
 
 -- a text with no LF is one line, or none
-lines_of-one : (text : List ℕ) → NoLf text → lines_of text ≡ last_line text
+pub lines_of-one : (text : List ℕ) → NoLf text → lines_of text ≡ last_line text
 lines_of-one [] none = refl
 lines_of-one (b ∷ []) none = rw none.0 refl
 lines_of-one (b ∷ c ∷ text) none = rw (none.0, lines_of-one (c ∷ text) none.1) refl
 
-last_line-front : (text : List ℕ) → last_line (front text) ≡ map front (last_line text)
+pub last_line-front : (text : List ℕ) → last_line (front text) ≡ map front (last_line text)
 last_line-front [] = refl
 last_line-front (b ∷ text) = refl
 

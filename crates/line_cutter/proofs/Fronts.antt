@@ -1,8 +1,9 @@
 -- Behind a text with no LF, one more piece is cut as behind the text's front.
-use Rattle.std.proofs.Common.{◌≡◌, ◌≢◌, ℕ, zero, suc, ◌≤◌, Bool, true, false, List, [], ◌∷◌, ◌++◌, length, take, drop, map, eqb, refl, ap, sym, ◌∙◌, arith, append-nil, length-drop, length-take, take-take, lit≤}
+use Rattle.std.proofs.Common.{◌≡◌, ◌≢◌, ℕ, zero, suc, ◌+◌, ◌≤◌, Bool, true, false, List, [], ◌∷◌, ◌++◌, length, take, drop, map, eqb, refl, ap, sym, subst, ◌∙◌, arith, append-nil, length-drop, length-take, take-take, lit≤}
 use Rattle.std.proofs.lemmas.List.{length-map}
 use Rattle.std.specs.List.{All, onto_first, slice_split}
 use Rattle.std.proofs.lemmas.Bool.{ne_eqb}
+use Rattle.std.proofs.lemmas.List.Sums.{count_by-le-length}
 use Rattle.std.proofs.lemmas.List.Splits.{length-slice_split, slice_split_none, slice_split_at}
 use Rattle.text_lines.specs.LineText.{LINE_FRONT}
 use Rattle.line_cutter.specs.Pieces.{Held, behind_line, front, is_lf, pieces_of, rest_of}
@@ -60,6 +61,17 @@ slice_split-onto : (text piece : List ℕ) → NoLf text → slice_split is_lf (
 slice_split-onto [] piece none = onto-nil (slice_split is_lf piece) (some_piece piece)
 slice_split-onto (b ∷ text) piece none =
     rw none.0 (ap (onto_first b) (slice_split-onto text piece none.1) ∙ onto-cons b text (slice_split is_lf piece))
+
+length-onto : (text : List ℕ) (parts : List (List ℕ)) → parts ≢ [] → length (onto text parts) ≡ length parts
+length-onto text [] some = absurd (some refl)
+length-onto text (part ∷ parts) some = refl
+
+-- one more piece makes no more pieces than it has bytes, and one
+pub pieces_of-few : (text piece : List ℕ) → NoLf text → length (pieces_of (text ++ piece)) ≤ length piece + 1
+pieces_of-few text piece none =
+    let parts : length (slice_split is_lf (text ++ piece)) ≡ length (slice_split is_lf piece) =
+    ap length (slice_split-onto text piece none) ∙ length-onto text (slice_split is_lf piece) (some_piece piece) in
+    omega (arith, parts, length-map (slice_split is_lf (text ++ piece)) front, length-slice_split is_lf piece, count_by-le-length is_lf piece)
 
 -- a front goes on as the whole does
 take-more : (n : ℕ) (text more : List ℕ) → take n (take n text ++ more) ≡ take n (text ++ more)
@@ -120,6 +132,11 @@ module _ (text taken piece : List ℕ) (lines : List (List ℕ)) (are : pieces_o
       ap rest_of (sym (one_piece-is text lines are one) ∙ one_piece-is whole lines (sym same) one) in
       ap pieces_of is
       ∙ pieces_of-same (front text) whole piece (NoLf-front text (NoLf-one text (ap length are ∙ one))) none (front-front text ∙ fronts)
+
+  pub taken-few : taken ≡ front text ++ piece → length (pieces_of taken) ≤ length piece + 1
+  taken-few is =
+      let none : NoLf text = NoLf-one text (ap length are ∙ one) in
+      subst (λ l. length (pieces_of l) ≤ length piece + 1) (sym is) (pieces_of-few (front text) piece (NoLf-front text none))
 
   pub kept-same : taken ≡ front text → pieces_of taken ≡ lines
   kept-same is =

@@ -1,2 +1,4 @@
+pub mod Input
 pub mod Lending
 pub mod Pieces
+pub mod Reading

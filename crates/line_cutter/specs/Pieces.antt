@@ -1,8 +1,8 @@
 -- The lines of an input that comes in pieces.
-use Rattle.std.specs.Prelude.{ℕ, Bool, List, [], ◌∷◌, ◌++◌, ◌==◌, map, take}
+use Rattle.std.specs.Prelude.{ℕ, ◌-◌, Bool, List, [], ◌∷◌, ◌++◌, ◌==◌, count_by, length, map, take}
 use Rattle.std.specs.List.{slice_split}
 use Rattle.text_lines.specs.LineText.{LINE_FRONT}
-use Rattle.text_lines.specs.Text.{lines_of}
+use Rattle.text_lines.specs.Text.{after_lines, lines_of}
 
 -- as much of a line as tells what it means
 abbrev pub front : List ℕ → List ℕ
@@ -10,6 +10,17 @@ front line = take LINE_FRONT line
 
 abbrev pub is_lf : ℕ → Bool
 is_lf b = b == 10
+
+-- how many lines end in a text, and which: those of which it has the LF
+abbrev pub lf_count : List ℕ → ℕ
+lf_count text = count_by is_lf text
+
+abbrev pub ended_lines : List ℕ → List (List ℕ)
+ended_lines text = take (lf_count text) (lines_of text)
+
+-- how many bytes a text has up to and with the LF of its n-th line, or in all where that line has none
+abbrev pub line_end : List ℕ → ℕ → ℕ
+line_end text n = length text - length (after_lines n text)
 
 -- what stands between the LFs of a text, and last what stands behind the last of them, which may be empty: of each its front
 abbrev pub pieces_of : List ℕ → List (List ℕ)

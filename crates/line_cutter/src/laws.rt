@@ -1,8 +1,8 @@
 //! Laws of the definitions, and examples that are computed from them. The functions do nothing: each law is the contract.
-ghost use Rattle.std.specs.Prelude.{◌≡◌, ℕ, ◌++◌, List, [], ◌∷◌, codes, length, map, replicate};
+ghost use Rattle.std.specs.Prelude.{◌≡◌, ℕ, ◌<◌, ◌≤◌, ◌++◌, List, [], ◌∷◌, codes, length, map, replicate};
 ghost use Rattle.std.specs.List.{concat};
 ghost use Rattle.text_lines.specs.Text.{lines_of};
-ghost use Rattle.line_cutter.specs.Pieces.{front, lines_ahead, lines_given, pieces_of, rest_of};
+ghost use Rattle.line_cutter.specs.Pieces.{ended_lines, front, last_line, lf_count, line_end, lines_ahead, lines_given, pieces_of, rest_of, whole_lines};
 
 /// However a text is cut into pieces, the lines that are handed out, one after the other, are those of the whole text, of
 /// each its first 4,097 bytes.
@@ -18,9 +18,27 @@ pub fn lines_held_and_ahead()
         lines_ahead held (piece ++ more) ≡ lines_ahead (pieces_of (rest_of held ++ piece)) more }
 {}
 
+/// The pieces of a text are the lines that end in it and a rest; what comes behind changes none of these lines, and the rest goes on
+/// with it. At the end of the input the rest is a line, unless it is empty.
+pub fn lines_that_end()
+    ensures whole { (text : List ℕ) → whole_lines (pieces_of text) ≡ map front (ended_lines text) }
+    ensures count { (text : List ℕ) → length (ended_lines text) ≡ lf_count text }
+    ensures piece { (text piece : List ℕ) → pieces_of (text ++ piece) ≡ whole_lines (pieces_of text) ++ pieces_of (rest_of (pieces_of text) ++ piece) }
+    ensures more { (text more : List ℕ) → lines_ahead (pieces_of text) more ≡ map front (lines_of (text ++ more)) }
+    ensures last { (text : List ℕ) → map front (lines_of text) ≡ whole_lines (pieces_of text) ++ last_line (rest_of (pieces_of text)) }
+{}
+
+/// Where fewer than n lines end in the front of a text, its n-th line ends behind it, or has no LF.
+pub fn lines_end_behind()
+    ensures { (text more : List ℕ) (n : ℕ) → lf_count text < n → length text ≤ line_end (text ++ more) n }
+{}
+
 /// Cuttings that were worked out by hand. LF is 10 and CR 13.
 pub fn worked_cuttings()
     ensures nothing { pieces_of [] ≡ [] ∷ [] }
+    ensures ended { ended_lines (codes "ab" ++ 10 ∷ 10 ∷ codes "c") ≡ codes "ab" ∷ [] ∷ [] }
+    ensures first_end { line_end (codes "ab" ++ 10 ∷ codes "c") 1 ≡ 3 }
+    ensures last_end { line_end (codes "ab" ++ 10 ∷ codes "c") 2 ≡ 4 }
     ensures no_piece { lines_given [] [] ≡ [] }
     ensures rest { pieces_of (codes "ab" ++ 10 ∷ codes "c") ≡ codes "ab" ∷ codes "c" ∷ [] }
     ensures empty_rest { pieces_of (codes "ab" ++ 10 ∷ []) ≡ codes "ab" ∷ [] ∷ [] }

@@ -55,6 +55,7 @@ impl LineCutter {
         requires { length self.old.lines ≡ 1 }
         ensures rest { OnOk result (self.new.lines ≡ pieces_of (rest_of self.old.lines ++ piece.now)) }
         ensures text { (text : List ℕ) → self.old.lines ≡ pieces_of text → OnOk result (self.new.lines ≡ pieces_of (text ++ piece.now)) }
+        ensures few { OnOk result (length self.new.lines ≤ length piece.now + 1) }
         ensures room { OnOk result (self.new.bytes ≤ LINE_FRONT + length piece.now) }
         ensures same { OnErr result (self.new.lines ≡ self.old.lines) }
         ensures room_kept { OnErr result (self.new.bytes ≤ self.old.bytes) }

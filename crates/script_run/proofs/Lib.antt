@@ -1,11 +1,15 @@
 pub mod Batches
 pub mod Doing
+pub mod FrontRuns
+pub mod HeldLines
 pub mod Keeping
 pub mod KeptLines
 pub mod Measures
+pub mod PieceTurns
 pub mod ReplyEnds
 pub mod Runs
+pub mod Sending
 pub mod Steps
+pub mod Streams
 pub mod Texts
-pub mod Turns
 pub mod Writing

@@ -8,25 +8,6 @@ use Rattle.script_run.specs.Written.{Broken, Gathered, Stopped}
 use Rattle.script_run.specs.ReplyEnds.{ends_from, whole_within}
 use Rattle.script_run.proofs.ReplyEnds.{cut_at, starts_with_front, starts_with_both}
 
--- the first lines and the next are the first lines and one more
-take-suc_next : (n : ℕ) (lines later : List (List ℕ)) (line : List ℕ) → drop n lines ≡ line ∷ later → take (suc n) lines ≡ take n lines ++ line ∷ []
-take-suc_next zero [] later line next = cc
-take-suc_next zero (l ∷ lines) later line next = cc
-take-suc_next (suc n) [] later line next = cc
-take-suc_next (suc n) (l ∷ lines) later line next = ap (λ ls. l ∷ ls) (take-suc_next n lines later line next)
-
-pub take-next : (n : ℕ) (lines later : List (List ℕ)) (line : List ℕ) → drop n lines ≡ line ∷ later → take (n + 1) lines ≡ take n lines ++ line ∷ []
-take-next n lines later line next = rw add-one (take-suc_next n lines later line next)
-
-drop-suc_next : (n : ℕ) (lines later : List (List ℕ)) (line : List ℕ) → drop n lines ≡ line ∷ later → drop (suc n) lines ≡ later
-drop-suc_next zero [] later line next = cc
-drop-suc_next zero (l ∷ lines) later line next = cc
-drop-suc_next (suc n) [] later line next = cc
-drop-suc_next (suc n) (l ∷ lines) later line next = drop-suc_next n lines later line next
-
-pub drop-next : (n : ℕ) (lines later : List (List ℕ)) (line : List ℕ) → drop n lines ≡ line ∷ later → drop (n + 1) lines ≡ later
-drop-next n lines later line next = rw add-one (drop-suc_next n lines later line next)
-
 -- joined lists
 pub concat-append : (xs ys : List (List ℕ)) → concat (xs ++ ys) ≡ concat xs ++ concat ys
 concat-append [] ys = refl

@@ -103,7 +103,7 @@ breaks_off_keep replies start sink done bytes count same =
     (same, record { among = omega arith; bytes = rw whole bytes })
 
 -- what is answered of some replies is answered of more
-answered-more : (replies more : List (List ℕ)) (done : ℕ) (sink : SinkSeen) → Answered replies done sink → Answered (replies ++ more) done sink
+pub answered-more : (replies more : List (List ℕ)) (done : ℕ) (sink : SinkSeen) → Answered replies done sink → Answered (replies ++ more) done sink
 answered-more replies more done sink answered =
     let first = take-append-le done replies more answered.among in
     record {

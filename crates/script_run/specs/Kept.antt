@@ -74,6 +74,14 @@ pub record IsGatheredStop (done gathered : ℕ) (off : BreakOff) : Type 0 where
   pub among : done_at off ≤ done
   pub no_keep : is_keep off ≡ false
 
+-- Where a write or the keeper breaks a script off, the line at which it does lies behind those whose replies are written: of so many
+-- that are done, the replies to the last few are gathered.
+abbrev pub IsBehind : ℕ → ℕ → BreakOff → Type 0
+IsBehind done gathered (Write line) = done < line + gathered
+IsBehind done gathered (SinkMemory line) = ⊤
+IsBehind done gathered (Memory some) = ⊤
+IsBehind done gathered (Keep some) = done ≤ some + gathered
+
 -- where the keeper failed, the line behind those that are done commits: it is an edit that is accepted
 abbrev pub CommitsNext : (CellStat → ℕ) → SchemaValue → State → List (List ℕ) → BreakOff → Type 0
 CommitsNext weigh schema first lines (Keep done) = length (batches weigh schema first (take (done + 1) lines)) ≡ length (batches weigh schema first (take done lines)) + 1

@@ -4,4 +4,6 @@ pub mod ReplyEnds
 pub mod Run
 pub mod Seen
 pub mod Stop
+pub mod Stream
+pub mod StreamTurn
 pub mod Written

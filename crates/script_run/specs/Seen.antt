@@ -6,6 +6,30 @@ use Rattle.cube_base.specs.Outside.{Rose}
 use Rattle.fact_keeper.specs.declared.content.Batch.{Batch}
 use Rattle.fact_keeper.specs.declared.content.Stored.{Stored}
 
+-- of a source: the bytes left, and the number of faults
+pub record SourceSeen : Type 0 where
+  pub left : Option (List ℕ)
+  pub left_after : Option (List ℕ)
+  pub faults : ℕ
+  pub faults_after : ℕ
+
+-- what a source tells of a call
+abbrev pub source_seen : {S : Type 0} → (S → Option (List ℕ)) → (S → ℕ) → S → S → SourceSeen
+source_seen left faults source source_after = record {
+  left = left source;
+  left_after = left source_after;
+  faults = faults source;
+  faults_after = faults source_after;
+}
+
+-- no fault of the source was met
+abbrev pub NoReadFault : SourceSeen → Type 0
+NoReadFault source = source.faults_after ≡ source.faults
+
+-- a fault of the source was met
+abbrev pub ReadFailed : SourceSeen → Type 0
+ReadFailed source = Rose source.faults source.faults_after
+
 -- of a sink: the bytes taken, and the number of faults
 pub record SinkSeen : Type 0 where
   pub taken : Option (List ℕ)

@@ -3,12 +3,12 @@
 
 mod break_off;
 mod laws;
-mod looping;
 mod outbox;
 mod questions;
 mod script;
 mod script_run;
+mod streaming;
 
 pub use break_off::BreakOff;
-pub use laws::run_in_two_parts;
-pub use looping::run_script;
+pub use laws::{lines_do_what_their_fronts_do, run_in_two_parts};
+pub use streaming::{StreamStop, run_stream};

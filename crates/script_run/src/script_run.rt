@@ -8,7 +8,7 @@ ghost use Rattle.script_text.specs.LineOf.{IsLineOf};
 ghost use Rattle.script_text.specs.Reply.{NamesCells};
 ghost use Rattle.script_text.specs.ScriptLine.{line_of};
 ghost use Rattle.script_run.specs.declared.break_off.BreakOff.TheVariants as break_off;
-ghost use Rattle.script_run.specs.Kept.{Commits, HasKept, IsGatheredStop, KeptAt, batches_from, is_keep};
+ghost use Rattle.script_run.specs.Kept.{Commits, HasKept, IsBehind, IsGatheredStop, KeptAt, batches_from, is_keep};
 ghost use Rattle.script_run.specs.Progress.{AreFew, BreaksOff, Done, HasDone, HasGathered};
 ghost use Rattle.script_run.specs.Run.{State, cube_at, refusals_in, run, state_of, step_from, text_of};
 ghost use Rattle.script_run.specs.Seen.{Told, seen_since, sink_seen, told_of};
@@ -88,6 +88,9 @@ impl<P: WeightPolicy + Drop> ScriptRun<P> {
         ensures no_fault { OnOk result (Q.faults keeper.new ≡ Q.faults keeper.old) }
         ensures cause { IfErr result (λ off. is_keep off ≡ true → Rose (Q.faults keeper.old) (Q.faults keeper.new)) }
         ensures other_cause { self.old.keeps ≡ true → IfErr result (λ off. is_keep off ≡ false → Q.faults keeper.new ≡ Q.faults keeper.old) }
+        ensures ahead { OnOk result (self.old.done + length self.new.gathered ≤ self.new.done + length self.old.gathered) }
+        ensures counted { OnOk result (self.new.done ≡ self.old.done + 1) }
+        ensures behind { IfErr result (IsBehind self.old.done (length self.old.gathered)) }
         ensures stays_open { IsTrue (Q.is_open keeper.new) }
     {
         let Ok(read) = self.read(line) else {
@@ -164,6 +167,9 @@ impl<P: WeightPolicy + Drop> ScriptRun<P> {
         ensures no_fault { OnOk result (Q.faults keeper.new ≡ Q.faults keeper.old) }
         ensures cause { IfErr result (λ off. is_keep off ≡ true → Rose (Q.faults keeper.old) (Q.faults keeper.new)) }
         ensures other_cause { IsReadyFor self.old.gathered read → IfErr result (λ off. is_keep off ≡ false → Q.faults keeper.new ≡ Q.faults keeper.old) }
+        ensures ahead { OnOk result (self.old.done + length self.new.gathered ≤ self.new.done + length self.old.gathered) }
+        ensures counted { OnOk result (self.new.done ≡ self.old.done + 1) }
+        ensures behind { IfErr result (IsBehind self.old.done (length self.old.gathered)) }
         ensures stays_open { IsTrue (Q.is_open keeper.new) }
     {
         match self.do_on_cube(read, keeper) {
@@ -221,8 +227,15 @@ impl<P: WeightPolicy + Drop> ScriptRun<P> {
         Ok(())
     }
 
-    // Writes the gathered replies.
-    fn send<K: Sink>(&mut self, out: &mut K) -> Result<(), BreakOff>
+    /// How many lines are answered.
+    pub fn done(&self) -> u64
+        ensures { result ≡ self.now.done }
+    {
+        self.done
+    }
+
+    /// Writes the gathered replies.
+    pub fn send<K: Sink>(&mut self, out: &mut K) -> Result<(), BreakOff>
         ensures all { (replies : List (List ℕ)) (start : Option (List ℕ)) → HasGathered replies start (K.taken out.old) self.old.gathered → OnOk result (Appends start (K.taken out.new) (concat replies)) }
         ensures empty { OnOk result (self.new ≡ record self.old { gathered = [] }) }
         ensures count { OnOk result (K.faults out.new ≡ K.faults out.old) }

@@ -1,6 +1,6 @@
 use Rattle.std.proofs.Common.{None, refl}
-use Rattle.script_run.specs.Seen.{KeeperSeen, keeper_seen, sink_seen}
-use Rattle.cube_cli.specs.Seen.{Seen, SourceSeen}
+use Rattle.script_run.specs.Seen.{KeeperSeen, SourceSeen, keeper_seen, sink_seen}
+use Rattle.cube_cli.specs.Seen.{Seen}
 use Rattle.cube_cli.proofs.Completing.{complete_telling}
 use Rattle.cube_cli.proofs.Opening.{still, telling_not_opened, telling_opened}
 use Rattle.cube_cli.proofs.telling.tell.Goals as goal

@@ -1,27 +1,21 @@
-use Rattle.std.proofs.Common.{refl, subst}
-use Rattle.std.specs.Prelude.{IfErr, IfOk}
-use Rattle.text_lines.specs.Text.{lines_of}
-use Rattle.script_run.specs.Progress.{BreaksOff, Done}
-use Rattle.script_run.specs.Run.{Outcome, empty_state, run}
-use Rattle.script_run.specs.Seen.{SinkSeen, sink_seen}
-use Rattle.cube_cli.proofs.Unkept.{no_cause, none_gathered, run_new}
+-- Nothing is kept, so that nothing is said of the keeper.
+use Rattle.std.proofs.Common.{◌≡◌, None, refl, sym, ◌∙◌}
+use Rattle.script_run.specs.Seen.{KeeperSeen, SinkSeen, SourceSeen, sink_seen, source_seen}
+use Rattle.cube_cli.proofs.Unkept.{cube_ground, ends_unkept, ground_new, no_cause, none_done}
 use Rattle.cube_cli.proofs.trying.run_under.Goals as goal
 
-pub returns-in_default-clause-broken : goal.returns-in_default-clause-broken
-returns-in_default-clause-broken g c =
-    (refl, none_gathered (run (g.P.WeightPolicy.weigh c.args.policy) c.args.schema (empty_state c.args.schema) (lines_of c.args.script.now)).replies (g.K.Sink.taken c.args.out.now))
+pub returns-in_default-clause-ends : goal.returns-in_default-clause-ends
+returns-in_default-clause-ends g c = λ text are.
+    none_done (g.P.WeightPolicy.weigh c.args.policy) c.args.schema text c.args.input.pieces.room (g.S.Source.left c.args.source.now) (g.S.Source.faults c.args.source.now) (g.K.Sink.taken c.args.out.now) (g.K.Sink.faults c.args.out.now)
 
-pub returns-clause-done : goal.returns-clause-done
-returns-clause-done g c =
-    let sink : SinkSeen = sink_seen g.K.Sink.taken g.K.Sink.faults c.args.out.now c.run_script.new.out in
-    subst (λ (outcome : Outcome). IfOk c.run_script.result (Done outcome sink))
-    (run_new {P = g.row.P.Denot} g.P.WeightPolicy.weigh c.in-Ok.cube c.args.policy c.args.schema (lines_of c.args.script.now) c.in-Ok.ensures.policy c.in-Ok.ensures.schema c.in-Ok.ensures.facts) c.run_script.ensures.done
-
-pub returns-clause-broken : goal.returns-clause-broken
-returns-clause-broken g c =
-    let sink : SinkSeen = sink_seen g.K.Sink.taken g.K.Sink.faults c.args.out.now c.run_script.new.out in
-    subst (λ (outcome : Outcome). IfErr c.run_script.result (BreaksOff outcome.replies sink))
-    (run_new {P = g.row.P.Denot} g.P.WeightPolicy.weigh c.in-Ok.cube c.args.policy c.args.schema (lines_of c.args.script.now) c.in-Ok.ensures.policy c.in-Ok.ensures.schema c.in-Ok.ensures.facts) c.run_script.ensures.broken
+pub returns-clause-ends : goal.returns-clause-ends
+returns-clause-ends g c = λ text are.
+    let source : SourceSeen = source_seen g.S.Source.left g.S.Source.faults c.args.source.now c.run_stream.new.source in
+    let sink : SinkSeen = sink_seen g.K.Sink.taken g.K.Sink.faults c.args.out.now c.run_stream.new.out in
+    let keeper : KeeperSeen = record { told = record { content = None; journal = None }; told_after = record { content = None; journal = None }; faults = 0; faults_after = 0 } in
+    ends_unkept (cube_ground {P = g.row.P.Denot} g.P.WeightPolicy.weigh c.in-Ok.cube) (g.P.WeightPolicy.weigh c.args.policy) c.args.schema text c.args.input.pieces.room source sink keeper c.run_stream.result
+    (ground_new {P = g.row.P.Denot} g.P.WeightPolicy.weigh c.in-Ok.cube c.args.policy c.args.schema c.in-Ok.ensures.policy c.in-Ok.ensures.schema c.in-Ok.ensures.facts)
+    (c.run_stream.ensures.ends text are)
 
 pub returns-clause-no_keep : goal.returns-clause-no_keep
-returns-clause-no_keep g c = no_cause c.run_script.result c.run_script.ensures.cause
+returns-clause-no_keep g c = no_cause c.run_stream.result c.run_stream.ensures.cause

@@ -2,7 +2,7 @@
 use Rattle.std.proofs.Common.{◌++◌, ◌∙◌, ap, arith, drop, length-append}
 use Rattle.std.proofs.lemmas.Result.{err_from_is_err_and}
 use Rattle.line_cutter.specs.Pieces.{front}
-use Rattle.line_cutter.proofs.Fronts.{kept-same, length-front, length-front-drop, taken-rest, taken-text}
+use Rattle.line_cutter.proofs.Fronts.{kept-same, length-front, length-front-drop, taken-few, taken-rest, taken-text}
 use Rattle.line_cutter.proofs.line_cutter.LineCutter.feed.Goals as goal
 
 pub returns-in_err-extend_from_slice-clause-same :
@@ -26,6 +26,11 @@ returns-clause-rest c =
 pub returns-clause-text : goal.returns-clause-text
 returns-clause-text c =
     taken-text (drop c.self.inside.start c.self.inside.bytes.items) _ c.args.piece.now _ (ap (λ h. h.lines) c.self.view_is) c.requires
+    (c.in_ok-extend_from_slice.ensures.items ∙ ap (λ l. l ++ c.args.piece.now) c.keep_front.ensures)
+
+pub returns-clause-few : goal.returns-clause-few
+returns-clause-few c =
+    taken-few (drop c.self.inside.start c.self.inside.bytes.items) _ c.args.piece.now _ (ap (λ h. h.lines) c.self.view_is) c.requires
     (c.in_ok-extend_from_slice.ensures.items ∙ ap (λ l. l ++ c.args.piece.now) c.keep_front.ensures)
 
 pub returns-clause-room : goal.returns-clause-room

@@ -1,0 +1,98 @@
+//! Taking the schema with which an input begins, which goes on behind it.
+ghost use Rattle.std.specs.Prelude.{◌≡◌, ◌∷◌, ◌++◌, [], false, true, IfErr, IfOk, OnOk};
+ghost use Rattle.std.specs.Io.KnownBytes.{IsAtEnd};
+ghost use Rattle.line_cutter.specs.Input.{INPUT_LIMIT};
+ghost use Rattle.line_cutter.specs.Pieces.{rest_of, whole_lines};
+ghost use Rattle.schema_text.specs.SchemaText.{is_end};
+ghost use Rattle.script_run.specs.Seen.{source_seen};
+ghost use Rattle.cube_cli.specs.SchemaLines.{EndsBeforeScript, StopsBeforeEnd, TookHeld, TookLines, TookSchema};
+
+use crate::End;
+use crate::run_end::end_of_stop;
+use cube_base::Source;
+use line_cutter::{InputStop, LineCutter, LineInput};
+use schema_text::{Schema, SchemaFault, read_schema};
+use std::alloc::{AllocError, Global};
+use text_lines::{is_text, without_cr};
+
+/// Takes the schema with which an input begins, of which nothing was taken yet, up to and with the line `end`: what was taken behind it
+/// is held. Where there is no schema, the answer is how the program ends. A line at fault is told once the line `end` has come, or the
+/// input has ended.
+pub fn take_schema<S: Source>(
+    alloc: Global,
+    input: &mut LineInput,
+    source: &mut S,
+) -> Result<Schema, End>
+    requires pieces { input.old.pieces ≡ record { room = INPUT_LIMIT; is_ended = false } }
+    requires lines { input.old.lines.lines ≡ [] ∷ [] }
+    ensures took { IfOk result (TookSchema (source_seen S.left S.faults source.old source.new) input.new.pieces.room input.new.lines.lines) }
+    ensures ended { IfOk result (λ _. input.new.pieces.is_ended ≡ true → IsAtEnd (S.left source.new)) }
+    ensures count { IfOk result (λ _. S.faults source.new ≡ S.faults source.old) }
+    ensures none { IfErr result (EndsBeforeScript (source_seen S.left S.faults source.old source.new)) }
+{
+    let text = match take_lines(alloc, input, source) {
+        Ok(text) => text,
+        Err(stop) => return Err(end_of_stop(stop)),
+    };
+    match read_schema(alloc, &text) {
+        Ok((schema, _)) => Ok(schema),
+        Err(SchemaFault::Bad { line, code }) => Err(End::Schema { line, code }),
+        Err(SchemaFault::Memory) => Err(End::Memory { done: 0 }),
+    }
+}
+
+// Takes the lines of an input up to and with the first line `end`, or all where there is none: of each as much as tells what it means,
+// with an LF.
+fn take_lines<S: Source>(
+    alloc: Global,
+    input: &mut LineInput,
+    source: &mut S,
+) -> Result<Vec<u8>, InputStop>
+    requires pieces { input.old.pieces ≡ record { room = INPUT_LIMIT; is_ended = false } }
+    requires lines { input.old.lines.lines ≡ [] ∷ [] }
+    ensures ended { IfOk result (λ _. input.new.pieces.is_ended ≡ true → IsAtEnd (S.left source.new)) }
+    ensures took { IfOk result (λ text. TookLines (source_seen S.left S.faults source.old source.new) input.new.pieces.room input.new.lines.lines text.items) }
+    ensures count { IfOk result (λ _. S.faults source.new ≡ S.faults source.old) }
+    ensures none { IfErr result (StopsBeforeEnd (source_seen S.left S.faults source.old source.new)) }
+{
+    let mut text = Vec::new(alloc);
+    'pieces: while !input.pieces.is_ended() {
+        input.pieces.feed_next(source, &mut input.lines)?;
+        if take_held(&mut text, &mut input.lines)? {
+            return Ok(text);
+        }
+    }
+    if let Some(line) = input.lines.finish() {
+        push_line(&mut text, line)?;
+    }
+    Ok(text)
+}
+
+// Appends the lines that are held whole, up to and with the first line `end`, and says whether there is one.
+fn take_held(text: &mut Vec<u8>, lines: &mut LineCutter) -> Result<bool, AllocError>
+    ensures took { IfOk result (TookHeld (whole_lines lines.old.lines) (rest_of lines.old.lines) text.old.items text.new.items lines.new.lines) }
+{
+    'lines: while let Some(line) = lines.next_line() {
+        push_line(text, line)?;
+        if is_end(line) {
+            return Ok(true);
+        }
+    }
+    Ok(false)
+}
+
+// Whether a line is the last of a schema.
+fn is_end(line: &[u8]) -> bool
+    ensures { result ≡ is_end line.now }
+{
+    is_text(without_cr(line), "end")
+}
+
+// Appends a line and an LF.
+fn push_line(text: &mut Vec<u8>, line: &[u8]) -> Result<(), AllocError>
+    ensures { OnOk result (text.new.items ≡ text.old.items ++ line.now ++ 10 ∷ []) }
+{
+    text.extend_from_slice(line)?;
+    text.push(b'\n')?;
+    Ok(())
+}

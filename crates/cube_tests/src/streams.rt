@@ -1,0 +1,131 @@
+//! Scripts that come in pieces: what is done of them where a call fails, and how much of an input is taken.
+use crate::runs::{Ending, Outside, REPAIRS, WHOLE, ending_of, run_from, run_kept, source_of};
+use crate::stored::keeper_of;
+use cube_base::{Failed, Ids, MemSink, Memory, Source};
+use cube_cli::cube;
+use fact_keeper::MemKeeper;
+use std::alloc::Global;
+
+/// Two repairs in Austin: 26 bytes each.
+const SCRIPT: &str = "insert\t1\tAustin\tCamry\t100\ninsert\t2\tAustin\tCamry\t300\n";
+
+/// The call of the keeper that fails, the read, and the write; how the run ends, what is written, and the ids of the facts that are
+/// kept.
+type Failing = (u64, u64, u64, Ending, &'static str, &'static [u64]);
+
+/// A read gives one byte, and a write takes five.
+const FAILS: [Failing; 11] = [
+    (1, 0, 0, Ending::KeepFault { done: 0 }, "", &[]),
+    (2, 0, 0, Ending::KeepFault { done: 0 }, "", &[]),
+    (3, 0, 0, Ending::KeepFault { done: 1 }, "ok\t1\n", &[1]),
+    (0, 1, 0, Ending::ReadFault { done: 0 }, "", &[]),
+    (0, 26, 0, Ending::ReadFault { done: 0 }, "", &[]),
+    (0, 27, 0, Ending::ReadFault { done: 1 }, "ok\t1\n", &[1]),
+    (0, 52, 0, Ending::ReadFault { done: 1 }, "ok\t1\n", &[1]),
+    (
+        0,
+        53,
+        0,
+        Ending::ReadFault { done: 2 },
+        "ok\t1\nok\t1\n",
+        &[1, 2],
+    ),
+    // The read behind the end is not made.
+    (
+        0,
+        54,
+        0,
+        Ending::Finished { refused: 0 },
+        "ok\t1\nok\t1\n",
+        &[1, 2],
+    ),
+    (0, 0, 1, Ending::WriteFault { done: 1 }, "", &[1]),
+    (0, 0, 2, Ending::WriteFault { done: 2 }, "ok\t1\n", &[1, 2]),
+];
+
+/// Whether the run ends so where one call fails.
+fn fails_so(alloc: Global, row: &Failing) -> Result<bool, Memory> {
+    let (keep_fails, read_fails, write_fails, end, written, ids) = *row;
+    let mut keeper = keeper_of(alloc, REPAIRS, &[], &[], &[keep_fails])?;
+    let outside = Outside {
+        read_step: 1,
+        read_fails,
+        write_step: 5,
+        write_fails,
+    };
+    let ran = run_kept(
+        alloc,
+        &["run", "s"],
+        SCRIPT.as_bytes(),
+        &outside,
+        &mut keeper,
+    )?;
+    Ok(ran.is(end, written) && has_ids(&keeper, ids))
+}
+
+/// Whether the facts of these ids are kept.
+fn has_ids(keeper: &MemKeeper, ids: &[u64]) -> bool {
+    let facts = keeper.content().facts.as_slice();
+    facts.iter().map(|fact| fact.id).eq(ids.iter().copied())
+}
+
+fn fail_so(alloc: Global, rows: &[Failing]) -> bool {
+    rows.iter().all(|row| fails_so(alloc, row) == Ok(true))
+}
+
+#[test]
+fn one_failure_at_each_place(rt: HostRuntime) {
+    assert!(rt; fail_so(rt.alloc(), &FAILS));
+}
+
+/// Whether the reply to the first line is written, which fails, before more than one piece behind the line is taken.
+fn answers_before(alloc: Global) -> Result<bool, Memory> {
+    let mut script = String::from_str(alloc, "insert\t1\tAustin\tCamry\t100\n")?;
+    for _ in 0..200_000 {
+        script.push_str("#\n")?;
+    }
+    let mut keeper = keeper_of(alloc, REPAIRS, &[], &[], &[])?;
+    let outside = Outside {
+        write_fails: 1,
+        ..WHOLE
+    };
+    let ran = run_kept(
+        alloc,
+        &["run", "s"],
+        script.as_bytes(),
+        &outside,
+        &mut keeper,
+    )?;
+    let taken = script.len().saturating_sub(ran.left);
+    Ok(ran.is(Ending::WriteFault { done: 1 }, "") && taken <= 65_562)
+}
+
+#[test]
+fn an_answer_comes_before_the_next_piece(rt: HostRuntime) {
+    assert!(rt; answers_before(rt.alloc()) == Ok(true));
+}
+
+/// The bytes of a comment that has no end, and how its run ends.
+const ENDLESS: [(usize, Ending); 2] = [
+    (1 << 30, Ending::Finished { refused: 0 }),
+    ((1 << 30) + 1, Ending::TooLong { done: 0 }),
+];
+
+/// Whether the run of a comment of so many bytes ends so, and writes nothing.
+fn ends_long(alloc: Global, row: &(usize, Ending)) -> Result<bool, Memory> {
+    let (bytes, end) = *row;
+    let mut source = source_of(alloc, b"#", 1, 0)?;
+    source.more = bytes.saturating_sub(1);
+    let mut keeper = keeper_of(alloc, REPAIRS, &[], &[], &[])?;
+    let (ended, sink, _) = run_from(alloc, &["run", "s"], &mut source, &WHOLE, &mut keeper)?;
+    Ok(ending_of(&ended) == end && sink.bytes().is_empty())
+}
+
+fn end_long(alloc: Global, rows: &[(usize, Ending)]) -> bool {
+    rows.iter().all(|row| ends_long(alloc, row) == Ok(true))
+}
+
+#[test]
+fn inputs_of_2_to_the_30_bytes(rt: HostRuntime) {
+    assert!(rt; end_long(rt.alloc(), &ENDLESS));
+}

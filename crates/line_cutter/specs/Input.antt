@@ -1,0 +1,44 @@
+-- Taking the whole input.
+use Rattle.std.specs.Prelude.{◌≡◌, ℕ, ◌+◌, ◌<◌, ◌≤◌, true, false, List, length, take, drop, Option}
+use Rattle.std.specs.Io.KnownBytes.{Consumes, IsAtEnd}
+use Rattle.cube_base.specs.Outside.{Rose}
+use Rattle.line_cutter.specs.declared.input.Input.{Input}
+use Rattle.line_cutter.specs.declared.input.InputStop.{InputStop}
+use Rattle.line_cutter.specs.declared.input.InputStop.TheVariants.{Fault, TooLong, Memory}
+
+-- the most bytes of an input: 2^30
+abbrev pub INPUT_LIMIT : ℕ
+INPUT_LIMIT = 1073741824
+
+-- the input was taken to its end, and is no longer than the limit
+pub record Taken (limit : ℕ) (left left_after : Option (List ℕ)) (input : List ℕ) : Type 0 where
+  pub bytes : Consumes left left_after input
+  pub end : IsAtEnd left_after
+  pub within : length input ≤ limit
+
+-- no more bytes than these were taken
+pub record TakesAtMost (most : ℕ) (left left_after : Option (List ℕ)) : Type 0 where
+  pub input : List ℕ
+  pub bytes : Consumes left left_after input
+  pub few : length input ≤ most
+
+-- the input goes on behind the limit, and one byte behind it was taken
+pub record GoesOn (limit : ℕ) (left left_after : Option (List ℕ)) : Type 0 where
+  pub input : List ℕ
+  pub bytes : Consumes left left_after input
+  pub above : length input ≡ limit + 1
+
+-- a piece was taken: more bytes, unless the input ended there
+pub record Reads (limit : ℕ) (left left_after : Option (List ℕ)) (before after : Input) : Type 0 where
+  pub bytes : Consumes left left_after (drop (length before.bytes.items) after.bytes.items)
+  pub front : take (length before.bytes.items) after.bytes.items ≡ before.bytes.items
+  pub within : length after.bytes.items ≤ limit
+  pub more : after.is_ended ≡ false → length before.bytes.items < length after.bytes.items
+  pub end : after.is_ended ≡ true → IsAtEnd left_after
+
+-- Why an input was not taken whole, of which some bytes came before: a read failed within the limit, the byte behind the limit
+-- came, or memory was wanting within it.
+abbrev pub StopsReading : ℕ → Option (List ℕ) → Option (List ℕ) → ℕ → ℕ → InputStop → Type 0
+StopsReading limit left left_after faults faults_after Fault = TakesAtMost limit left left_after × Rose faults faults_after
+StopsReading limit left left_after faults faults_after TooLong = GoesOn limit left left_after × (faults_after ≡ faults)
+StopsReading limit left left_after faults faults_after Memory = TakesAtMost limit left left_after × (faults_after ≡ faults)
