@@ -23,6 +23,8 @@ mod growth;
 #[cfg(test)]
 mod large_cubes;
 #[cfg(test)]
+mod lines;
+#[cfg(test)]
 mod maps;
 #[cfg(test)]
 mod regions;
