@@ -1,0 +1,149 @@
+#!/usr/bin/env python3
+"""Runs the built program over inputs that come in pieces: streams.py PROGRAM CASES SEED
+
+First comes a session: a line is written only when the reply to the one before has come, 1,000 times. Then a script of 2^30
+bytes of comments, and one of a byte more, in bounded memory; and a million lines that are refused. Then so many random
+inputs, each written in random pieces, which must be answered as the plain model answers the whole. At the first
+difference the status is 1.
+"""
+import os
+import subprocess
+import sys
+import threading
+from random import Random
+
+sys.dont_write_bytecode = True
+
+import differential
+import plain_model
+
+SCHEMA = b"cube\t1\npolicy\tcount\ndimension\tPlace\nnode\t0\tTX\nnode\t1\tAustin\nnode\t1\tDallas\nend\n"
+TURNS = 1000
+LIMIT = 2**30
+MEGABYTES = 5  # that a run may have, however long its input is
+
+
+def session(program):
+    """Each line is answered before the next is written."""
+    child = subprocess.Popen([program, "try"], stdin=subprocess.PIPE, stdout=subprocess.PIPE, bufsize=0)
+    child.stdin.write(SCHEMA)
+    answers = child.stdout
+    for turn in range(1, TURNS + 1):
+        place = b"TX" if turn % 3 == 0 else b"Austin"
+        child.stdin.write(b"insert\t%d\t%s\n" % (turn, place))
+        if read_line(answers) != b"ok\t1\n":
+            return False
+    child.stdin.write(b"count\tTX")  # it has no LF
+    child.stdin.close()
+    last = read_line(answers)
+    return last == b"count\t1000.000000000\t1000.000000000\t1000\n" and child.wait() == 0
+
+
+def read_line(answers):
+    line = b""
+    while not line.endswith(b"\n"):
+        byte = answers.read(1)
+        if not byte:
+            break
+        line += byte
+    return line
+
+
+def measured(program, pieces):
+    """What a run over these pieces writes, its status, and its peak in megabytes."""
+    child = subprocess.Popen([program, "try"], stdin=subprocess.PIPE, stdout=subprocess.PIPE, stderr=subprocess.PIPE)
+    writer = threading.Thread(target=write_all, args=(child.stdin, pieces))
+    writer.start()
+    written = child.stdout.read()
+    said = child.stderr.read()
+    writer.join()
+    _, status, usage = os.wait4(child.pid, 0)
+    child.returncode = os.waitstatus_to_exitcode(status)
+    return (written, child.returncode, said), usage.ru_maxrss / 1024
+
+
+def write_all(into, pieces):
+    """Writes pieces, each by itself; the reader may go before the end."""
+    try:
+        for piece in pieces:
+            into.write(piece)
+            into.flush()
+        into.close()
+    except BrokenPipeError:
+        pass
+
+
+def comments(count):
+    """A schema, and comments up to so many bytes in all."""
+    yield SCHEMA
+    left = count - len(SCHEMA)
+    line = b"#" + b"x" * 62 + b"\n"
+    block = line * 1024
+    while left > len(block):
+        yield block
+        left -= len(block)
+    yield (block + b"#")[-left:]
+
+
+def long_inputs(program):
+    ends, size = measured(program, comments(LIMIT))
+    print(f"2^30 bytes of comments: status {ends[1]}, {size:.1f} MB")
+    good = ends == (b"", 0, b"") and size < MEGABYTES
+    ends, size = measured(program, comments(LIMIT + 1))
+    print(f"a byte more: status {ends[1]}, {ends[2].decode().strip()}, {size:.1f} MB")
+    return good and ends[1] == 10 and size < MEGABYTES
+
+
+def refused_lines(program):
+    lines = (b"insert\t%d\tnowhere\n" % k for k in range(1, 1_000_001))
+    ends, size = measured(program, [SCHEMA, *batches(lines, 1000)])
+    print(f"a million refused lines: status {ends[1]}, {size:.1f} MB")
+    return ends == (b"error\tnode\n" * 1_000_000, 1, b"") and size < MEGABYTES
+
+
+def batches(lines, count):
+    batch = []
+    for line in lines:
+        batch.append(line)
+        if len(batch) == count:
+            yield b"".join(batch)
+            batch = []
+    yield b"".join(batch)
+
+
+def cut(random, text):
+    """A text in random pieces, short and long."""
+    most = random.choice([1, 2, 7, 64, 5000])
+    place = 0
+    while place < len(text):
+        size = random.randint(1, most)
+        yield text[place : place + size]
+        place += size
+
+
+def compare_cuttings(program, cases, seed):
+    for number in range(1, cases + 1):
+        words, text = differential.made_case(seed, number)
+        if words != ["try"]:
+            continue
+        wanted = plain_model.run(words, text)
+        found, _ = measured(program, cut(Random(f"cut {seed} {number}"), text))
+        if found != wanted:
+            differential.tell(f"cut of seed {seed} case {number}", words, text, found, wanted)
+            return False
+    print(f"{cases} cases of seed {seed} in random pieces are alike")
+    return True
+
+
+def main():
+    program, cases, seed = sys.argv[1], int(sys.argv[2]), int(sys.argv[3])
+    if not session(program):
+        print("a line was not answered before the next")
+        return 1
+    print(f"{TURNS} lines are answered one by one")
+    done = long_inputs(program) and refused_lines(program) and compare_cuttings(program, cases, seed)
+    return 0 if done else 1
+
+
+if __name__ == "__main__":
+    sys.exit(main())
