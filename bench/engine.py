@@ -5,6 +5,7 @@ import statistics
 import subprocess
 import sys
 import tempfile
+import time
 
 
 def line(*fields):
@@ -137,10 +138,25 @@ def run(words, source, sink):
     """Seconds of a processor and megabytes of a run."""
     with open(source) as given, open(sink, "w") as taken:
         child = subprocess.Popen(words, stdin=given, stdout=taken)
+        size = 0.0
+        # What the system tells of a child that ended counts what its parent had when it began.
+        while os.waitid(os.P_PID, child.pid, os.WEXITED | os.WNOWAIT | os.WNOHANG) is None:
+            size = max(size, peak_of(child.pid))
+            time.sleep(0.01)
         _, status, usage = os.wait4(child.pid, 0)
     if os.waitstatus_to_exitcode(status) not in (0, 1):
         sys.exit(f"{words[0]} ended with status {os.waitstatus_to_exitcode(status)}")
-    return usage.ru_utime + usage.ru_stime, usage.ru_maxrss / 1024
+    return usage.ru_utime + usage.ru_stime, size
+
+
+def peak_of(pid):
+    """The most megabytes that a process has had so far."""
+    try:
+        with open(f"/proc/{pid}/status", encoding="ascii") as status:
+            found = [line.split()[1] for line in status if line.startswith("VmHWM:")]
+    except OSError:
+        return 0.0
+    return int(found[0]) / 1024 if found else 0.0
 
 
 class Bench:

@@ -6,7 +6,6 @@ bytes of comments, and one of a byte more, in bounded memory; and a million line
 inputs, each written in random pieces, which must be answered as the plain model answers the whole. At the first
 difference the status is 1.
 """
-import os
 import subprocess
 import sys
 import threading
@@ -17,7 +16,7 @@ sys.dont_write_bytecode = True
 import differential
 import plain_model
 
-SCHEMA = b"cube\t1\npolicy\tcount\ndimension\tPlace\nnode\t0\tTX\nnode\t1\tAustin\nnode\t1\tDallas\nend\n"
+SCHEMA = b"cube\t1\npolicy\tuniform\ndimension\tPlace\nnode\t0\tTX\nnode\t1\tAustin\nnode\t1\tDallas\nend\n"
 TURNS = 1000
 LIMIT = 2**30
 MEGABYTES = 5  # that a run may have, however long its input is
@@ -50,27 +49,39 @@ def read_line(answers):
 
 
 def measured(program, pieces):
-    """What a run over these pieces writes, its status, and its peak in megabytes."""
+    """What a run over these pieces writes, its status, and its peak in megabytes, as far as it was seen while it read."""
     child = subprocess.Popen([program, "try"], stdin=subprocess.PIPE, stdout=subprocess.PIPE, stderr=subprocess.PIPE)
-    writer = threading.Thread(target=write_all, args=(child.stdin, pieces))
+    peaks = [0.0]
+    writer = threading.Thread(target=write_all, args=(child, pieces, peaks))
     writer.start()
     written = child.stdout.read()
     said = child.stderr.read()
     writer.join()
-    _, status, usage = os.wait4(child.pid, 0)
-    child.returncode = os.waitstatus_to_exitcode(status)
-    return (written, child.returncode, said), usage.ru_maxrss / 1024
+    return (written, child.wait(), said), max(peaks)
 
 
-def write_all(into, pieces):
+def write_all(child, pieces, peaks):
     """Writes pieces, each by itself; the reader may go before the end."""
     try:
-        for piece in pieces:
-            into.write(piece)
-            into.flush()
-        into.close()
+        for place, piece in enumerate(pieces):
+            child.stdin.write(piece)
+            child.stdin.flush()
+            if place % 100 == 0:
+                peaks.append(peak_of(child.pid))
+        peaks.append(peak_of(child.pid))
+        child.stdin.close()
     except BrokenPipeError:
         pass
+
+
+def peak_of(pid):
+    """The most memory that a process has had, in megabytes; what its parent had before it began is not counted."""
+    try:
+        with open(f"/proc/{pid}/status", encoding="ascii") as status:
+            found = [line.split()[1] for line in status if line.startswith("VmHWM:")]
+    except OSError:
+        return 0.0
+    return int(found[0]) / 1024 if found else 0.0
 
 
 def comments(count):
@@ -82,7 +93,7 @@ def comments(count):
     while left > len(block):
         yield block
         left -= len(block)
-    yield (block + b"#")[-left:]
+    yield b"#" + b"x" * (left - 1)
 
 
 def long_inputs(program):
