@@ -1,15 +1,16 @@
 -- What a line says without its final CR.
 use Rattle.std.proofs.Common.{◌≡◌, ℕ, zero, suc, ◌<◌, length, take, arith, Bool, true, false, List, [], ◌∷◌, ◌++◌, eqb, refl, ap, sym, ◌∙◌}
-use Rattle.std.specs.Prelude.{◌==◌, ◌||◌, if◌then◌else◌, slice_get, Some, None}
+use Rattle.std.specs.Prelude.{◌==◌, ◌||◌, nat_lt, if◌then◌else◌, slice_get, Some, None}
 use Rattle.std.specs.List.{list_all}
-use Rattle.std.proofs.lemmas.Bool.{false_from_ne_true}
+use Rattle.std.proofs.lemmas.Bool.{and_from, and_parts, false_from_ne_true}
 use Rattle.std.proofs.lemmas.Bool.Decides.{nat_tests}
 use Rattle.std.proofs.lemmas.List.{length-take-le}
 use Rattle.cube_base.specs.Name.{is_name_byte}
 use Rattle.std.proofs.lemmas.Option.{get_or_from_slice_get}
 use Rattle.std.specs.Str.{IsUtf8, is_utf8}
 use Rattle.std.proofs.lemmas.Str.{IsUtf8-from_is_utf8, is_utf8-from_IsUtf8}
-use Rattle.text_lines.specs.LineText.{IsAsItsFront, LINE_FRONT, field_at, is_clean, is_skipped, without_cr}
+use Rattle.text_lines.specs.LineText.{IsAsItsFront, LINE_FRONT, field_at, is_clean, is_plain, is_skipped, without_cr}
+use Rattle.text_lines.proofs.Ascii.{ascii_is_utf8}
 
 -- a byte in front
 in_front : (b : ℕ) (line : List ℕ) (last : ℕ) → without_cr (b ∷ (line ++ last ∷ [])) ≡ b ∷ without_cr (line ++ last ∷ [])
@@ -63,3 +64,21 @@ pub field_at-none : (fields : List (List ℕ)) (place : ℕ) → slice_get field
 field_at-none [] place none = refl
 field_at-none (field ∷ fields) zero none = cc
 field_at-none (field ∷ fields) (suc place) none = field_at-none fields place none
+
+-- bytes that are plain pass what each plain byte passes
+plain_pass : (p : ℕ → Bool) → ((b : ℕ) → is_plain b ≡ true → p b ≡ true) → (line : List ℕ) → list_all is_plain line ≡ true → list_all p line ≡ true
+plain_pass p each [] plain = refl
+plain_pass p each (b ∷ line) plain =
+    let parts = and_parts (is_plain b) (list_all is_plain line) plain in
+    and_from (p b) (list_all p line) (each b parts.0) (plain_pass p each line parts.1)
+
+-- so they are UTF-8, and clean
+plain_is_utf8 : (line : List ℕ) → list_all is_plain line ≡ true → is_utf8 line ≡ true
+plain_is_utf8 line plain = ascii_is_utf8 line (plain_pass (λ b. nat_lt b 128) (λ b e. grind (arith, nat_tests, e)) line plain)
+
+pub IsUtf8-plain : (line : List ℕ) → list_all is_plain line ≡ true → IsUtf8 line
+IsUtf8-plain line plain = IsUtf8-from_is_utf8 line (plain_is_utf8 line plain)
+
+pub is_clean-plain : (line : List ℕ) → list_all is_plain line ≡ true → true ≡ is_clean line
+is_clean-plain line plain =
+    rw (plain_is_utf8 line plain) (sym (plain_pass (λ b. b == 9 || is_name_byte b) (λ b e. grind (arith, nat_tests, e)) line plain))

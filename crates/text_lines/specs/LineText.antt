@@ -1,5 +1,5 @@
 -- A line of a text that users write, as it stands before its LF.
-use Rattle.std.specs.Prelude.{◌≡◌, ℕ, ◌+◌, Bool, true, List, [], ◌∷◌, length, take, nat_lt, ◌==◌, ◌&&◌, ◌||◌, if◌then◌else◌}
+use Rattle.std.specs.Prelude.{◌≡◌, ℕ, ◌+◌, Bool, true, List, [], ◌∷◌, length, take, nat_le, nat_lt, ◌==◌, ◌&&◌, ◌||◌, if◌then◌else◌}
 use Rattle.std.specs.List.{list_all}
 use Rattle.std.specs.Str.{is_utf8}
 use Rattle.std.specs.Prelude.{slice_index_or}
@@ -36,6 +36,10 @@ pub record IsAsItsFront (line : List ℕ) : Type 0 where
   pub skipped : is_skipped line ≡ is_skipped (take LINE_FRONT line)
   pub long : is_long line ≡ true
   pub front_long : is_long (take LINE_FRONT line) ≡ true
+
+-- a byte below 128 that may stand in a line
+abbrev pub is_plain : ℕ → Bool
+is_plain b = b == 9 || nat_le 32 b && nat_lt b 127
 
 -- UTF-8 with no byte below 32 but TAB, and no 127
 abbrev pub is_clean : List ℕ → Bool

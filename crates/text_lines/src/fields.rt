@@ -1,9 +1,10 @@
 //! The fields of a line: what stands between its TABs.
-ghost use Rattle.std.specs.Prelude.{◌≡◌, ◌==◌, ℕ, ◌≤◌, List, ◌∷◌, count_by, length};
+ghost use Rattle.std.specs.Prelude.{◌≡◌, ℕ, ◌≤◌, List, ◌∷◌, length};
 ghost use Rattle.std.specs.Str.{bytes_eq};
 ghost use Rattle.text_lines.specs.Text.{fields_of};
 ghost use Rattle.text_lines.specs.LineText.{field_at};
 
+use crate::blocks::count_of;
 use std::marker::Model;
 
 /// What hands out fields one after another, as the walk through a line does. What reads ids, names and values takes
@@ -64,15 +65,7 @@ impl<'a> Fields<'a> for FieldWalk<'a> {
 pub fn field_count(line: &[u8]) -> usize
     ensures { result ≡ length (fields_of line.now) }
 {
-    tab_count(line) + 1
-}
-
-/// The number of TABs in a line.
-fn tab_count(line: &[u8]) -> usize
-    ensures count { result ≡ count_by (λ b. b == 9) line.now }
-    ensures most { result ≤ length line.now }
-{
-    line.iter().filter(|byte| **byte == b'\t').count()
+    count_of(line, b'\t') + 1
 }
 
 /// The field of a line at a place, counted from 0: empty where the line has fewer fields.

@@ -1,6 +1,7 @@
 //! Lines, fields and numbers of the texts that users write.
 #![tactic(auto)]
 
+mod blocks;
 mod fields;
 mod laws;
 mod line;

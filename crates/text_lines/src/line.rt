@@ -4,6 +4,7 @@ ghost use Rattle.std.specs.List.{list_all};
 ghost use Rattle.cube_base.specs.Name.{is_name_byte};
 ghost use Rattle.text_lines.specs.LineText.{is_clean, is_long, is_skipped, without_cr};
 
+use crate::blocks::are_plain;
 use std::str;
 
 /// The most bytes of a line, its final CR included.
@@ -39,6 +40,18 @@ pub fn is_long(line: &[u8]) -> bool
 
 /// The line as a text: None exactly where it is not UTF-8, or has a byte below 32 other than TAB, or 127.
 pub fn clean_text(line: &[u8]) -> Option<&str>
+    ensures clean { is_some result ≡ is_clean line.now }
+    ensures text { IfSome result (λ text. text.now ≡ line.now) }
+{
+    if are_plain(line) {
+        // SAFETY: plain bytes are below 128, and such bytes are UTF-8, so `from_utf8` can be spared.
+        return Some(unsafe { str::from_utf8_unchecked(line) });
+    }
+    text_of_clean(line)
+}
+
+/// The same by a test of UTF-8 and one of each byte, for the lines that have other bytes than plain ones.
+fn text_of_clean(line: &[u8]) -> Option<&str>
     ensures clean { is_some result ≡ is_clean line.now }
     ensures text { IfSome result (λ text. text.now ≡ line.now) }
 {

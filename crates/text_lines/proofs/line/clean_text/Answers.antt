@@ -1,9 +1,10 @@
-use Rattle.std.proofs.Common.{◌∙◌, sym}
-use Rattle.text_lines.proofs.LineTexts.{is_clean-not_utf8, is_clean-utf8}
+-- Plain bytes are UTF-8, and clean.
+use Rattle.std.proofs.Common.{sym, ◌∙◌}
+use Rattle.text_lines.proofs.LineTexts.{IsUtf8-plain, is_clean-plain}
 use Rattle.text_lines.proofs.line.clean_text.Goals as goal
 
-pub returns-in_default-clause-clean : goal.returns-in_default-clause-clean
-returns-in_default-clause-clean c = is_clean-not_utf8 c.args.line.now c.in_default.ensures.cases.0
+pub from_utf8_unchecked-requires : goal.from_utf8_unchecked-requires
+from_utf8_unchecked-requires c = IsUtf8-plain c.args.line.now (sym c.are_plain.ensures ∙ c.if-are_plain.true)
 
-pub returns-then-are_clean-clause-clean : goal.returns-then-are_clean-clause-clean
-returns-then-are_clean-clause-clean c = is_clean-utf8 c.args.line.now c.in-Ok.ensures.cases.1 (sym c.if-are_clean.true ∙ c.are_clean.ensures)
+pub returns-then-are_plain-clause-clean : goal.returns-then-are_plain-clause-clean
+returns-then-are_plain-clause-clean c = is_clean-plain c.args.line.now (sym c.are_plain.ensures ∙ c.if-are_plain.true)

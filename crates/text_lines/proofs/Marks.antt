@@ -1,0 +1,120 @@
+-- What the marks of a block say of its bytes, and what blocks say of all bytes.
+use Rattle.std.proofs.Common.{◌≡◌, ℕ, zero, suc, ◌+◌, ◌-◌, ◌*◌, ◌/◌, ◌%◌, ◌^◌, ◌≤◌, Bool, true, false, not, ◌&&◌, ◌||◌, cond, eqb, ltb, List, [], ◌∷◌, ◌++◌, map, length, replicate, take, drop, refl, ap, ap₂, sym, ◌∙◌, arith}
+use Rattle.std.specs.List.{list_all, count_by}
+use Rattle.std.proofs.Math.Nat.{div-one, div-div-eq-div-mul, pow-succ'}
+use Rattle.std.proofs.lemmas.Bool.{and_parts}
+use Rattle.std.proofs.lemmas.Bool.Decides.{nat_tests}
+use Rattle.std.proofs.lemmas.List.{length-append, length-replicate, drop-drop, drop-map, length-drop, length-map, take-append-drop, take-take, take_all}
+use Rattle.std.proofs.lemmas.List.Folds.{list_all-append}
+use Rattle.std.proofs.lemmas.List.Sums.{sum_by-append}
+use Rattle.std.proofs.Math.Seq.{take-add}
+use Rattle.std.proofs.lemmas.Simd.{mask_l-mod, ones-mask_l}
+use lib.Bits.{bit_and, bit_or}
+use lib.Lanes.{mask_l, top, chunk}
+use Rattle.std.specs.Int.RustNames.{count_ones}
+use Rattle.text_lines.specs.LineText.{is_plain}
+
+-- the marks without the first of them
+mask_l-rest : (m : Bool) (n : ℕ) → (cond m 1 0 + 2 * n) / 2 ≡ n
+mask_l-rest true n = omega arith
+mask_l-rest false n = omega arith
+
+-- a shift leaves the marks of the bytes behind
+mask_l-drop : (ms : List Bool) (i : ℕ) → mask_l ms / 2 ^ i ≡ mask_l (drop i ms)
+mask_l-drop ms zero = div-one (mask_l ms)
+mask_l-drop [] (suc i) = omega arith
+mask_l-drop (m ∷ ms) (suc i) =
+    ap (λ n. mask_l (m ∷ ms) / n) (pow-succ' 2 i) ∙ sym (div-div-eq-div-mul (mask_l (m ∷ ms)) 2 (2 ^ i))
+    ∙ ap (λ n. n / 2 ^ i) (mask_l-rest m (mask_l ms)) ∙ mask_l-drop ms i
+
+one_mark : (passes : Bool) (n : ℕ) (rest : Bool) → eqb n 0 ≡ rest → eqb (cond (not passes) 1 0 + 2 * n) 0 ≡ (passes && rest)
+one_mark true zero rest e = e
+one_mark true (suc n) rest e = grind (arith, nat_tests)
+one_mark false n rest e = grind (arith, nat_tests)
+
+-- no mark is set exactly where each byte passes
+list_all-from_marks : (p : ℕ → Bool) (xs : List ℕ) → eqb (mask_l (map (λ x. not (p x)) xs)) 0 ≡ list_all p xs
+list_all-from_marks p [] = refl
+list_all-from_marks p (x ∷ xs) = one_mark (p x) (mask_l (map (λ x. not (p x)) xs)) (list_all p xs) (list_all-from_marks p xs)
+
+-- lanes of a comparison, and the lane of a byte that is not plain
+abbrev pub below : ℕ → ℕ → ℕ
+below a b = cond (ltb a b) 255 0
+
+abbrev pub differs : ℕ → ℕ → ℕ
+differs a b = cond (not (eqb a b)) 255 0
+
+abbrev pub other : ℕ → ℕ
+other x = bit_or (bit_and (below x 32) (differs x 9)) (below 126 x)
+
+-- the top bit tells what the lanes were made of
+top_of : (a b c : Bool) → top 7 (bit_or (bit_and (cond a 255 0) (cond b 255 0)) (cond c 255 0)) ≡ (a && b || c)
+top_of true true true = refl
+top_of true true false = refl
+top_of true false true = refl
+top_of true false false = refl
+top_of false true true = refl
+top_of false true false = refl
+top_of false false true = refl
+top_of false false false = refl
+
+other-not_plain : (x : ℕ) → top 7 (other x) ≡ not (is_plain x)
+other-not_plain x = top_of (ltb x 32) (not (eqb x 9)) (ltb 126 x) ∙ grind (arith, nat_tests)
+
+others : (v : List ℕ) → map (top 7) (map other v) ≡ map (λ x. not (is_plain x)) v
+others [] = refl
+others (x ∷ v) = ap₂ (λ m ms. m ∷ ms) (other-not_plain x) (others v)
+
+-- no lane is marked exactly where each byte is plain
+pub plain-from_lanes : (v lanes : List ℕ) → length v ≤ 64 → lanes ≡ map other v → eqb (mask_l (map (top 7) lanes) % 2 ^ 64) 0 ≡ list_all is_plain v
+plain-from_lanes v lanes short is =
+    ap (λ ms. eqb (mask_l ms % 2 ^ 64) 0) (ap (map (top 7)) is ∙ others v)
+    ∙ ap (λ n. eqb n 0) (mask_l-mod (map (λ x. not (is_plain x)) v) 64 (omega (arith, length-map v (λ x. not (is_plain x)))))
+    ∙ list_all-from_marks is_plain v
+
+-- the marks of the last block that are left by a shift count the bytes from a place on
+pub count_by-behind : (p : ℕ → Bool) (xs : List ℕ) (last k at : ℕ) → length xs ≤ last + 16 → last + k ≡ at
+    → count_ones (mask_l (map p (chunk last 16 xs)) / 2 ^ k) ≡ count_by p (drop at xs)
+count_by-behind p xs last k at rest place =
+    ap count_ones (mask_l-drop (map p (chunk last 16 xs)) k ∙ ap mask_l (drop-map p k (chunk last 16 xs)))
+    ∙ ones-mask_l p (drop k (chunk last 16 xs))
+    ∙ ap (λ l. count_by p (drop k l)) (take_all 16 (drop last xs) (omega (arith, length-drop last xs)))
+    ∙ ap (count_by p) (drop-drop k last xs ∙ ap (λ n. drop n xs) place)
+
+-- the bytes before a place and the block at it
+pub count_by-marks : (p : ℕ → Bool) (xs : List ℕ) (at count marks : ℕ) → count ≡ count_by p (take at xs) → marks ≡ mask_l (map p (chunk at 16 xs))
+    → count + count_ones marks ≡ count_by p (take (at + 16) xs)
+count_by-marks p xs at count marks counted are =
+    ap₂ (λ a b. a + b) counted (ap count_ones are ∙ ones-mask_l p (chunk at 16 xs))
+    ∙ sym (ap (count_by p) (take-add at 16 xs) ∙ sum_by-append (λ x. cond (p x) 1 0) (take at xs) (chunk at 16 xs))
+
+pub list_all-block : (p : ℕ → Bool) (xs : List ℕ) (at : ℕ) → list_all p (take (at + 16) xs) ≡ (list_all p (take at xs) && list_all p (chunk at 16 xs))
+list_all-block p xs at = ap (list_all p) (take-add at 16 xs) ∙ list_all-append p (take at xs) (chunk at 16 xs)
+
+-- all bytes, by those before a place and those from it on
+list_all-split : (p : ℕ → Bool) (xs : List ℕ) (i : ℕ) → list_all p xs ≡ (list_all p (take i xs) && list_all p (drop i xs))
+list_all-split p xs i = ap (list_all p) (sym (take-append-drop i xs)) ∙ list_all-append p (take i xs) (drop i xs)
+
+-- where the bytes before a place pass, so do those before an earlier one, and the rest tells
+pub list_all-rest : (p : ℕ → Bool) (xs : List ℕ) (last at : ℕ) → last ≤ at → length xs ≤ last + 16 → list_all p (take at xs) ≡ true → list_all p (chunk last 16 xs) ≡ list_all p xs
+list_all-rest p xs last at before rest all =
+    let parts : (list_all p (take last xs) && list_all p (drop last (take at xs))) ≡ true =
+    sym (list_all-split p (take at xs) last ∙ ap (λ l. list_all p l && list_all p (drop last (take at xs))) (take-take last at xs before)) ∙ all in
+    ap (list_all p) (take_all 16 (drop last xs) (omega (arith, length-drop last xs)))
+    ∙ sym (list_all-split p xs last ∙ ap (λ front. front && list_all p (drop last xs)) (and_parts _ _ parts).0)
+
+-- a block that does not pass
+pub list_all-refused : (p : ℕ → Bool) (xs : List ℕ) (at : ℕ) → list_all p (chunk at 16 xs) ≡ false → list_all p xs ≡ false
+list_all-refused p xs at refused =
+    grind (arith, nat_tests, refused, list_all-split p xs (at + 16), list_all-block p xs at)
+
+behind_spaces : (n : ℕ) (xs : List ℕ) → list_all is_plain (replicate n 32 ++ xs) ≡ list_all is_plain xs
+behind_spaces zero xs = refl
+behind_spaces (suc n) xs = behind_spaces n xs
+
+-- what a block says of fewer bytes, which it has behind spaces
+pub list_all-filled : (xs : List ℕ) → length xs ≤ 16 → list_all is_plain (chunk 0 16 (replicate (16 - length xs) 32 ++ xs)) ≡ list_all is_plain xs
+list_all-filled xs short =
+    let spaces : List ℕ = replicate (16 - length xs) 32 in
+    let fits : length (spaces ++ xs) ≤ 16 = omega (arith, length-append spaces xs, length-replicate {A = ℕ} (16 - length xs) 32) in
+    ap (list_all is_plain) (take_all 16 (spaces ++ xs) fits) ∙ behind_spaces (16 - length xs) xs

@@ -1,0 +1,90 @@
+//! Tests of all bytes of a text, 16 at a time. Most lines are two to four such blocks.
+ghost use Rattle.std.specs.Prelude.{◌≡◌, ◌==◌, ◌+◌, ◌-◌, ◌≤◌, ◌++◌, count_by, drop, length, map, replicate};
+ghost use Rattle.std.specs.Simd.Lanes.{chunk, mask_l};
+ghost use Rattle.std.specs.List.{list_all};
+ghost use Rattle.text_lines.specs.LineText.{is_plain};
+
+use std::simd::prelude::*;
+
+/// The bytes of a block.
+const BLOCK: usize = 16;
+
+/// How many of the bytes have this value.
+pub(crate) fn count_of(bytes: &[u8], byte: u8) -> usize
+    ensures count { result ≡ count_by (λ b. b == byte) bytes.now }
+    ensures most { result ≤ length bytes.now }
+{
+    if bytes.len() < BLOCK {
+        return count_behind(&filled(bytes), BLOCK - bytes.len(), byte);
+    }
+    let last = bytes.len() - BLOCK;
+    let mut count = 0;
+    let mut at = 0;
+    while at <= last {
+        count += marks_of(bytes, at, byte).count_ones() as usize;
+        at += BLOCK;
+    }
+    count + count_behind(bytes, at, byte)
+}
+
+/// How many of the bytes from a place on have this value. All of them lie in the last block.
+fn count_behind(bytes: &[u8], at: usize, byte: u8) -> usize
+    requires within { at ≤ length bytes.now }
+    requires block { 16 ≤ length bytes.now }
+    requires behind { length bytes.now ≤ at + 16 }
+    ensures { result ≡ count_by (λ b. b == byte) (drop at bytes.now) }
+{
+    let last = bytes.len() - BLOCK;
+    // The marks of the bytes before the place are shifted out.
+    let marks = marks_of(bytes, last, byte) >> (at - last);
+    marks.count_ones() as usize
+}
+
+/// A bit for each byte of the block at a place, the first lowest: set where the byte has this value.
+fn marks_of(bytes: &[u8], at: usize, byte: u8) -> u64
+    requires { at + 16 ≤ length bytes.now }
+    ensures { result ≡ mask_l (map (λ b. b == byte) (chunk at 16 bytes.now)) }
+{
+    let lanes = u8x16::from_slice(&bytes[at..]);
+    lanes.simd_eq(u8x16::splat(byte)).to_bitmask()
+}
+
+/// Whether each byte is plain: TAB, or one from 32 to 126.
+pub(crate) fn are_plain(bytes: &[u8]) -> bool
+    ensures { result ≡ list_all is_plain bytes.now }
+{
+    if bytes.len() < BLOCK {
+        return is_plain_block(&filled(bytes), 0);
+    }
+    let last = bytes.len() - BLOCK;
+    let mut at = 0;
+    while at < last {
+        if !is_plain_block(bytes, at) {
+            return false;
+        }
+        at += BLOCK;
+    }
+    // This block may overlap the one before.
+    is_plain_block(bytes, last)
+}
+
+/// Whether each byte of the block at a place is plain.
+fn is_plain_block(bytes: &[u8], at: usize) -> bool
+    requires { at + 16 ≤ length bytes.now }
+    ensures { result ≡ list_all is_plain (chunk at 16 bytes.now) }
+{
+    let lanes = u8x16::from_slice(&bytes[at..]);
+    let control = lanes.simd_lt(u8x16::splat(32)) & lanes.simd_ne(u8x16::splat(b'\t'));
+    let others = control | lanes.simd_gt(u8x16::splat(126));
+    others.to_bitmask() == 0
+}
+
+/// At most 16 bytes as a block, behind spaces: a short text then needs no loop over its bytes.
+fn filled(bytes: &[u8]) -> [u8; BLOCK]
+    requires { length bytes.now ≤ 16 }
+    ensures { result ≡ replicate (16 - length bytes.now) 32 ++ bytes.now }
+{
+    let mut block = [b' '; BLOCK];
+    block[BLOCK - bytes.len()..].copy_from_slice(bytes);
+    block
+}
