@@ -1,13 +1,14 @@
 //! A schema: the policy, the measures, the named dimensions and the views of a cube.
-ghost use Rattle.std.specs.Prelude.{◌≡◌, ◌<◌, All, IfSome, length, true};
+ghost use Rattle.std.specs.Prelude.{◌≡◌, ◌<◌, All, IfOk, IfSome, length, true};
 ghost use Rattle.cube_base.specs.Name.{is_name};
-ghost use Rattle.schema_text.specs.Schema.{AreNames, AreViews, IsKind, IsSchema, shape_of, view_named, weight_of};
+ghost use Rattle.schema_text.specs.Schema.{AreNames, AreViews, IsKind, IsSchema, over_dims, shape_of, view_named, weight_of};
 
 use crate::views::place_of;
 use crate::word::PolicyWord;
 use cube_base::{Code, Memory, Name, Names};
 use fact_records::Shape;
 use region_algebra::{Space, ViewDef, ViewDefs};
+use std::alloc::Global;
 use std::marker::Model;
 
 /// Why a text is refused as a schema.
@@ -126,6 +127,20 @@ impl Schema {
         self.views.as_slice()
     }
 
+    /// An equal schema over another space, of as many dimensions. The one error is want of memory.
+    pub fn over(&self, alloc: Global, space: Space) -> Result<Self, Memory>
+        requires { length space ≡ length self.now.dims }
+        ensures { IfOk result (λ schema. schema ≡ over_dims self.now space) }
+    {
+        Ok(Schema {
+            space,
+            shape: self.shape.copy()?,
+            policy: self.policy,
+            dim_names: copied_names(alloc, self.dim_names())?,
+            views: copied_views(alloc, self.views())?,
+        })
+    }
+
     /// The place of the view of a name: None exactly where no view has it. It takes no memory.
     pub fn view_named(&self, name: &str) -> Option<u32>
         ensures named { result ≡ view_named self.now.views name.now }
@@ -134,4 +149,26 @@ impl Schema {
         let place = place_of(self.views(), name.as_bytes())?;
         Some(place as u32)
     }
+}
+
+/// Equal names.
+fn copied_names(alloc: Global, names: &[Name]) -> Result<Names, Memory>
+    ensures { IfOk result (λ copies. copies ≡ names.now) }
+{
+    let mut copies = Names::new(alloc);
+    for name in names {
+        copies.push(name.copy()?)?;
+    }
+    Ok(copies)
+}
+
+/// Equal views.
+fn copied_views(alloc: Global, views: &[ViewDef]) -> Result<ViewDefs, Memory>
+    ensures { IfOk result (λ copies. copies ≡ views.now) }
+{
+    let mut copies = ViewDefs::new(alloc);
+    for view in views {
+        copies.push(view.copy(alloc)?)?;
+    }
+    Ok(copies)
 }
