@@ -1,10 +1,15 @@
 pub mod Distributed
 pub mod Expecting
+pub mod Fresh
+pub mod GrowthTold
 pub mod Listing
 pub mod Moderation
+pub mod Moving
 pub mod PlacedRows
 pub mod Planned
+pub mod Respreading
 pub mod Rows
 pub mod Stating
 pub mod TermsBelow
 pub mod Told
+pub mod Widening

@@ -26,7 +26,7 @@ module _ {P : Type 0} (weigh : P → CellStat → ℕ) (schema : SchemaValue) (s
   policy = policy_in (weigh state.policy) schema
 
   -- what is made of a policy, the measures and the dimensions
-  all-same : {X : Type 0} (f : Policy → ShapeValue → List Dimension → X) → f (state_policy_in weigh state) state.shape state.dims ≡ f policy (shape_of schema) schema.dims
+  pub all-same : {X : Type 0} (f : Policy → ShapeValue → List Dimension → X) → f (state_policy_in weigh state) state.shape state.dims ≡ f policy (shape_of schema) schema.dims
   all-same f =
       ap (λ (p : Policy). f p state.shape state.dims) (ap (policy_over (weigh state.policy)) of.shape_is) ∙ ap (λ shape. f policy shape state.dims) of.shape_is ∙ ap (λ dims. f policy (shape_of schema) dims) of.dims_are
 

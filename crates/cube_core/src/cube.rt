@@ -60,9 +60,9 @@ pub struct Receipt {
 /// the measures allow, and a region of the space with at most 2^20 cells.
 #[derive(Drop)]
 pub struct Cube<P: WeightPolicy + Drop> {
-    alloc: Global,
-    schema: Schema,
-    state: State<P>,
+    pub(crate) alloc: Global,
+    pub(crate) schema: Schema,
+    pub(crate) state: State<P>,
 }
 
 impl<P: WeightPolicy + Drop> Model for Cube<P> {
@@ -314,7 +314,7 @@ impl<P: WeightPolicy + Drop> Cube<P> {
 }
 
 /// The allocation of the fact of an id, whose step is not counted.
-fn look_up<L: Ledger, P: WeightPolicy + Drop>(
+pub(crate) fn look_up<L: Ledger, P: WeightPolicy + Drop>(
     state: &State<P>,
     id: u64,
     blank: Blank,

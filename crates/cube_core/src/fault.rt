@@ -3,6 +3,7 @@ use cube_base::{Code, Memory};
 use edit_plan::{PlanAllFault, PlanFault};
 use fact_keeper::KeepError;
 use fact_sequence::BadRecord;
+use region_algebra::GrowFault;
 use thiserror::Error;
 
 /// Why an edit is not done. The cube is as it was.
@@ -44,6 +45,38 @@ impl From<PlanFault> for EditFault {
             PlanFault::Code(code) => EditFault::Code(code),
             PlanFault::Rows { would } => EditFault::Rows { would },
             PlanFault::Memory => EditFault::Memory,
+        }
+    }
+}
+
+impl From<PlanAllFault> for EditFault {
+    ghost use Rattle.std.specs.Prelude.{◌≡◌};
+    ghost use Rattle.cube_core.specs.Respread.{fault_of_plan_all};
+
+    ghost from_gives = { λ planned fault. fault ≡ fault_of_plan_all planned };
+
+    fn from(fault: PlanAllFault) -> Self {
+        match fault {
+            PlanAllFault::Rows { would } => EditFault::Rows { would },
+            PlanAllFault::Memory => EditFault::Memory,
+        }
+    }
+}
+
+impl From<GrowFault> for EditFault {
+    ghost use Rattle.std.specs.Prelude.{◌≡◌};
+    ghost use Rattle.cube_core.specs.Growth.{fault_of_growth};
+
+    ghost from_gives = { λ grown fault. fault ≡ fault_of_growth grown };
+
+    fn from(fault: GrowFault) -> Self {
+        match fault {
+            GrowFault::Name => EditFault::Code(Code::Name),
+            GrowFault::Depth => EditFault::Code(Code::Depth),
+            GrowFault::Limit => EditFault::Code(Code::Limit),
+            GrowFault::Cells => EditFault::Code(Code::Cells),
+            GrowFault::Nodes => EditFault::Code(Code::Nodes),
+            GrowFault::Memory => EditFault::Memory,
         }
     }
 }

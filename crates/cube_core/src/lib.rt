@@ -4,8 +4,10 @@
 mod carrying;
 mod cube;
 mod fault;
+mod growing;
 mod laws;
 mod place;
+mod respread;
 
 pub use cube::{Cube, Receipt};
 pub use fault::{EditFault, ImportFault};

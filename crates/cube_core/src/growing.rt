@@ -1,0 +1,129 @@
+//! The growth of a dimension of a cube. What is large is dropped by calls of `drop`, each of which is proved once.
+ghost use Rattle.std.specs.Prelude.{◌≡◌, ◌++◌, ◌∷◌, [], None, true, option_map, IfErr, IfOk, IsTrue, OnErr, OnOk};
+ghost use Rattle.cube_model.specs.Ascending.{ascends_from};
+ghost use Rattle.edit_plan.specs.State.{policy_in};
+ghost use Rattle.fact_keeper.specs.Batch.{apply_batch};
+ghost use Rattle.schema_text.specs.Growth.{IsGrowOf, dims_with};
+ghost use Rattle.schema_text.specs.Schema.{over_dims};
+ghost use Rattle.cube_core.specs.Cube.{CountsEditFault};
+ghost use Rattle.cube_core.specs.Growth.{IsGrowthFaultOf, grown, growth_difference_in, judge_growth_in, moved, moved_in, space_refusal};
+ghost use Rattle.cube_core.specs.Respread.{IsOver, IsRespreadFault, IsSpaceFault, KeepRegions, batch_to, facts_refusal};
+
+use crate::EditFault;
+use crate::cube::{Cube, Receipt};
+use crate::respread::{Moved, moved_between, state_over};
+use cell_weight::WeightPolicy;
+use cube_base::Ids;
+use edit_plan::State;
+use fact_keeper::{Batch, Keeper, KeptFacts};
+use region_algebra::Grow;
+use schema_text::{Schema, write_schema};
+use std::alloc::Global;
+use std::mem::replace;
+
+impl<P: WeightPolicy + Drop + Copy> Cube<P> {
+    /// Gives a dimension a leaf: its dimension and the parent must be there, and no node of the dimension may have its name. What is kept
+    /// of the facts is made anew over the grown space, which takes time in proportion to the facts and their rows. To the keeper, which
+    /// must be open, one batch is committed: the one text of the schema as it is then, and the rows of the facts that lie otherwise. No
+    /// kept fact changes. `Code` is answered for the first of these that holds: `Depth`, the parent has depth 8; `Limit`, the dimension
+    /// has 65,536 nodes; `Cells` and `Nodes`, the product of the numbers of leaves, or of nodes, would be 2^62 or more; `Region`, a fact
+    /// would have more than 2^20 cells; and then `Rows`, all facts would have more than 2^21 rows, with their number. `KeepFault` comes
+    /// at a fault of the keeper alone, which it counts, and where nothing refuses the growth. The one other error is want of memory. On
+    /// every error the cube, and what the keeper holds, are as they were.
+    pub fn grow<K: Keeper>(&mut self, grow: &Grow, keeper: &mut K) -> Result<Receipt, EditFault>
+        requires there { IsGrowOf self.old.schema.dims grow.now }
+        requires open { IsTrue (K.is_open keeper.old) }
+        ensures grown { OnOk result (self.new ≡ grown grow.now self.old) }
+        ensures accepted { OnOk result (judge_growth_in P.weigh self.old grow.now ≡ None) }
+        ensures refreshed { IfOk result (λ receipt. receipt.refreshed ≡ moved_in P.weigh self.old grow.now) }
+        ensures ascending { IfOk result (λ receipt. ascends_from (λ id. id) 1 receipt.refreshed ≡ true) }
+        ensures removed { IfOk result (λ receipt. receipt.removed ≡ None) }
+        ensures content { OnOk result (K.content keeper.new ≡ option_map (apply_batch (growth_difference_in P.weigh self.old grow.now)) (K.content keeper.old)) }
+        ensures journal { OnOk result (K.journal keeper.new ≡ option_map (λ batches. batches ++ growth_difference_in P.weigh self.old grow.now ∷ []) (K.journal keeper.old)) }
+        ensures stays_open { IsTrue (K.is_open keeper.new) }
+        ensures count { CountsEditFault (K.faults keeper.old) (K.faults keeper.new) result }
+        ensures fault { IfErr result (IsGrowthFaultOf P.weigh self.old grow.now) }
+        ensures same { OnErr result (self.new ≡ self.old) }
+        ensures same_content { OnErr result (K.content keeper.new ≡ K.content keeper.old) }
+        ensures same_journal { OnErr result (K.journal keeper.new ≡ K.journal keeper.old) }
+    {
+        let schema = schema_with(self.alloc, &self.schema, grow)?;
+        let growth = growth_to(self.alloc, &self.state, schema)?;
+        if let Err(fault) = keeper.commit(&growth.batch) {
+            drop(growth);
+            return Err(EditFault::from(fault));
+        }
+        let Growth {
+            schema,
+            state,
+            refreshed,
+            batch,
+        } = growth;
+        drop(batch);
+        drop(replace(&mut self.schema, schema));
+        drop(replace(&mut self.state, state));
+        Ok(Receipt {
+            refreshed,
+            removed: None,
+        })
+    }
+}
+
+/// The schema with a leaf more, or why its space does not get one.
+fn schema_with(alloc: Global, schema: &Schema, grow: &Grow) -> Result<Schema, EditFault>
+    requires { IsGrowOf schema.now.dims grow.now }
+    ensures schema { IfOk result (λ later. later ≡ over_dims schema.now (dims_with grow.now schema.now.dims)) }
+    ensures regions { OnOk result (KeepRegions schema.now.dims (dims_with grow.now schema.now.dims)) }
+    ensures accepted { OnOk result (space_refusal schema.now.dims grow.now ≡ None) }
+    ensures fault { IfErr result (IsSpaceFault schema.now.dims grow.now) }
+{
+    let name = grow.name.copy()?;
+    let space = schema.space().grown(grow.dim, grow.parent, name)?;
+    Ok(schema.over(alloc, space)?)
+}
+
+/// What a cube becomes by a growth, with what is refreshed and what changes in a store.
+#[derive(Drop)]
+struct Growth<P: WeightPolicy + Drop> {
+    schema: Schema,
+    state: State<P>,
+    refreshed: Ids,
+    batch: Batch,
+}
+
+/// The growth of a state to a schema over whose space its facts may be, or why they may not.
+fn growth_to<P: WeightPolicy + Drop + Copy>(
+    alloc: Global,
+    state: &State<P>,
+    schema: Schema,
+) -> Result<Growth<P>, EditFault>
+    requires { KeepRegions state.now.dims schema.dims }
+    ensures schema { IfOk result (λ growth. growth.schema ≡ schema) }
+    ensures over { IfOk result (λ growth. IsOver schema.dims state.now growth.state) }
+    ensures refreshed { IfOk result (λ growth. growth.refreshed ≡ moved (policy_in P.weigh state.now) state.now.dims schema.dims state.now.facts) }
+    ensures ascending { IfOk result (λ growth. ascends_from (λ id. id) 1 growth.refreshed ≡ true) }
+    ensures batch { IfOk result (λ growth. growth.batch ≡ batch_to (policy_in P.weigh state.now) state.now.dims schema state.now.facts) }
+    ensures accepted { OnOk result (facts_refusal (policy_in P.weigh state.now) schema.dims state.now.facts ≡ None) }
+    ensures fault { IfErr result (IsRespreadFault P.weigh state.now schema.dims) }
+{
+    let text = write_schema(alloc, &schema)?;
+    let later = state_over(alloc, state, schema.space())?;
+    let Moved { ids, rows } = match moved_between(alloc, state, &later) {
+        Ok(moved) => moved,
+        Err(fault) => {
+            drop(later);
+            return Err(EditFault::from(fault));
+        }
+    };
+    Ok(Growth {
+        schema,
+        state: later,
+        refreshed: ids,
+        batch: Batch {
+            schema: Some(text),
+            gone: Ids::new(alloc),
+            facts: KeptFacts::new(alloc),
+            rows,
+        },
+    })
+}

@@ -1,0 +1,151 @@
+//! The facts of a state, spread anew over another space.
+ghost use Rattle.std.specs.Prelude.{◌≡◌, ◌++◌, ◌∷◌, [], All, None, Some, true, IfErr, IfOk, OnOk};
+ghost use Rattle.cube_model.specs.Ascending.{ascends_from};
+ghost use Rattle.cube_model.specs.Difference.{is_same};
+ghost use Rattle.edit_plan.specs.State.{policy_in};
+ghost use Rattle.fact_records.specs.FactList.{fact_of};
+ghost use Rattle.region_algebra.specs.Space.{IsRegion};
+ghost use Rattle.cube_core.specs.Growth.{has_large_region, moved};
+ghost use Rattle.cube_core.specs.Respread.{IsOver, IsRespreadFault, KeepRegions, all_moved, facts_refusal, ids_moved, rows_moved};
+
+use crate::EditFault;
+use crate::cube::look_up;
+use alloc_rows::Alloc;
+use cell_weight::WeightPolicy;
+use cube_base::{Code, Ids, Memory};
+use cube_model::Fact;
+use edit_plan::{State, plan_all};
+use fact_keeper::{KeptRows, KeptRowsList};
+use fact_records::{FactList, FactRun, check_region};
+use region_algebra::Space;
+use std::alloc::Global;
+use std::marker::Brand;
+use std::sync::ledger::Blank;
+
+/// The state of the same facts over another space, of which all their regions are. All that is kept of them is made anew. The first of
+/// these that holds is answered: `Code` with `Region`, a fact has more than 2^20 cells; `Rows`, they have more than 2^21 rows, with their
+/// number. The one other error is want of memory.
+pub(crate) fn state_over<P: WeightPolicy + Drop + Copy>(
+    alloc: Global,
+    state: &State<P>,
+    space: &Space,
+) -> Result<State<P>, EditFault>
+    requires { KeepRegions state.now.dims space.now }
+    ensures over { IfOk result (IsOver space.now state.now) }
+    ensures accepted { OnOk result (facts_refusal (policy_in P.weigh state.now) space.now state.now.facts ≡ None) }
+    ensures fault { IfErr result (IsRespreadFault P.weigh state.now space.now) }
+{
+    let facts = state.facts();
+    if has_large_region(space, facts) {
+        return Err(EditFault::Code(Code::Region));
+    }
+    let all = run_of(alloc, facts)?;
+    let mut later = state.fresh(space.copy()?)?;
+    let plan = match plan_all(alloc, &later, &all) {
+        Ok(plan) => plan,
+        Err(fault) => {
+            drop(later);
+            return Err(EditFault::from(fault));
+        }
+    };
+    later.install(plan);
+    Ok(later)
+}
+
+/// Whether a fact has more than 2^20 cells.
+fn has_large_region(space: &Space, facts: &FactList) -> bool
+    requires { All (λ f. IsRegion space.now f.region) facts.now.facts }
+    ensures { result ≡ has_large_region space.now facts.now.facts }
+{
+    for fact in facts.iter() {
+        if check_region(space, fact.region).is_err() {
+            return true;
+        }
+    }
+    false
+}
+
+/// The facts in order.
+fn run_of(alloc: Global, facts: &FactList) -> Result<FactRun, Memory>
+    ensures { IfOk result (λ run. run ≡ facts.now.facts) }
+{
+    let mut run = FactRun::new(alloc);
+    for fact in facts.iter() {
+        run.push(*fact)?;
+    }
+    Ok(run)
+}
+
+/// Of facts that lie otherwise than before, the ids and the rows.
+#[derive(Drop)]
+pub(crate) struct Moved {
+    pub(crate) ids: Ids,
+    pub(crate) rows: KeptRowsList,
+}
+
+impl Moved {
+    /// Holds a fact more, which is spread so. No row is copied.
+    fn hold(&mut self, id: u64, spread: &Alloc) -> Result<(), Memory>
+        ensures ids { OnOk result (self.new.ids ≡ self.old.ids ++ id ∷ []) }
+        ensures rows { OnOk result (self.new.rows ≡ self.old.rows ++ record { id = id; den = spread.now.den; rows = spread.now.rows } ∷ []) }
+    {
+        self.ids.push(id)?;
+        self.rows.push(KeptRows {
+            id,
+            den: spread.den(),
+            rows: spread.shared_rows()?,
+        })
+    }
+}
+
+/// The facts of a state that lie otherwise in another, which is the same over another space.
+pub(crate) fn moved_between<P: WeightPolicy + Drop>(
+    alloc: Global,
+    state: &State<P>,
+    later: &State<P>,
+) -> Result<Moved, Memory>
+    requires { IsOver later.now.dims state.now later.now }
+    ensures ids { IfOk result (λ held. held.ids ≡ moved (policy_in P.weigh state.now) state.now.dims later.now.dims state.now.facts) }
+    ensures rows { IfOk result (λ held. held.rows ≡ all_moved (policy_in P.weigh state.now) state.now.dims later.now.dims state.now.facts) }
+    ensures ascending { IfOk result (λ held. ascends_from (λ id. id) 1 held.ids ≡ true) }
+{
+    let mut held = Moved {
+        ids: Ids::new(alloc),
+        rows: KeptRowsList::new(alloc),
+    };
+    for fact in state.facts().iter() {
+        hold_moved(state, later, fact, &mut held)?;
+    }
+    Ok(held)
+}
+
+/// Holds a fact, where it lies otherwise.
+fn hold_moved<P: WeightPolicy + Drop>(
+    state: &State<P>,
+    later: &State<P>,
+    fact: &Fact,
+    held: &mut Moved,
+) -> Result<(), Memory>
+    requires over { IsOver later.now.dims state.now later.now }
+    requires there { fact_of fact.now.id state.now.facts ≡ Some fact.now }
+    ensures ids { OnOk result (held.new.ids ≡ held.old.ids ++ ids_moved (policy_in P.weigh state.now) state.now.dims later.now.dims state.now.facts (fact.now ∷ [])) }
+    ensures rows { OnOk result (held.new.rows ≡ held.old.rows ++ rows_moved (policy_in P.weigh state.now) state.now.dims later.now.dims state.now.facts (fact.now ∷ [])) }
+{
+    let Some(before) = look_up::<Brand, P>(state, fact.id, Blank::new(1)) else {
+        unreachable!()
+    };
+    let Some(spread) = look_up::<Brand, P>(later, fact.id, Blank::new(1)) else {
+        unreachable!()
+    };
+    if is_same(before, spread) {
+        return Ok(());
+    }
+    held.hold(fact.id, spread)
+}
+
+/// Whether two allocations have one denominator and the same rows.
+fn is_same(a: &Alloc, b: &Alloc) -> bool
+    ensures { result ≡ is_same a.now b.now }
+{
+    a.den() == b.den() && a.rows() == b.rows()
+}
