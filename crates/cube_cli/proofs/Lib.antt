@@ -4,6 +4,7 @@ pub mod Coming
 pub mod Completing
 pub mod Ends
 pub mod Files
+pub mod Growths
 pub mod HeldLines
 pub mod Keepers
 pub mod Keeping

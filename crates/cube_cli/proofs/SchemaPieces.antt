@@ -1,11 +1,11 @@
 -- The pieces of an input, while the lines are taken that hold its schema.
-use Rattle.std.proofs.Common.{◌≡◌, ◌≢◌, ℕ, suc, ◌+◌, ◌<◌, ◌≤◌, Bool, true, false, List, [], ◌∷◌, ◌++◌, length, take, drop, refl, ap, sym, subst, ◌∙◌, arith, append-nil, append_assoc, length-append, inl, inr, Option}
+use Rattle.std.proofs.Common.{◌≡◌, ◌≢◌, ℕ, suc, ◌+◌, ◌<◌, ◌≤◌, true, false, List, [], ◌∷◌, ◌++◌, length, take, drop, refl, ap, sym, subst, ◌∙◌, arith, append-nil, append_assoc, length-append, inl, inr, Option}
 use Rattle.std.specs.List.{list_any}
 use Rattle.std.specs.Io.KnownBytes.{Consumes, IsAtEnd}
 use Rattle.std.proofs.KnownBytes.{Consumes-kept, Consumes-nil, Consumes-trans}
 use Rattle.std.proofs.lemmas.List.{drop_all, length-map}
 use Rattle.std.proofs.lemmas.List.Folds.{list_any-append}
-use Rattle.line_cutter.specs.Input.{GoesOn, INPUT_LIMIT, TakesAtMost}
+use Rattle.line_cutter.specs.Input.{INPUT_LIMIT, TakesAtMost}
 use Rattle.line_cutter.specs.Pieces.{ended_lines, front, last_line, lf_count, line_end, pieces_of, rest_of, whole_lines}
 use Rattle.line_cutter.specs.Reading.{Feeds, Reading, StopsFeeding}
 use Rattle.line_cutter.specs.declared.input.InputStop.{InputStop}
@@ -13,7 +13,7 @@ use Rattle.line_cutter.specs.declared.input.InputStop.TheVariants as input_stop
 use Rattle.line_cutter.proofs.Ended.{ended_lines-length, line_end-behind, rest_of-more, whole_lines-ended, whole_lines-more}
 use Rattle.schema_text.specs.SchemaText.{is_end}
 use Rattle.script_run.specs.Seen.{SourceSeen}
-use Rattle.cube_cli.specs.SchemaLines.{HasSchemaLines, HoldsSchemaLines, IsLastPiece, LacksEnd, StopsBeforeEnd, TookHeld, TookLines, TookTooMuch, has_end, text_of_lines}
+use Rattle.cube_cli.specs.SchemaLines.{HasSchemaLines, StopsBeforeEnd, TookHeld, TookLines, has_end, text_of_lines}
 use Rattle.cube_cli.proofs.SchemaTexts.{to_end, to_end-behind}
 use Rattle.cube_cli.proofs.SchemaTaking.{has_end-whole, held-behind, holds_all, holds_some, position-to_end, to_end-front, to_end-le, to_end-none}
 use Rattle.cube_cli.proofs.TakenLines.{text_of_lines-append}

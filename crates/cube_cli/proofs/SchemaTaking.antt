@@ -1,20 +1,17 @@
 -- Taking the lines that hold a schema.
-use Rattle.std.proofs.Common.{◌≡◌, ◌≢◌, ℕ, zero, suc, ◌+◌, ◌-◌, ◌<◌, ◌≤◌, Bool, true, false, List, [], ◌∷◌, ◌++◌, length, take, drop, map, refl, ap, sym, subst, ◌∙◌, arith, append-nil, append_assoc, length-append, take_all, inl, inr, Option, Some, None}
+use Rattle.std.proofs.Common.{◌≡◌, ℕ, suc, ◌+◌, ◌≤◌, Bool, true, false, List, [], ◌∷◌, ◌++◌, length, take, drop, map, refl, ap, sym, subst, ◌∙◌, arith, length-append, take_all, Option, Some, None}
 use Rattle.std.specs.Prelude.{◌==◌, IsSomeAnd, if◌then◌else◌, position}
 use Rattle.std.specs.Option.{option_map_or}
 use Rattle.std.specs.List.{list_any, onto_first}
-use Rattle.std.specs.Io.KnownBytes.{Consumes, IsAtEnd}
-use Rattle.std.proofs.KnownBytes.{Consumes-nil, Consumes-trans}
 use Rattle.std.proofs.lemmas.List.{drop-append-le, drop_all, length-map, take-append-le, take-map}
 use Rattle.std.proofs.lemmas.List.Folds.{list_any_at}
 use Rattle.std.proofs.lemmas.List.Quantifiers.{position-Some}
 use Rattle.text_lines.specs.Text.{after_lines, lines_of}
-use Rattle.line_cutter.specs.Input.{INPUT_LIMIT}
 use Rattle.line_cutter.specs.Pieces.{ended_lines, front, last_line, lf_count, line_end, pieces_of, rest_of, whole_lines}
 use Rattle.line_cutter.proofs.Ended.{ended_lines-length, lines_of-after, lines_of-ended, lines_of-last, whole_lines-ended}
 use Rattle.line_cutter.proofs.Fronts.{pieces_of-some}
 use Rattle.schema_text.specs.SchemaText.{is_end}
-use Rattle.cube_cli.specs.SchemaLines.{HasSchemaLines, has_end, schema_bytes, schema_lines, text_of_lines}
+use Rattle.cube_cli.specs.SchemaLines.{HasSchemaLines, has_end, schema_lines, text_of_lines}
 use Rattle.cube_cli.proofs.SchemaTexts.{is_end-front, schema_lines-is, to_end, to_end-is}
 use Rattle.cube_cli.proofs.TakenLines.{HaveNoLf-append, HaveNoLf-last, HaveNoLf-pieces, HaveNoLf-take, HaveNoLf-whole, drop-line_end, line_end-append, lines_of-text, pieces_of-after}
 

@@ -1,5 +1,5 @@
 -- Which lines of an input hold its schema, and that these alone tell it.
-use Rattle.std.proofs.Common.{◌≡◌, ◌≢◌, ℕ, zero, suc, ◌+◌, ◌-◌, ◌<◌, ◌≤◌, Bool, true, false, List, [], ◌∷◌, ◌++◌, length, take, drop, map, refl, ap, sym, subst, ◌∙◌, arith, Option, Some, None, length-take-le, take_all, cond, ◌⊎◌, inl, inr, Result}
+use Rattle.std.proofs.Common.{◌≡◌, ℕ, suc, ◌+◌, ◌-◌, ◌<◌, ◌≤◌, Bool, true, false, List, [], ◌∷◌, ◌++◌, length, take, drop, map, refl, ap, sym, subst, ◌∙◌, arith, Option, Some, None, length-take-le, take_all, cond, ◌⊎◌, inl, inr, Result}
 use Rattle.std.specs.Prelude.{Ok, Err, IfOk, if◌then◌else◌, codes, nat_lt, position}
 use Rattle.std.specs.Option.{option_map_or}
 use Rattle.std.specs.List.{list_any}
@@ -13,7 +13,7 @@ use Rattle.text_lines.specs.Text.{after_lines, lines_of}
 use Rattle.text_lines.proofs.LineTexts.{IsAsItsFront-long}
 use Rattle.line_cutter.specs.Pieces.{ended_lines, front, lf_count, line_end}
 use Rattle.line_cutter.proofs.Ended.{ended_lines-length, line_end-behind, lines_of-ended}
-use Rattle.schema_text.specs.SchemaText.{BadLine, Draft, ReadLines, ReadSchema, blank_draft, is_end, line_fault, read_from, schema_of, schema_of_draft, sized, with_line}
+use Rattle.schema_text.specs.SchemaText.{BadLine, Draft, ReadLines, ReadSchema, blank_draft, is_end, line_fault, read_from, schema_of, sized, with_line}
 use Rattle.schema_text.proofs.Ends.{length-without_cr}
 use Rattle.cube_cli.specs.SchemaLines.{HasSchemaLines, has_end, schema_bytes, schema_lines}
 

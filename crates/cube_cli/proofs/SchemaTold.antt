@@ -1,11 +1,11 @@
 -- What the lines that were taken tell of the input.
-use Rattle.std.proofs.Common.{◌≡◌, ℕ, ◌≤◌, ◌⊎◌, List, [], ◌++◌, length, ap, sym, subst, ◌∙◌, append-nil, arith, inl, inr, Option, Some, None, Ok, Err}
+use Rattle.std.proofs.Common.{◌≡◌, ℕ, ◌⊎◌, List, ◌++◌, length, ap, sym, subst, ◌∙◌, append-nil, arith, inl, inr, length-append, Option, Some, None, Ok, Err}
 use Rattle.std.specs.Prelude.{IfSome}
 use Rattle.std.specs.Io.KnownBytes.{Consumes, IsAtEnd}
 use Rattle.line_cutter.specs.Input.{INPUT_LIMIT, TakesAtMost}
 use Rattle.schema_text.specs.SchemaText.{BadLine, ReadSchema, schema_of}
 use Rattle.script_run.specs.Seen.{SourceSeen}
-use Rattle.cube_cli.specs.SchemaLines.{BeginsWith, HasSchemaLines, HoldsSchemaLines, TookLines, TookSchema}
+use Rattle.cube_cli.specs.SchemaLines.{BeginsWith, HasSchemaLines, HoldsSchemaLines, TookLines, TookSchema, TookToEnd}
 use Rattle.cube_cli.proofs.SchemaTexts.{schema_of-bad_lines, schema_of-lines}
 
 -- its schema
@@ -39,10 +39,17 @@ of_input (Some input) None taken P bytes says = absurd bytes
 of_input (Some input) (Some rest) taken P bytes (inl each) = subst P (sym bytes) (each rest)
 of_input (Some input) (Some rest) taken P bytes (inr whole) = subst P (sym (bytes ∙ ap (λ l. taken ++ l) whole.0 ∙ append-nil taken)) whole.1
 
-pub refuses_schema : (source : SourceSeen) (room : ℕ) (held : List (List ℕ)) (text : List ℕ) (bad : BadLine) → TookLines source room held text → schema_of text ≡ Err bad → IfSome source.left (λ input. schema_of input ≡ Err bad)
+pub refuses_schema : (source : SourceSeen) (room : ℕ) (held : List (List ℕ)) (text : List ℕ) (bad : BadLine) → TookLines source room held text → schema_of text ≡ Err bad
+    → IfSome source.left (λ input. (schema_of input ≡ Err bad) × TookToEnd source input)
 refuses_schema source room held text bad took is =
-    of_input source.left source.left_after took.taken (λ input. schema_of input ≡ Err bad) took.bytes
+    of_input source.left source.left_after took.taken (λ input. (schema_of input ≡ Err bad) × TookToEnd source input) took.bytes
     (elim took.holds.holds [
-      | inl each ↦ inl (λ more. schema_of-bad_lines (took.taken ++ more) took.size text bad (each more) is)
-      | inr whole ↦ inr (whole.0, schema_of-bad_lines took.taken took.size text bad whole.1 is)
+      | inl each ↦ inl (λ more. refuses (took.taken ++ more) (each more))
+      | inr whole ↦ inr (whole.0, refuses took.taken whole.1)
     ])
+  where
+    refuses : (input : List ℕ) → HasSchemaLines input took.size text → (schema_of input ≡ Err bad) × TookToEnd source input
+    refuses input lines = (
+      schema_of-bad_lines input took.size text bad lines is,
+      record { input = took.taken; bytes = took.bytes; few = omega (arith, ap length took.last.split, length-append took.last.before took.last.last, took.last.piece, took.last.behind, lines.size_is) },
+    )

@@ -10,6 +10,7 @@ use Rattle.cube_model.specs.declared.edit.Edit.{Edit}
 use Rattle.cube_model.specs.declared.edit.Edit.TheVariants.{Put, Change, Withdraw}
 use Rattle.cube_model.specs.declared.edit.Fact.{Fact}
 use Rattle.cube_model.specs.declared.statistic.CellStat.{CellStat}
+use Rattle.cube_model.specs.declared.tree.Grow.{Grow}
 use Rattle.cube_model.specs.Accepted.{first_refusal, first_that_holds}
 use Rattle.cube_model.specs.Allocation.{ExtendedFact}
 use Rattle.cube_model.specs.Answer.{answer}
@@ -35,15 +36,17 @@ use Rattle.world_law.specs.Law.{IsShared}
 use Rattle.world_law.proofs.Additive.{add_up_over_children}
 use Rattle.world_law.proofs.Shares.{shared-extended}
 use Rattle.cube_core.specs.Expected.{AreExpected}
+use Rattle.cube_core.specs.Growth.{judge_growth}
 use Rattle.cube_core.proofs.Expecting.{are_expected}
 use Rattle.fact_groups.specs.Edits.{given}
 use Rattle.fact_groups.proofs.Edits.{All-after}
 use Rattle.stored_state.specs.Sound.{AreGood, fact_fault, fact_told, has_wrong_id, id_before}
-use Rattle.script_run.specs.Run.{State, accepted, edited, empty_state, replied, rows_at, run, schema_at, step, step_from, step_of}
+use Rattle.script_run.specs.Run.{State, accepted, edited, empty_state, grown, growth, replied, rows_at, run, schema_at, step, step_from, step_of}
 use Rattle.cube_cli.specs.End.{script_of}
 use Rattle.cube_cli.specs.Expectations.{AddsUpAfterEachLine, AddsUpOverStore, AfterEachLine, AfterEachLineOver, AtEachRegion, ExpectsAfterEachLine, ExpectsOverStore, Saying, state_after, state_over_after}
 use Rattle.cube_cli.specs.SchemaAlone.{schema_alone, tail_line, without_tail}
 use Rattle.cube_cli.specs.Store.{IsSoundOver, state_over}
+use Rattle.cube_cli.proofs.Growths.{IsLeafOf, line_of-leaf, named-grown, trees-grown}
 use Rattle.cube_cli.proofs.SchemaTrees.{schema_of-trees}
 
 -- the dimensions of a state are trees, and its facts lie at regions of them
@@ -65,17 +68,30 @@ module _ (weigh : CellStat → ℕ) (schema : SchemaValue) where
       judged (Some refusal) = sound
       judged None = record { trees = sound.trees; named = All-after (λ f. IsRegion state.dims f.region) edit state.facts sound.named (on_given (λ f. IsRegion state.dims f.region) edit here) }
 
-  said-sound : (state : State) (said : Line) → IsSound state → OnFact (λ fact. IsRegion state.dims fact.region) said → IsSound (step_of weigh schema state said).state
-  said-sound state (line.Edit edit) sound here = edited-sound state edit sound here
-  said-sound state line.Nothing sound here = sound
-  said-sound state (line.Count region) sound here = sound
-  said-sound state (line.Sum measure region) sound here = sound
-  said-sound state (line.Avg measure region) sound here = sound
-  said-sound state (line.Pool measure region) sound here = sound
-  said-sound state (line.Terms region) sound here = sound
-  said-sound state (line.Rows id) sound here = sound
-  said-sound state (line.View view) sound here = sound
-  said-sound state (line.Worlds region) sound here = sound
+  growth-sound : (state : State) (grow : Grow) → IsSound state → IsLeafOf state.dims grow → IsSound (growth weigh schema state grow).state
+  growth-sound state grow sound leaf = judged (judge_growth (policy_in weigh schema) state.dims state.facts grow) refl
+    where
+      judged : (refusal : Option Code) → judge_growth (policy_in weigh schema) state.dims state.facts grow ≡ refusal
+          → IsSound (option_map_or (λ refusal. replied state (reply.Error refusal)) refusal (grown weigh schema state grow)).state
+      judged (Some refusal) is = sound
+      judged None is = record {
+        trees = trees-grown state.dims grow sound.trees leaf (policy_in weigh schema) state.facts is;
+        named = named-grown state.dims grow sound.trees leaf state.facts sound.named;
+      }
+
+  said-sound : (state : State) (said : Line) → IsSound state → OnFact (λ fact. IsRegion state.dims fact.region) said → ((grow : Grow) → said ≡ line.Grow grow → IsLeafOf state.dims grow)
+      → IsSound (step_of weigh schema state said).state
+  said-sound state (line.Edit edit) sound here leaf = edited-sound state edit sound here
+  said-sound state (line.Grow grow) sound here leaf = growth-sound state grow sound (leaf grow refl)
+  said-sound state line.Nothing sound here leaf = sound
+  said-sound state (line.Count region) sound here leaf = sound
+  said-sound state (line.Sum measure region) sound here leaf = sound
+  said-sound state (line.Avg measure region) sound here leaf = sound
+  said-sound state (line.Pool measure region) sound here leaf = sound
+  said-sound state (line.Terms region) sound here leaf = sound
+  said-sound state (line.Rows id) sound here leaf = sound
+  said-sound state (line.View view) sound here leaf = sound
+  said-sound state (line.Worlds region) sound here leaf = sound
 
   step-sound : (state : State) (bytes : List ℕ) → IsSound state → IsSound (step weigh schema state bytes).state
   unfolding step
@@ -83,7 +99,9 @@ module _ (weigh : CellStat → ℕ) (schema : SchemaValue) where
     where
       by_line : (read : Result Line Code) → line_of (schema_at schema state) bytes ≡ read → IsSound (step_from weigh schema state read).state
       by_line (Err refusal) is = sound
-      by_line (Ok said) is = said-sound state said sound (line_of-lies (schema_at schema state) sound.trees bytes said is)
+      by_line (Ok said) is =
+          said-sound state said sound (line_of-lies (schema_at schema state) sound.trees bytes said is)
+          (λ grow same. line_of-leaf (schema_at schema state) sound.trees grow bytes (is ∙ ap Ok same))
 
   run-sound : (state : State) (lines : List (List ℕ)) → IsSound state → IsSound (run weigh schema state lines).state
   run-sound state [] sound = sound

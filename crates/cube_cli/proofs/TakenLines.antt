@@ -1,13 +1,12 @@
 -- Lines of an input whose end was not taken yet, as a cutter holds them.
-use Rattle.std.proofs.Common.{◌≡◌, ◌≢◌, ℕ, zero, suc, ◌+◌, ◌-◌, ◌<◌, ◌≤◌, Bool, true, false, List, [], ◌∷◌, ◌++◌, length, take, drop, map, refl, ap, sym, subst, ◌∙◌, arith, append-nil, append_assoc, length-append}
+use Rattle.std.proofs.Common.{◌≡◌, ◌≢◌, ℕ, zero, suc, ◌+◌, ◌≤◌, Bool, true, false, List, [], ◌∷◌, ◌++◌, length, take, drop, map, refl, ap, sym, subst, ◌∙◌, arith, append-nil, append_assoc, length-append}
 use Rattle.std.specs.Prelude.{if◌then◌else◌}
-use Rattle.std.specs.List.{list_any, onto_first, slice_split}
-use Rattle.std.proofs.lemmas.List.{drop_at, take-map}
+use Rattle.std.specs.List.{onto_first, slice_split}
+use Rattle.std.proofs.lemmas.List.{drop_at}
 use Rattle.std.proofs.lemmas.List.Concat.{flat_map-append}
 use Rattle.std.proofs.lemmas.List.Sums.{sum_by-cons}
 use Rattle.text_lines.specs.Text.{after_line, after_lines, lines_of}
-use Rattle.line_cutter.specs.Pieces.{ended_lines, front, is_lf, last_line, lf_count, line_end, pieces_of, rest_of, whole_lines}
-use Rattle.line_cutter.proofs.Ended.{after_lines-shorter, whole_lines-ended}
+use Rattle.line_cutter.specs.Pieces.{front, is_lf, last_line, lf_count, line_end, pieces_of, rest_of, whole_lines}
 use Rattle.line_cutter.proofs.Fronts.{NoLf, NoLf-front, some_piece}
 use Rattle.cube_cli.specs.SchemaLines.{text_of_lines}
 

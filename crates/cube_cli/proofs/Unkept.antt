@@ -12,7 +12,7 @@ use Rattle.script_run.specs.declared.streaming.StreamStop.{StreamStop}
 use Rattle.script_run.specs.declared.streaming.StreamStop.TheVariants as stop
 use Rattle.script_run.specs.Run.{empty_state, run, state_of}
 use Rattle.script_run.specs.Seen.{KeeperSeen, SinkSeen, SourceSeen}
-use Rattle.script_run.specs.Stream.{AnsweredTaken, CommitsOn, EndsStream, Ground, StreamBroke, is_keep_stop}
+use Rattle.script_run.specs.Stream.{AnsweredTaken, CommitsOn, EndsStream, Ground, is_keep_stop}
 use Rattle.script_run.proofs.Writing.{wrote_nothing}
 use Rattle.cube_cli.specs.Trying.{EndsUnkept}
 

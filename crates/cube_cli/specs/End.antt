@@ -23,7 +23,7 @@ use Rattle.line_cutter.specs.Input.{INPUT_LIMIT, GoesOn, TakesAtMost}
 use Rattle.line_cutter.specs.Pieces.{lf_count, line_end}
 use Rattle.line_cutter.specs.Reading.{PIECE_LIMIT}
 use Rattle.cube_cli.specs.SchemaAlone.{schema_alone}
-use Rattle.cube_cli.specs.SchemaLines.{has_end}
+use Rattle.cube_cli.specs.SchemaLines.{TookToEnd, has_end}
 use Rattle.cube_cli.specs.Seen.{NoFault, ReadNothing, Seen, Took, WasRead}
 use Rattle.cube_cli.specs.Store.{CommitsSchema, Finds, Holds, IsSoundContent, IsSoundOver, IsUntouched, batches_over, outcome_over, policy_of, replies_over}
 use Rattle.cube_cli.specs.declared.command.Command.{Command}
@@ -92,8 +92,10 @@ SaysOfTry seen (BadStore _) = ⊥
 SaysOfTry seen (BadRecord _) = ⊥
 SaysOfTry seen (ImportRows _) = ⊥
 SaysOfTry seen (KeepFault _) = ⊥
--- the input's schema is refused: this is its first line at fault, and why
-SaysOfTry seen (Schema line why) = NoFault seen × WroteNothing seen.sink × IfSome seen.source.left (λ input. schema_of input ≡ Err (record { line = line; reason = why }))
+-- the input's schema is refused: this is its first line at fault, and why; the line `end`, where there is one, ends in the last piece that
+-- was taken
+SaysOfTry seen (Schema line why) = NoFault seen × WroteNothing seen.sink
+    × IfSome seen.source.left (λ input. (schema_of input ≡ Err (record { line = line; reason = why })) × TookToEnd seen.source input)
 -- the bytes written are the replies of the run, which refuses so many lines
 SaysOfTry seen (Finished refused) = NoFault seen
     × WasRead seen.source (λ input. IsSomeAnd (outcome_of input) (λ outcome. (refused ≡ outcome.refused) × Appends seen.sink.taken seen.sink.taken_after (concat outcome.replies)))
@@ -314,7 +316,7 @@ RunOver content seen keeper (Finished refused) = IsSoundContent content × WasRe
 RunOver content seen keeper (ReadFault done) = IsSoundContent content × IfSome seen.source.left (λ input. Took seen.source (λ taken. done ≡ lf_count taken) × StoppedBehind content (lines_of input) done seen keeper)
 RunOver content seen keeper (TooLong done) = IsSoundContent content × IfSome seen.source.left (λ input. (done ≡ lf_count (take INPUT_LIMIT input)) × StoppedBehind content (lines_of input) done seen keeper)
 RunOver content seen keeper (WriteFault done) = IsSoundContent content × IfSome seen.source.left (λ input. BrokeOff content (lines_of input) done seen keeper × TookToLine seen input done)
--- the keeper failed at the load, or at an edit
+-- the keeper failed at the load, or at an edit or a growth
 RunOver content seen keeper (KeepFault done) = StoppedFirst seen keeper done ⊎ (IsSoundContent content × IfSome seen.source.left (λ input. StoppedAtEdit content (lines_of input) done seen keeper × TookToLine seen input (done + 1)))
 RunOver content seen keeper (Memory done) = IfSome seen.source.left (λ input. WantedMemory content (lines_of input) done seen keeper)
 

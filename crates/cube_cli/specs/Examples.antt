@@ -165,6 +165,32 @@ listed_worlds_replies =
     ++ line_text (codes "ok") (codes "1" ∷ [])
     ++ line_text (codes "worlds") (codes "2" ∷ codes "3" ∷ codes "8" ∷ codes "2400" ∷ [])
 
+-- a fact somewhere in the state, and how it is spread when a city got a part, and when one more city came; a dimension that is not there, a
+-- name that a city has, and the count at the first city
+abbrev pub grown_state : List ℕ
+grown_state =
+    texas
+    ++ line_text (codes "insert") (codes "1" ∷ codes "TX" ∷ [])
+    ++ line_text (codes "grow") (codes "Place" ∷ codes "Austin" ∷ codes "Zilker" ∷ [])
+    ++ line_text (codes "rows") (codes "1" ∷ [])
+    ++ line_text (codes "grow") (codes "Place" ∷ codes "TX" ∷ codes "Waco" ∷ [])
+    ++ line_text (codes "rows") (codes "1" ∷ [])
+    ++ line_text (codes "grow") (codes "City" ∷ codes "TX" ∷ codes "Waco" ∷ [])
+    ++ line_text (codes "grow") (codes "Place" ∷ codes "TX" ∷ codes "Dallas" ∷ [])
+    ++ line_text (codes "terms") (codes "Austin" ∷ [])
+
+-- the part takes the place of its city, and the new city one third
+abbrev pub grown_state_replies : List ℕ
+grown_state_replies =
+    line_text (codes "ok") (codes "1" ∷ [])
+    ++ line_text (codes "ok") (codes "0" ∷ [])
+    ++ line_text (codes "rows") (codes "2" ∷ codes "2" ∷ codes "Zilker" ∷ codes "1" ∷ codes "Dallas" ∷ codes "1" ∷ [])
+    ++ line_text (codes "ok") (codes "1" ∷ [])
+    ++ line_text (codes "rows") (codes "3" ∷ codes "3" ∷ codes "Zilker" ∷ codes "1" ∷ codes "Dallas" ∷ codes "1" ∷ codes "Waco" ∷ codes "1" ∷ [])
+    ++ line_text (codes "error") (codes "node" ∷ [])
+    ++ line_text (codes "error") (codes "name" ∷ [])
+    ++ line_text (codes "terms") (codes "1" ∷ codes "3" ∷ codes "1" ∷ [])
+
 -- an input gives these replies, and this many of its lines are refused
 abbrev pub Gives : List ℕ → List ℕ → ℕ → Type 0
 Gives input replies refused = IsSomeAnd (outcome_of input) (λ outcome. (concat outcome.replies ≡ replies) × (outcome.refused ≡ refused))

@@ -10,7 +10,7 @@ use Rattle.line_cutter.specs.Reading.{PIECE_LIMIT}
 use Rattle.line_cutter.specs.declared.input.InputStop.{InputStop}
 use Rattle.line_cutter.specs.declared.input.InputStop.TheVariants as input_stop
 use Rattle.schema_text.specs.Schema.{SchemaValue}
-use Rattle.schema_text.specs.SchemaText.{BadLine, is_end, schema_of}
+use Rattle.schema_text.specs.SchemaText.{is_end, schema_of}
 use Rattle.script_run.specs.Seen.{NoReadFault, ReadFailed, SourceSeen}
 use Rattle.cube_cli.specs.Seen.{Took}
 use Rattle.cube_cli.specs.declared.end.End.{End}
@@ -96,9 +96,14 @@ pub record TookSchema (source : SourceSeen) (room_after : ℕ) (held_after : Lis
   pub is : BeginsWith source taken size schema
   pub last : IsLastPiece taken size
 
+-- no more of an input was taken than to the line `end`, or than all of it, and one piece
+abbrev pub TookToEnd : SourceSeen → List ℕ → Type 0
+TookToEnd source input = TakesAtMost (schema_bytes input + PIECE_LIMIT) source.left source.left_after
+
 -- What an end says where no schema was taken.
 abbrev pub EndsBeforeScript : SourceSeen → End → Type 0
-EndsBeforeScript source (Schema line why) = NoReadFault source × TakesAtMost INPUT_LIMIT source.left source.left_after × IfSome source.left (λ input. schema_of input ≡ Err (record { line = line; reason = why }))
+EndsBeforeScript source (Schema line why) = NoReadFault source × TakesAtMost INPUT_LIMIT source.left source.left_after
+    × IfSome source.left (λ input. (schema_of input ≡ Err (record { line = line; reason = why })) × TookToEnd source input)
 EndsBeforeScript source (ReadFault done) = (done ≡ 0) × StopsBeforeEnd source input_stop.Fault
 EndsBeforeScript source (TooLong done) = (done ≡ 0) × StopsBeforeEnd source input_stop.TooLong
 EndsBeforeScript source (Memory done) = (done ≡ 0) × StopsBeforeEnd source input_stop.Memory

@@ -1,5 +1,5 @@
 -- What the run of a script says that is done without a keeper.
-use Rattle.std.specs.Prelude.{ℕ, List, false, Option, Result}
+use Rattle.std.specs.Prelude.{ℕ, List, false, Result}
 use Rattle.cube_model.specs.declared.statistic.CellStat.{CellStat}
 use Rattle.schema_text.specs.Schema.{SchemaValue}
 use Rattle.script_run.specs.declared.streaming.StreamStop.{StreamStop}

@@ -54,18 +54,19 @@ pub enum StoreCommand {
 ///
 /// The words `init`, `run`, `check`, `import` and `export` each take the name of a store, which is not empty, and load it first. `init` takes a schema
 /// alone, keeps its one canonical text as the batch of a store in which there was nothing, and answers `ok` and 0. `run` does the lines of the
-/// input on the cube of the store, as they come. Each edit that is accepted commits one batch before it is answered, and all replies before it are
-/// written by then: the store holds at each stop what the first `done` lines made of it. `check` takes no input and answers `sound` with
-/// the numbers of the facts and of their rows. A store with nothing in it has no cube, and one that is not sound is left as it is.
+/// input on the cube of the store, as they come. Each edit and each growth that is accepted commits one batch before it is answered, and all
+/// replies before it are written by then: the store holds at each stop what the first `done` lines made of it. `check` takes no input and
+/// answers `sound` with the numbers of the facts and of their rows. A store with nothing in it has no cube, and one that is not sound is left
+/// as it is.
 ///
 /// `import` takes a CSV file of facts over the schema of the store, of which the first record is the header, and puts all of them as one
 /// batch or none: where a record is refused, the first one's index, from 0 for the header, and its code are told. The reply is `imported`
 /// with the number of facts in the file and that of the facts that are new or lie otherwise than before. `export` takes no input and
 /// writes such a file of all facts, in order of their ids. It commits nothing.
 ///
-/// What is answered over the facts, after each number of lines, is the exact expectation over all possible worlds of these,
-/// in each of which every fact stands in one cell of its allocation; and where a node of a region has children, the answers
-/// at the regions with each child in its place merge to that at the region.
+/// What is answered over the facts and the dimensions as they stand after each number of lines is the exact expectation over all possible
+/// worlds of the facts, in each of which every fact stands in one cell of its allocation; and where a node of a region has children, the
+/// answers at the regions with each child in its place merge to that at the region.
 pub fn cube<S: Source, K: Sink, Q: Keeper>(
     alloc: Global,
     words: &[String],

@@ -30,7 +30,8 @@ pub enum End {
     ReadFault { done: u64 },
     /// Writing failed. The reply to line `done`, counted from 1, is not whole; lines behind it may have been done.
     WriteFault { done: u64 },
-    /// The store failed when `done` lines were done, and their replies are written: at the edit behind them, or before anything was read.
+    /// The store failed when `done` lines were done, and their replies are written: at the edit or growth behind them, or before anything
+    /// was read.
     KeepFault { done: u64 },
     /// An allocation was refused. Lines behind the first `done` may have been done.
     Memory { done: u64 },

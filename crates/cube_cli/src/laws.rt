@@ -1,5 +1,5 @@
 //! Runs that are computed from the definitions. The function does nothing: the law is its contract.
-ghost use Rattle.cube_cli.specs.Examples.{Gives, city_and_state, city_and_state_replies, hours, hours_replies, listed_worlds, listed_worlds_replies, nothing_to_divide, nothing_to_divide_replies, parts_of_outcomes, parts_of_outcomes_replies, refused_and_skipped, refused_and_skipped_replies, told_in_fractions, told_in_fractions_replies};
+ghost use Rattle.cube_cli.specs.Examples.{Gives, city_and_state, city_and_state_replies, grown_state, grown_state_replies, hours, hours_replies, listed_worlds, listed_worlds_replies, nothing_to_divide, nothing_to_divide_replies, parts_of_outcomes, parts_of_outcomes_replies, refused_and_skipped, refused_and_skipped_replies, told_in_fractions, told_in_fractions_replies};
 
 /// Two inputs worked out by hand. A fact in a city and one somewhere in its state: the count at the city has a term for
 /// each. A fact somewhere in a state counts two halves there, a repeated insert, an unknown line and a question about no
@@ -22,6 +22,12 @@ pub fn worked_measures()
 pub fn worked_questions()
     ensures none { Gives nothing_to_divide nothing_to_divide_replies 2 }
     ensures fractions { Gives told_in_fractions told_in_fractions_replies 1 }
+{}
+
+/// One more with growths: a part of a city takes its place in the rows of a fact somewhere in the state, which lies as before; one more city
+/// takes a third of it. A dimension that is not there, and a name that a node has, are refused.
+pub fn worked_growths()
+    ensures { Gives grown_state grown_state_replies 2 }
 {}
 
 /// One more: a fact of which two thirds are in a city, and the two worlds in which it stands there or in the other city.

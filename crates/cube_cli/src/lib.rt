@@ -17,7 +17,9 @@ mod trying;
 
 pub use command::{Command, StoreCommand, cube};
 pub use end::{End, ErrorLine};
-pub use laws::{worked_examples, worked_listing, worked_measures, worked_questions};
+pub use laws::{
+    worked_examples, worked_growths, worked_listing, worked_measures, worked_questions,
+};
 pub use schema_alone::read_schema_alone;
 pub use store::InputTask;
 pub use telling::Telling;

@@ -101,7 +101,7 @@ fn do_store<S: Source, K: Sink, Q: Keeper>(
 }
 
 // The same under a policy.
-fn do_under<P: WeightPolicy + Drop, S: Source, K: Sink, Q: Keeper>(
+fn do_under<P: WeightPolicy + Drop + Copy, S: Source, K: Sink, Q: Keeper>(
     alloc: Global,
     task: InputTask,
     schema: Schema,
@@ -123,7 +123,7 @@ fn do_under<P: WeightPolicy + Drop, S: Source, K: Sink, Q: Keeper>(
 }
 
 // Does what is to be done with the input on a cube whose content an open store holds.
-fn do_cube<P: WeightPolicy + Drop, S: Source, K: Sink, Q: Keeper>(
+fn do_cube<P: WeightPolicy + Drop + Copy, S: Source, K: Sink, Q: Keeper>(
     alloc: Global,
     task: InputTask,
     cube: Cube<P>,
@@ -143,7 +143,7 @@ fn do_cube<P: WeightPolicy + Drop, S: Source, K: Sink, Q: Keeper>(
 }
 
 // Does the lines of a script as its input comes.
-fn run_over<P: WeightPolicy + Drop, S: Source, K: Sink, Q: Keeper>(
+fn run_over<P: WeightPolicy + Drop + Copy, S: Source, K: Sink, Q: Keeper>(
     alloc: Global,
     cube: Cube<P>,
     source: &mut S,
@@ -162,7 +162,7 @@ fn run_over<P: WeightPolicy + Drop, S: Source, K: Sink, Q: Keeper>(
 }
 
 // Takes the whole input, and puts the facts of it.
-fn import_over<P: WeightPolicy + Drop, S: Source, K: Sink, Q: Keeper>(
+fn import_over<P: WeightPolicy + Drop + Copy, S: Source, K: Sink, Q: Keeper>(
     alloc: Global,
     cube: Cube<P>,
     source: &mut S,

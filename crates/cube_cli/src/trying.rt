@@ -60,7 +60,7 @@ fn run_schema_script<S: Source, K: Sink>(
 }
 
 // The same under a policy. Nothing is kept.
-fn run_under<P: WeightPolicy + Drop, S: Source, K: Sink>(
+fn run_under<P: WeightPolicy + Drop + Copy, S: Source, K: Sink>(
     alloc: Global,
     schema: Schema,
     policy: P,

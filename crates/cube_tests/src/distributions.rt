@@ -2,7 +2,7 @@
 use crate::runs::{Case, Ending, hold};
 
 /// Places with a distribution over two outcomes.
-const QUALITY: &str =
+pub const QUALITY: &str =
     "cube\t1\npolicy\tuniform\nparts\tQuality\t100\tgood\tbad\ndimension\tPlace\nnode\t0\tAll\nnode\t1\tTX\nnode\t2\tAustin\nnode\t2\tDallas\nnode\t1\tCA\nnode\t2\tLA\nend\n";
 
 /// Places and autos with a distribution before a number.

@@ -2,17 +2,22 @@
 #![tactic(auto)]
 
 #[cfg(test)]
+mod calls;
+#[cfg(test)]
 mod distributions;
 #[cfg(test)]
 mod drills;
 #[cfg(test)]
 mod ends;
 #[cfg(test)]
+#[cfg(test)]
 mod fact_files;
 #[cfg(test)]
 mod faults;
 #[cfg(test)]
 mod fractions;
+#[cfg(test)]
+mod growths;
 #[cfg(test)]
 mod limits;
 #[cfg(test)]

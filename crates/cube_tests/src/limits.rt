@@ -5,15 +5,20 @@ use std::alloc::{AllocError, Global};
 use std::fmt::Write;
 
 /// Nodes of this depth, named by a letter and numbers from 1 on.
-fn push_nodes(text: &mut String, depth: u32, letter: char, count: u32) -> Result<(), AllocError> {
+pub fn push_nodes(
+    text: &mut String,
+    depth: u32,
+    letter: char,
+    count: u32,
+) -> Result<(), AllocError> {
     for number in 1..=count {
         write!(text, "node\t{depth}\t{letter}{number}\n")?;
     }
     Ok(())
 }
 
-/// A dimension of 1,024 leaves, and one of 1,025 of which 1,024 are under S.
-pub fn large_schema(alloc: Global) -> Result<String, AllocError> {
+/// A dimension of 1,024 leaves, and one of 1,025 of which 1,024 are under S. The line `end` is missing.
+pub fn large_dimensions(alloc: Global) -> Result<String, AllocError> {
     let mut text = String::from_str(
         alloc,
         "cube\t1\npolicy\tcount\ndimension\tLeft\nnode\t0\tL\n",
@@ -21,7 +26,14 @@ pub fn large_schema(alloc: Global) -> Result<String, AllocError> {
     push_nodes(&mut text, 1, 'l', 1024)?;
     text.push_str("dimension\tRight\nnode\t0\tR\nnode\t1\tS\n")?;
     push_nodes(&mut text, 2, 's', 1024)?;
-    text.push_str("node\t1\tt\nend\n")?;
+    text.push_str("node\t1\tt\n")?;
+    Ok(text)
+}
+
+/// The schema of these two.
+pub fn large_schema(alloc: Global) -> Result<String, AllocError> {
+    let mut text = large_dimensions(alloc)?;
+    text.push_str("end\n")?;
     Ok(text)
 }
 

@@ -11,7 +11,7 @@ const STATES: &str =
     "cube\t1\npolicy\tcount\ndimension\tPlace\nnode\t0\tAll\nnode\t1\tNV\nnode\t2\tReno\nnode\t1\tTX\nnode\t2\tAustin\nnode\t2\tDallas\nend\n";
 
 /// A state with two cities, and a district without one, which is a leaf like them.
-const UNEVEN: &str =
+pub const UNEVEN: &str =
     "cube\t1\npolicy\tcount\ndimension\tPlace\nnode\t0\tAll\nnode\t1\tNV\nnode\t2\tReno\nnode\t2\tElko\nnode\t1\tDC\nview\tall\t0\nview\tdeep\t2\nview\tstates\t1\nend\n";
 
 /// Two states, of which the first has the greater number.
@@ -19,7 +19,7 @@ const NUMBERED: &str =
     "cube\t2\npolicy\tcount\ndimension\tPlace\nnode\t0\tAll\t0\nnode\t1\tTX\t2\nnode\t1\tNV\t1\nview\tstates\t1\nend\n";
 
 /// One node.
-const ROOT: &str = "cube\t1\npolicy\tuniform\ndimension\tPlace\nnode\t0\tAll\nend\n";
+pub const ROOT: &str = "cube\t1\npolicy\tuniform\ndimension\tPlace\nnode\t0\tAll\nend\n";
 
 /// Three repairs in cities, and one in some city of Texas.
 pub const FOUR_REPAIRS: &str =

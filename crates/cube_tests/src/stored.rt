@@ -116,6 +116,35 @@ pub fn is_spread(kept: &KeptRows, row: &SpreadRow) -> bool {
     kept.id == id && kept.den == den && kept.rows.as_slice() == rows
 }
 
+/// Whether two kept facts are the same.
+fn is_same_fact(fact: &KeptFact, other: &KeptFact) -> bool {
+    fact.id == other.id
+        && fact.nodes.as_slice() == other.nodes.as_slice()
+        && fact.cols.as_slice() == other.cols.as_slice()
+}
+
+/// Whether kept rows are the same.
+fn is_same_spread(kept: &KeptRows, other: &KeptRows) -> bool {
+    kept.id == other.id && kept.den == other.den && kept.rows.as_slice() == other.rows.as_slice()
+}
+
+/// Whether two contents are the same.
+pub fn are_same(content: &Stored, other: &Stored) -> bool {
+    let (facts, rows) = (content.facts.as_slice(), content.rows.as_slice());
+    let (others, other_rows) = (other.facts.as_slice(), other.rows.as_slice());
+    content.schema.as_slice() == other.schema.as_slice()
+        && facts.len() == others.len()
+        && rows.len() == other_rows.len()
+        && facts
+            .iter()
+            .zip(others)
+            .all(|(fact, other)| is_same_fact(fact, other))
+        && rows
+            .iter()
+            .zip(other_rows)
+            .all(|(kept, other)| is_same_spread(kept, other))
+}
+
 /// Whether a content has just these facts, spread so.
 pub fn holds_just(content: &Stored, facts: &[FactRow], spreads: &[SpreadRow]) -> bool {
     let (kept, rows) = (content.facts.as_slice(), content.rows.as_slice());

@@ -2,7 +2,7 @@
 ghost use Rattle.std.specs.Prelude.{IsTrue};
 
 use crate::contents::{BEYOND_SQL, BOTH, Case, FIRST, NOTHING, SECOND, batch_of, is_of};
-use crate::sql::is_found;
+use crate::sql::are_found;
 use cube_base::Memory;
 use fact_keeper::Keeper;
 use sqlite_keeper::SqlKeeper;
@@ -107,13 +107,6 @@ const FOUND: [&str; 5] = [
     "SELECT count(*) = 1 FROM fact WHERE id = 4 AND nodes = x'00000003fffffffe' AND cols = x'ffffffffffffffff8000000000000000'",
     "SELECT count(*) = 1 FROM alloc WHERE id = 4 AND den = 9223372036854775807 AND body = x'00000000000000010000000000000002ffffffffffffffff0000010000000000'",
 ];
-
-/// Whether SQL finds all that the queries ask for.
-fn are_found(rt: &HostRuntime, path: &str, queries: &[&str]) -> bool {
-    queries
-        .iter()
-        .all(|query| is_found(rt, path, query) == Ok(true))
-}
 
 #[test]
 fn batches_are_kept_whole_or_not_at_all(rt: HostRuntime) {

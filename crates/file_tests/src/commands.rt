@@ -1,4 +1,5 @@
 //! Commands over stores in files.
+use crate::sql::are_found;
 use cube_base::{Bytes, Ids, MemSink, MemSource};
 use cube_cli::{End, cube};
 use sqlite_keeper::SqlKeeper;
@@ -24,8 +25,9 @@ const CAMRYS: &str =
 /// The word, the path of the file, the input, and what is written.
 type Call = (&'static str, &'static str, &'static str, &'static str);
 
-/// Each call has a keeper of its own. The fourth fact lies two thirds in Austin and one third in Dallas, which makes five rows.
-const CALLS: [Call; 6] = [
+/// Each call has a keeper of its own. The fourth fact lies two thirds in Austin and one third in Dallas, which makes five rows. A city that
+/// Texas gets changes none of them, and then has a repair.
+const CALLS: [Call; 10] = [
     ("init", "cities.cube", CITIES, "ok\t0\n"),
     (
         "run",
@@ -42,6 +44,21 @@ const CALLS: [Call; 6] = [
         "ok\t1\nok\t1\nok\t1\nok\t1\n",
     ),
     ("check", "repairs.cube", "", "sound\t4\t5\n"),
+    ("run", "repairs.cube", "grow\tPlace\tTX\tWaco\n", "ok\t0\n"),
+    ("check", "repairs.cube", "", "sound\t4\t5\n"),
+    (
+        "run",
+        "repairs.cube",
+        "insert\t5\tWaco\tCamry\t90\nrows\t4\n",
+        "ok\t2\nrows\t4\t3\tAustin\tCamry\t2\tDallas\tCamry\t1\tWaco\tCamry\t1\n",
+    ),
+    ("check", "repairs.cube", "", "sound\t5\t7\n"),
+];
+
+/// What SQL finds then: a text of version 2, with the line of the ninth node, in which the fifth fact is.
+const GROWN: [&str; 2] = [
+    "SELECT count(*) = 1 FROM cube WHERE k = 1 AND substr(body, 1, 7) = x'6375626509320a' AND instr(body, x'0a6e6f64650932095761636f09380a') > 0",
+    "SELECT count(*) = 1 FROM fact WHERE id = 5 AND nodes = x'0000000800000002'",
 ];
 
 /// The words of a call.
@@ -81,5 +98,6 @@ fn a_store_in_a_file(rt: HostRuntime) -> Result<(), Fail> {
         let answered = is_answered(&rt, call)?;
         assert!(rt; answered);
     }
+    assert!(rt; are_found(&rt, "repairs.cube", &GROWN));
     Ok(())
 }

@@ -12,9 +12,16 @@ pub fn run_script(rt: &HostRuntime, path: &str, script: &str) -> Result<(), Erro
 }
 
 /// Whether the first value that a query finds in the file at a path is true.
-pub fn is_found(rt: &HostRuntime, path: &str, query: &str) -> Result<bool, Error> {
+fn is_found(rt: &HostRuntime, path: &str, query: &str) -> Result<bool, Error> {
     let mut conn = Connection::open(rt, path)?;
     let row = conn.query_row(query, &[]);
     conn.close()?;
     row?.get(0)
+}
+
+/// Whether SQL finds all that the queries ask for.
+pub fn are_found(rt: &HostRuntime, path: &str, queries: &[&str]) -> bool {
+    queries
+        .iter()
+        .all(|query| is_found(rt, path, query) == Ok(true))
 }

@@ -3,19 +3,16 @@ use Rattle.std.proofs.Common.{◌≡◌, ℕ, Bool, true, false, List, [], ◌�
 use Rattle.std.specs.Prelude.{◌⊎◌, option_map}
 use Rattle.std.proofs.lemmas.List.Sums.{fold-append}
 use Rattle.cube_base.specs.declared.code.Code.{Code}
-use Rattle.cube_model.specs.declared.edit.Edit.{Edit}
 use Rattle.cube_model.specs.declared.edit.Fact.{Fact}
 use Rattle.cube_model.specs.declared.statistic.CellStat.{CellStat}
-use Rattle.edit_plan.specs.Plan.{difference}
 use Rattle.fact_keeper.specs.declared.content.Batch.{Batch}
 use Rattle.fact_keeper.specs.declared.content.Stored.{Stored}
 use Rattle.fact_keeper.specs.Batch.{apply_batch}
-use Rattle.fact_records.specs.Judge.{judge}
-use Rattle.schema_text.specs.Schema.{SchemaValue, policy_in, shape_of}
+use Rattle.schema_text.specs.Schema.{SchemaValue}
 use Rattle.script_text.specs.declared.line.Line.{Line}
 use Rattle.script_text.specs.declared.line.Line.TheVariants as line
 use Rattle.script_text.specs.ScriptLine.{line_of}
-use Rattle.script_run.specs.Kept.{Commits, apply_all, batches, batches_at, batches_from, batches_of}
+use Rattle.script_run.specs.Kept.{Commits, apply_all, batches, batches_at, batches_from}
 use Rattle.script_run.specs.Run.{State, run, schema_at, step}
 use Rattle.script_run.specs.Seen.{Told}
 use Rattle.script_run.specs.Stop.{IsReadyFor, is_edit}
@@ -46,10 +43,6 @@ commits_none before after same = subst (λ told. Commits [] before told) (sym sa
     none_appended : (journal : Option (List Batch)) → journal ≡ option_map (λ earlier. earlier ++ []) journal
     none_appended None = refl
     none_appended (Some earlier) = ap Some (sym (append-nil earlier))
-
--- one batch is
-pub commits_one : (batch : Batch) (before after : Told) → after.content ≡ option_map (apply_batch batch) before.content → after.journal ≡ option_map (λ earlier. earlier ++ batch ∷ []) before.journal → Commits (batch ∷ []) before after
-commits_one batch before after content journal = record { content = content; journal = journal }
 
 -- batches behind others
 pub commits-append : (first more : List Batch) (before between after : Told) → Commits first before between → Commits more between after → Commits (first ++ more) before after
@@ -82,6 +75,7 @@ pub batches-no_edit : (weigh : CellStat → ℕ) (schema : SchemaValue) (state :
 batches-no_edit weigh schema state (Err refusal) asks = refl
 batches-no_edit weigh schema state (Ok line.Nothing) asks = refl
 batches-no_edit weigh schema state (Ok (line.Edit edit)) asks = cc
+batches-no_edit weigh schema state (Ok (line.Grow grow)) asks = cc
 batches-no_edit weigh schema state (Ok (line.Count region)) asks = refl
 batches-no_edit weigh schema state (Ok (line.Sum measure region)) asks = refl
 batches-no_edit weigh schema state (Ok (line.Avg measure region)) asks = refl
@@ -106,12 +100,3 @@ none_before weigh schema state read gathered ready one =
       | inl none ↦ none
       | inr nothing ↦ absurd (omega (arith, one, ap length nothing))
     ]
-
--- an edit that is accepted commits what it changes, and one that is refused nothing
-pub batches-accepted : (weigh : CellStat → ℕ) (schema : SchemaValue) (state : State) (edit : Edit) → judge (policy_in weigh schema) (shape_of schema) state.dims edit state.facts ≡ None
-    → batches_of weigh schema state (line.Edit edit) ≡ difference (policy_in weigh schema) state.dims edit state.facts ∷ []
-batches-accepted weigh schema state edit accepted = rw accepted refl
-
-pub batches-refused : (weigh : CellStat → ℕ) (schema : SchemaValue) (state : State) (edit : Edit) (refusal : Code) → judge (policy_in weigh schema) (shape_of schema) state.dims edit state.facts ≡ Some refusal
-    → batches_of weigh schema state (line.Edit edit) ≡ []
-batches-refused weigh schema state edit refusal refused = rw refused refl

@@ -1,5 +1,5 @@
 -- Of the lines that are held whole, those that are done and those that are left.
-use Rattle.std.proofs.Common.{◌≡◌, ℕ, ◌+◌, ◌≤◌, Ok, Err, List, [], ◌∷◌, ◌++◌, length, Option, refl, sym, ap, ◌∙◌, append-nil, append_assoc, arith}
+use Rattle.std.proofs.Common.{◌≡◌, ℕ, ◌+◌, ◌-◌, ◌≤◌, Ok, Err, List, [], ◌∷◌, ◌++◌, length, Option, refl, sym, ap, ◌∙◌, append-nil, append_assoc, arith}
 use Rattle.std.specs.Prelude.{⊤}
 use Rattle.cube_model.specs.declared.statistic.CellStat.{CellStat}
 use Rattle.fact_keeper.specs.declared.content.Batch.{Batch}
@@ -33,8 +33,8 @@ whole_last [] one = absurd (omega (arith, one))
 whole_last (rest ∷ []) one = refl
 whole_last (line ∷ next ∷ left) one = absurd (omega (arith, one))
 
-pub length-whole_lines : (lines : List (List ℕ)) → length (whole_lines lines) ≤ length lines
-length-whole_lines [] = omega arith
+pub length-whole_lines : (lines : List (List ℕ)) → length (whole_lines lines) ≡ length lines - 1
+length-whole_lines [] = refl
 length-whole_lines (rest ∷ []) = omega arith
 length-whole_lines (line ∷ next ∷ lines) = omega (arith, length-whole_lines (next ∷ lines))
 

@@ -51,14 +51,6 @@ has_kept-push weigh schema first lines line start before after gathered more kep
           | inr all ↦ ap (batches weigh schema first) (take_all n (lines ++ line ∷ []) (omega (arith, size)))
         ]
 
--- where memory is wanting before the first line
-pub kept_at_start : (weigh : CellStat → ℕ) (schema : SchemaValue) (first : State) (lines : List (List ℕ)) (start : Told) → KeptAt weigh schema first lines start start (Memory 0)
-kept_at_start weigh schema first lines start = record {
-  among = omega arith;
-  commits = commits_none start start refl;
-  next = tt;
-}
-
 -- where memory is wanting behind all lines
 kept_at_end : (weigh : CellStat → ℕ) (schema : SchemaValue) (first : State) (lines : List (List ℕ)) (start now : Told) (done : ℕ) → Commits (batches weigh schema first lines) start now → done ≡ length lines
     → KeptAt weigh schema first lines start now (Memory done)
@@ -160,11 +152,3 @@ gave_up-no_keep asked done count off stop = elim stop [ inl memory ↦ ap is_kee
 -- it is told or not
 pub told_or_not : {A : Type 0} (b : Bool) → b ≡ false → b ≡ true → A
 told_or_not b is_false is_true = cc
-
--- a stop that gives up behind a line that was done is one within the replies of which that to the line is the last
-pub gathered_stop-more : (done count : ℕ) (off : BreakOff) → (off ≡ Memory (done + 1)) ⊎ IsGatheredStop done count off → IsGatheredStop (done + 1) (count + 1) off
-gathered_stop-more done count off stop =
-    elim stop [
-      | inl memory ↦ subst (IsGatheredStop (done + 1) (count + 1)) (sym memory) (record { behind = omega arith; among = omega arith; no_keep = refl })
-      | inr part ↦ record { behind = omega (arith, part.behind); among = omega (arith, part.among); no_keep = part.no_keep }
-    ]

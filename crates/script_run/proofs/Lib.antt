@@ -6,6 +6,7 @@ pub mod Keeping
 pub mod KeptLines
 pub mod Measures
 pub mod PieceTurns
+pub mod Refusing
 pub mod ReplyEnds
 pub mod Runs
 pub mod Sending

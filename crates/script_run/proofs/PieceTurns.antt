@@ -1,5 +1,5 @@
 -- Where a run goes on with the next piece, and where it stops.
-use Rattle.std.proofs.Common.{◌≡◌, ℕ, ◌+◌, ◌-◌, ◌<◌, ◌≤◌, Bool, true, false, if◌then◌else◌, Ok, Err, List, [], ◌∷◌, ◌++◌, length, map, drop, refl, sym, ap, ◌∙◌, subst, append-nil, append_assoc, inl, inr, arith, length-append}
+use Rattle.std.proofs.Common.{◌≡◌, ℕ, ◌+◌, ◌<◌, ◌≤◌, Bool, true, false, if◌then◌else◌, Ok, Err, List, [], ◌∷◌, ◌++◌, length, map, drop, refl, sym, ap, ◌∙◌, subst, append-nil, append_assoc, inl, inr, arith, length-append}
 use Rattle.std.specs.Prelude.{◌⊎◌}
 use Rattle.std.specs.List.{concat}
 use Rattle.std.specs.Io.KnownBytes.{Appends, Consumes, IsAtEnd}
@@ -25,6 +25,7 @@ use Rattle.script_run.specs.StreamTurn.{DoesPiece, EndsLines, Outside, Streaming
 use Rattle.script_run.specs.Written.{Answered}
 use Rattle.script_run.proofs.Doing.{count_done}
 use Rattle.script_run.proofs.FrontRuns.{batches-front, kept_at-front, run-front}
+use Rattle.script_run.proofs.HeldLines.{length-whole_lines}
 use Rattle.script_run.proofs.Keeping.{kept_at-gave_up, kept_at-more, none_kept, told_or_not}
 use Rattle.script_run.proofs.Runs.{length-replies, replies-append}
 use Rattle.script_run.proofs.Writing.{all_sent, answered-more, breaks_off-more, breaks_off_whole}
@@ -357,17 +358,9 @@ no_keep_stop input_stop.Fault done = refl
 no_keep_stop input_stop.TooLong done = refl
 no_keep_stop input_stop.Memory done = refl
 
-length-whole_lines : (parts : List (List ℕ)) → length (whole_lines parts) ≡ length parts - 1
-length-whole_lines [] = refl
-length-whole_lines (part ∷ []) = omega arith
-length-whole_lines (part ∷ next ∷ parts) = omega (arith, length-whole_lines (next ∷ parts))
-
 -- so many lines may be held where so many are whole
 pub few_held : (parts : List (List ℕ)) → length parts ≤ length (whole_lines parts) + 1
 few_held parts = omega (arith, length-whole_lines parts)
-
-pub few_whole : (parts : List (List ℕ)) → length (whole_lines parts) ≤ length parts
-few_whole parts = omega (arith, length-whole_lines parts)
 
 -- each piece takes of what may still be taken, or is the end of the input
 fewer_turns : (reading reading_after : Reading) (piece : ℕ) → reading_after.room + piece ≡ reading.room → (reading_after.is_ended ≡ false → 0 < piece) → turns_left reading_after ≤ reading.room

@@ -60,13 +60,6 @@ took_all replies gathered start a b has bytes =
     let whole : concat has.sent ++ concat gathered ≡ concat replies = sym (ap concat has.all ∙ concat-append has.sent gathered) in
     subst (Appends start b) whole (Appends-trans start a b (concat has.sent) (concat gathered) has.bytes bytes)
 
-pub gathered_sent : (replies gathered : List (List ℕ)) (start a b : Option (List ℕ)) → HasGathered replies start a gathered → Appends a b (concat gathered) → HasGathered replies start b []
-gathered_sent replies gathered start a b has bytes = record {
-  sent = replies;
-  all = sym (append-nil replies);
-  bytes = took_all replies gathered start a b has bytes;
-}
-
 -- the sink took all replies, and none is gathered
 pub all_taken : (replies gathered : List (List ℕ)) (start taken : Option (List ℕ)) → gathered ≡ [] → Appends start taken (concat replies) → HasGathered replies start taken gathered
 all_taken replies gathered start taken none bytes = subst (HasGathered replies start taken) (sym none) (record { sent = replies; all = sym (append-nil replies); bytes = bytes })

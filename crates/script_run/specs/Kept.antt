@@ -2,13 +2,14 @@
 use Rattle.std.specs.Prelude.{◌≡◌, ℕ, ◌+◌, ◌<◌, ◌≤◌, Bool, true, false, List, [], ◌∷◌, ◌++◌, fold, is_none, length, take, if◌then◌else◌, ⊤, Result, Ok, Err}
 use Rattle.std.specs.Option.{option_map}
 use Rattle.cube_base.specs.declared.code.Code.{Code}
-use Rattle.cube_base.specs.Outside.{Rose}
 use Rattle.cube_model.specs.declared.statistic.CellStat.{CellStat}
+use Rattle.cube_core.specs.Growth.{growth_difference, judge_growth}
 use Rattle.edit_plan.specs.Plan.{difference}
 use Rattle.fact_keeper.specs.declared.content.Batch.{Batch}
 use Rattle.fact_keeper.specs.declared.content.Stored.{Stored}
 use Rattle.fact_keeper.specs.Batch.{apply_batch}
 use Rattle.fact_records.specs.Judge.{judge}
+use Rattle.schema_text.specs.Growth.{dims_with}
 use Rattle.schema_text.specs.Schema.{SchemaValue, policy_in, shape_of}
 use Rattle.script_text.specs.declared.line.Line.{Line}
 use Rattle.script_text.specs.declared.line.Line.TheVariants as line
@@ -18,11 +19,13 @@ use Rattle.script_run.specs.declared.break_off.BreakOff.TheVariants.{Write, Sink
 use Rattle.script_run.specs.Run.{State, schema_at, step}
 use Rattle.script_run.specs.Seen.{Told}
 
--- The batch of a line that was read, if it commits one: an edit that is accepted commits what it changes of what is kept. Whatever is
--- refused, skipped or asked commits none.
+-- The batch of a line that was read, if it commits one: an edit or a growth that is accepted commits what it changes of what is kept.
+-- Whatever is refused, skipped or asked commits none.
 abbrev pub batches_of : (CellStat → ℕ) → SchemaValue → State → Line → List Batch
 batches_of weigh schema state (line.Edit edit) =
     if is_none (judge (policy_in weigh schema) (shape_of schema) state.dims edit state.facts) then difference (policy_in weigh schema) state.dims edit state.facts ∷ [] else []
+batches_of weigh schema state (line.Grow grow) =
+    if is_none (judge_growth (policy_in weigh schema) state.dims state.facts grow) then growth_difference (policy_in weigh schema) (schema_at schema state) (dims_with grow state.dims) state.facts ∷ [] else []
 batches_of weigh schema state said = []
 
 abbrev pub batches_from : (CellStat → ℕ) → SchemaValue → State → Result Line Code → List Batch
@@ -82,7 +85,7 @@ IsBehind done gathered (SinkMemory line) = ⊤
 IsBehind done gathered (Memory some) = ⊤
 IsBehind done gathered (Keep some) = done ≤ some + gathered
 
--- where the keeper failed, the line behind those that are done commits: it is an edit that is accepted
+-- where the keeper failed, the line behind those that are done commits: it is an edit or a growth that is accepted
 abbrev pub CommitsNext : (CellStat → ℕ) → SchemaValue → State → List (List ℕ) → BreakOff → Type 0
 CommitsNext weigh schema first lines (Keep done) = length (batches weigh schema first (take (done + 1) lines)) ≡ length (batches weigh schema first (take done lines)) + 1
 CommitsNext weigh schema first lines off = ⊤
@@ -92,8 +95,3 @@ pub record KeptAt (weigh : CellStat → ℕ) (schema : SchemaValue) (first : Sta
   pub among : reached_at off ≤ length lines
   pub commits : Commits (batches weigh schema first (take (done_at off) lines)) start now
   pub next : CommitsNext weigh schema first lines off
-
--- the keeper's count of faults rose where it made the script break off, and stands otherwise
-abbrev pub CountsStop : ℕ → ℕ → Result ℕ BreakOff → Type 0
-CountsStop before after (Err (Keep done)) = Rose before after
-CountsStop before after _ = after ≡ before

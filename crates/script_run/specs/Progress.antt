@@ -33,8 +33,8 @@ pub record HasGathered (replies : List (List ℕ)) (start taken : Option (List �
   pub all : replies ≡ sent ++ gathered
   pub bytes : Appends start taken (concat sent)
 
--- what a cube at work is: the cube, whether replies are written before each edit, those that are gathered, and how many lines are
--- answered and refused
+-- what a cube at work is: the cube, whether replies are written before each edit and each growth, those that are gathered, and how many
+-- lines are answered and refused
 pub record Working (P : Type 0) : Type 0 where
   pub cube : CubeValue P
   pub keeps : Bool

@@ -24,7 +24,9 @@ use Rattle.fact_records.specs.Judge.{judge}
 use Rattle.fact_records.specs.Shape.{width_of_all}
 use Rattle.group_sum.specs.Terms.{TermList}
 use Rattle.linear_pool.specs.Pool.{pool_of}
+use Rattle.schema_text.specs.Growth.{dims_with}
 use Rattle.schema_text.specs.Schema.{SchemaValue, over_dims, policy_in, shape_of, weigh_of}
+use Rattle.cube_model.specs.declared.tree.Grow.{Grow}
 use Rattle.script_text.specs.declared.line.Line.{Line}
 use Rattle.script_text.specs.declared.line.Line.TheVariants as line
 use Rattle.script_text.specs.declared.reply.Reply.{Reply}
@@ -32,6 +34,7 @@ use Rattle.script_text.specs.declared.reply.Reply.TheVariants as reply
 use Rattle.script_text.specs.Reply.{reply_text}
 use Rattle.script_text.specs.ScriptLine.{line_of}
 use Rattle.cube_core.specs.Cube.{CubeValue, rows_over}
+use Rattle.cube_core.specs.Growth.{judge_growth, moved}
 use Rattle.cube_core.specs.View.{view_over}
 use Rattle.world_law.specs.declared.sum.WorldFault.{WorldFault}
 use Rattle.world_law.specs.declared.sum.WorldFault.TheVariants as world_fault
@@ -76,6 +79,17 @@ accepted weigh schema state later = record { reply = Some (reply.Ok (length (ref
 abbrev pub edited : (CellStat → ℕ) → SchemaValue → State → Edit → Step
 edited weigh schema state edit =
     option_map_or (λ refusal. replied state (reply.Error refusal)) (judge (policy_in weigh schema) (shape_of schema) state.dims edit state.facts) (accepted weigh schema state (after edit state.facts))
+
+-- A growth is done unless it is refused: it answers how many facts lie otherwise then. The facts stay.
+abbrev pub grown : (CellStat → ℕ) → SchemaValue → State → Grow → Step
+grown weigh schema state grow = record {
+  reply = Some (reply.Ok (length (moved (policy_in weigh schema) state.dims (dims_with grow state.dims) state.facts)));
+  state = record state { dims = dims_with grow state.dims };
+}
+
+abbrev pub growth : (CellStat → ℕ) → SchemaValue → State → Grow → Step
+growth weigh schema state grow =
+    option_map_or (λ refusal. replied state (reply.Error refusal)) (judge_growth (policy_in weigh schema) state.dims state.facts grow) (grown weigh schema state grow)
 
 -- what the facts add up to inside a region
 abbrev pub terms_at : (CellStat → ℕ) → SchemaValue → State → List ℕ → List Term
@@ -131,10 +145,11 @@ worlds_reply columns dims region facts =
     option_map_or (λ refusal. reply.Error refusal) (option_and_then worlds_code (fault_of (map placed_of facts)))
     (reply.Worlds (world_count facts) (mass facts) (map (λ column. total dims region column facts) (range_with_len 0 columns)))
 
--- the answer to what a line asks; one that says nothing and an edit ask nothing
+-- the answer to what a line asks; one that says nothing, an edit and a growth ask nothing
 abbrev pub answer_to : (CellStat → ℕ) → SchemaValue → State → Line → Option Reply
 answer_to weigh schema state line.Nothing = None
 answer_to weigh schema state (line.Edit edit) = None
+answer_to weigh schema state (line.Grow grow) = None
 answer_to weigh schema state (line.Count region) = Some (count_reply (terms_at weigh schema state region))
 answer_to weigh schema state (line.Sum measure region) = Some (sum_reply schema measure (terms_at weigh schema state region))
 answer_to weigh schema state (line.Avg measure region) = Some (average_reply schema measure (terms_at weigh schema state region))
@@ -144,9 +159,10 @@ answer_to weigh schema state (line.Rows id) = Some (rows_reply (allocation_of id
 answer_to weigh schema state (line.View view) = Some (reply.View (view_over weigh (schema_at schema state) state.facts view))
 answer_to weigh schema state (line.Worlds region) = Some (worlds_reply (width_of_all schema.measures + 1) state.dims region (rows_at weigh schema state))
 
--- what a line that is read does: an edit is done, and what others ask is answered
+-- what a line that is read does: an edit or a growth is done, and what others ask is answered
 abbrev pub step_of : (CellStat → ℕ) → SchemaValue → State → Line → Step
 step_of weigh schema state (line.Edit edit) = edited weigh schema state edit
+step_of weigh schema state (line.Grow grow) = growth weigh schema state grow
 step_of weigh schema state said = record { reply = answer_to weigh schema state said; state = state }
 
 -- a line that is not read is refused

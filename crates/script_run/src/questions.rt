@@ -27,7 +27,7 @@ use world_law::{WorldFault, WorldSum};
 /// The column of the count.
 const COUNT: u32 = 0;
 
-/// The answer to what a line asks of a cube: none to a line that says nothing or edits.
+/// The answer to what a line asks of a cube: none to a line that says nothing, edits, or lets a dimension grow.
 pub fn answer<P: WeightPolicy + Drop>(
     alloc: Global,
     cube: &Cube<P>,
@@ -38,7 +38,7 @@ pub fn answer<P: WeightPolicy + Drop>(
     ensures cells { IfOk result (λ reply. IfSome reply (NamesCells cube.now.schema.dims)) }
 {
     match said {
-        Line::Nothing | Line::Edit(_) => Ok(None),
+        Line::Nothing | Line::Edit(_) | Line::Grow(_) => Ok(None),
         Line::Count(region) => Ok(Some(count_reply(&cube.answer(region)?))),
         Line::Sum { measure, region } => {
             let terms = cube.answer(region)?;

@@ -1,15 +1,16 @@
 //! Reading a line of a script, and doing it on a cube.
 ghost use Rattle.std.specs.Prelude.{◌≡◌, ◌<◌, if◌then◌else◌, IfErr, IfOk, IfSome, IsTrue, OnErr, OnOk, Some};
 ghost use Rattle.fact_records.specs.Valid.{IsEditOf};
+ghost use Rattle.schema_text.specs.Growth.{IsGrowOf};
 ghost use Rattle.schema_text.specs.Schema.{shape_of};
 ghost use Rattle.script_text.specs.declared.line.Line.TheVariants as line;
 ghost use Rattle.script_text.specs.LineOf.{IsLineOf};
 ghost use Rattle.script_text.specs.Reply.{NamesCells};
 ghost use Rattle.script_text.specs.ScriptLine.{line_of};
 ghost use Rattle.script_run.specs.Kept.{Commits, batches_from, batches_of};
-ghost use Rattle.script_run.specs.Run.{cube_at, edited, refusals_in, state_of, step_from, step_of};
+ghost use Rattle.script_run.specs.Run.{cube_at, edited, growth, refusals_in, state_of, step_from, step_of};
 ghost use Rattle.script_run.specs.Seen.{told_of};
-ghost use Rattle.script_run.specs.Stop.{IsStopOf, is_edit};
+ghost use Rattle.script_run.specs.Stop.{IsStopOf, is_edit, reply_to};
 
 use crate::questions::answer;
 use cell_weight::WeightPolicy;
@@ -17,6 +18,7 @@ use cube_base::{Code, Memory};
 use cube_core::{Cube, EditFault};
 use fact_keeper::Keeper;
 use fact_records::Edit;
+use region_algebra::Grow;
 use region_index::Steps;
 use schema_text::Schema;
 use script_text::{Line, LineFault, Reply, read_line};
@@ -29,7 +31,7 @@ use std::sync::ledger::{Blank, Ledger};
 pub enum LineStop {
     /// Want of memory.
     Memory,
-    /// The keeper had a fault at the batch of an edit.
+    /// The keeper had a fault at the batch of an edit or a growth.
     KeepFault,
 }
 
@@ -56,16 +58,16 @@ pub fn read(alloc: Global, schema: &Schema, line: &[u8]) -> Result<Result<Line, 
     }
 }
 
-/// Whether a line that was read is an edit.
+/// Whether a line that was read edits the facts or the dimensions.
 pub fn is_edit(read: &Result<Line, Code>) -> bool
     ensures { result ≡ is_edit read.now }
 {
-    matches!(read, Ok(Line::Edit(_)))
+    matches!(read, Ok(Line::Edit(_) | Line::Grow(_)))
 }
 
-/// Does a line that was read, commits its batch to the keeper, which must be open, where it is an edit that is accepted, and gives its
-/// reply, if it has one. An error leaves the cube and what the keeper holds as they were.
-pub fn do_read<P: WeightPolicy + Drop, Q: Keeper>(
+/// Does a line that was read, commits its batch to the keeper, which must be open, where it is an edit or a growth that is accepted, and
+/// gives its reply, if it has one. An error leaves the cube and what the keeper holds as they were.
+pub fn do_read<P: WeightPolicy + Drop + Copy, Q: Keeper>(
     alloc: Global,
     cube: &mut Cube<P>,
     read: Result<Line, Code>,
@@ -90,7 +92,7 @@ pub fn do_read<P: WeightPolicy + Drop, Q: Keeper>(
 }
 
 /// Does what a line says.
-fn do_said<P: WeightPolicy + Drop, Q: Keeper>(
+fn do_said<P: WeightPolicy + Drop + Copy, Q: Keeper>(
     alloc: Global,
     cube: &mut Cube<P>,
     said: Line,
@@ -110,6 +112,7 @@ fn do_said<P: WeightPolicy + Drop, Q: Keeper>(
 {
     match said {
         Line::Edit(edit) => Ok(Some(do_edit(cube, &edit, keeper)?)),
+        Line::Grow(grow) => Ok(Some(do_growth(cube, &grow, keeper)?)),
         other => Ok(answer(alloc, cube, other)?),
     }
 }
@@ -160,10 +163,43 @@ fn do_edit_by<L: Ledger, P: WeightPolicy + Drop, Q: Keeper>(
     let mut steps = Steps::<L>::new(blank);
     match cube.edit(edit, keeper, &mut steps) {
         Ok(receipt) => Ok(Reply::Ok(receipt.refreshed.as_slice().len() as u64)),
-        Err(EditFault::Code(code)) => Ok(Reply::Error(code)),
-        Err(EditFault::Rows { .. }) => Ok(Reply::Error(Code::Rows)),
-        Err(EditFault::KeepFault) => Err(LineStop::KeepFault),
-        Err(EditFault::Memory) => Err(LineStop::Memory),
+        Err(fault) => reply_to(fault),
+    }
+}
+
+/// Does a growth: `ok` with the number of the facts that lie otherwise then, or why it is refused.
+fn do_growth<P: WeightPolicy + Drop + Copy, Q: Keeper>(
+    cube: &mut Cube<P>,
+    grow: &Grow,
+    keeper: &mut Q,
+) -> Result<Reply, LineStop>
+    requires grow { IsGrowOf cube.old.schema.dims grow.now }
+    requires open { IsTrue (Q.is_open keeper.old) }
+    ensures reply { IfOk result (λ reply. Some reply ≡ (growth (P.weigh cube.old.policy) cube.old.schema (state_of cube.old) grow.now).reply) }
+    ensures state { OnOk result (cube.new ≡ cube_at cube.old (growth (P.weigh cube.old.policy) cube.old.schema (state_of cube.old) grow.now).state) }
+    ensures cells { IfOk result (NamesCells cube.new.schema.dims) }
+    ensures same { OnErr result (cube.new ≡ cube.old) }
+    ensures kept { OnOk result (Commits (batches_of (P.weigh cube.old.policy) cube.old.schema (state_of cube.old) (line.Grow grow.now)) (told_of Q.content Q.journal keeper.old) (told_of Q.content Q.journal keeper.new)) }
+    ensures same_kept { OnErr result (told_of Q.content Q.journal keeper.new ≡ told_of Q.content Q.journal keeper.old) }
+    ensures count { OnOk result (Q.faults keeper.new ≡ Q.faults keeper.old) }
+    ensures stop { IfErr result (IsStopOf (batches_of (P.weigh cube.old.policy) cube.old.schema (state_of cube.old) (line.Grow grow.now)) (Q.faults keeper.old) (Q.faults keeper.new)) }
+    ensures stays_open { IsTrue (Q.is_open keeper.new) }
+{
+    match cube.grow(grow, keeper) {
+        Ok(grown) => Ok(Reply::Ok(grown.refreshed.as_slice().len() as u64)),
+        Err(fault) => reply_to(fault),
+    }
+}
+
+/// The reply to an edit or a growth that a cube refuses, where that has one.
+fn reply_to(fault: EditFault) -> Result<Reply, LineStop>
+    ensures { result ≡ reply_to fault }
+{
+    match fault {
+        EditFault::Code(code) => Ok(Reply::Error(code)),
+        EditFault::Rows { .. } => Ok(Reply::Error(Code::Rows)),
+        EditFault::KeepFault => Err(LineStop::KeepFault),
+        EditFault::Memory => Err(LineStop::Memory),
     }
 }
 

@@ -27,17 +27,17 @@ use std::marker::Model;
 
 /// A cube at work: the replies on their way, and how many lines are answered and refused.
 #[derive(Drop)]
-pub struct ScriptRun<P: WeightPolicy + Drop> {
+pub struct ScriptRun<P: WeightPolicy + Drop + Copy> {
     alloc: Global,
     cube: Cube<P>,
-    // Whether the gathered replies are written before each edit.
+    // Whether the gathered replies are written before each edit and each growth.
     keeps: bool,
     outbox: Outbox,
     done: u64,
     refused: u64,
 }
 
-impl<P: WeightPolicy + Drop> Model for ScriptRun<P> {
+impl<P: WeightPolicy + Drop + Copy> Model for ScriptRun<P> {
     ghost use Rattle.std.specs.Prelude.{◌≤◌, length};
     ghost use Rattle.script_run.specs.Progress.{Working};
 
@@ -48,8 +48,8 @@ impl<P: WeightPolicy + Drop> Model for ScriptRun<P> {
     ghost invariant = { λ r. (r.refused ≤ r.done) × (length r.outbox ≤ r.done) };
 }
 
-impl<P: WeightPolicy + Drop> ScriptRun<P> {
-    /// No line is done yet. `keeps` says whether the gathered replies are written before each edit.
+impl<P: WeightPolicy + Drop + Copy> ScriptRun<P> {
+    /// No line is done yet. `keeps` says whether the gathered replies are written before each edit and each growth.
     pub fn new(alloc: Global, cube: Cube<P>, keeps: bool) -> Self
         ensures { result ≡ record { cube = cube; keeps = keeps; gathered = []; done = 0; refused = 0 } }
     {
@@ -63,8 +63,8 @@ impl<P: WeightPolicy + Drop> ScriptRun<P> {
         }
     }
 
-    /// Does a line, and writes the gathered replies where they are enough, and, where the keeper keeps, before an edit. Where memory is
-    /// wanting for its reply, the line is done nevertheless.
+    /// Does a line, and writes the gathered replies where they are enough, and, where the keeper keeps, before an edit or a growth. Where
+    /// memory is wanting for its reply, the line is done nevertheless.
     pub fn do_line<K: Sink, Q: Keeper>(
         &mut self,
         line: &[u8],
@@ -112,7 +112,7 @@ impl<P: WeightPolicy + Drop> ScriptRun<P> {
         Ok(self.refused)
     }
 
-    // Writes the gathered replies before an edit, where the keeper keeps.
+    // Writes the gathered replies before an edit or a growth, where the keeper keeps.
     fn make_ready<K: Sink>(
         &mut self,
         read: &Result<Line, Code>,

@@ -4,8 +4,8 @@ ghost use Rattle.std.specs.Io.KnownBytes.{IsAtEnd};
 ghost use Rattle.line_cutter.specs.Pieces.{last_line, pieces_of, rest_of, whole_lines};
 ghost use Rattle.script_run.specs.Run.{state_of};
 ghost use Rattle.script_run.specs.Seen.{KeepFailed, keeper_seen, sink_seen, source_seen, told_of};
-ghost use Rattle.script_run.specs.Stream.{CountsStream, DoesLines, EndsStream, is_keep_stop, stop_of};
-ghost use Rattle.script_run.specs.StreamTurn.{DoesPiece, EndsLines, outside_of};
+ghost use Rattle.script_run.specs.Stream.{CountsStream, DoesLines, EndsStream, Ground, is_keep_stop, stop_of};
+ghost use Rattle.script_run.specs.StreamTurn.{DoesPiece, EndsLines, Outside, Streaming, outside_of, seen_from};
 
 use crate::BreakOff;
 use crate::script_run::ScriptRun;
@@ -38,13 +38,13 @@ impl From<BreakOff> for StreamStop {
     }
 }
 
-/// Does the lines of a script as its input comes, those first that are held of it, commits each accepted edit to the keeper, which
-/// must be open, writes the replies, and says how many lines are refused. All replies to the lines of a piece are written before
+/// Does the lines of a script as its input comes, those first that are held of it, commits each accepted edit and growth to the keeper,
+/// which must be open, writes the replies, and says how many lines are refused. All replies to the lines of a piece are written before
 /// the next piece is read, and none is read before. A line ends with its LF, or with the input.
 ///
-/// Where `keeps` says so, the gathered replies are written before each edit too: then the keeper holds at every stop what the lines
-/// made of it that are done by the stop's own count. Where it does not, the keeper is one that keeps nothing.
-pub fn run_stream<P: WeightPolicy + Drop, S: Source, K: Sink, Q: Keeper>(
+/// Where `keeps` says so, the gathered replies are written before each edit and each growth too: then the keeper holds at every stop
+/// what the lines made of it that are done by the stop's own count. Where it does not, the keeper is one that keeps nothing.
+pub fn run_stream<P: WeightPolicy + Drop + Copy, S: Source, K: Sink, Q: Keeper>(
     alloc: Global,
     cube: Cube<P>,
     input: LineInput,
@@ -68,14 +68,35 @@ pub fn run_stream<P: WeightPolicy + Drop, S: Source, K: Sink, Q: Keeper>(
         mut lines,
     } = input;
     let mut run = ScriptRun::new(alloc, cube, keeps);
+    do_input(&mut run, &mut pieces, &mut lines, source, out, keeper)
+}
+
+/// Does the lines piece by piece to the end of the input, and says how many are refused.
+fn do_input<P: WeightPolicy + Drop + Copy, S: Source, K: Sink, Q: Keeper>(
+    run: &mut ScriptRun<P>,
+    pieces: &mut PieceReader,
+    lines: &mut LineCutter,
+    source: &mut S,
+    out: &mut K,
+    keeper: &mut Q,
+) -> Result<u64, StreamStop>
+    requires few { run.old.done + length (whole_lines lines.old.lines) + pieces.old.room < 2 ^ 61 }
+    requires open { IsTrue (Q.is_open keeper.old) }
+    ensures ends { (given : Ground) (text : List ℕ) (room : ℕ) (start : Outside) → Streaming P.weigh given text room start
+        (outside_of S.left S.faults K.taken K.faults (told_of Q.content Q.journal) Q.faults source.old out.old keeper.old) pieces.old lines.old.lines run.old →
+        EndsStream given text room (seen_from start (outside_of S.left S.faults K.taken K.faults (told_of Q.content Q.journal) Q.faults source.new out.new keeper.new)) result }
+    ensures count { run.old.keeps ≡ true → CountsStream (keeper_seen Q.content Q.journal Q.faults keeper.old keeper.new) result }
+    ensures cause { IfErr result (λ stop. is_keep_stop stop ≡ true → KeepFailed (keeper_seen Q.content Q.journal Q.faults keeper.old keeper.new)) }
+    ensures stays_open { IsTrue (Q.is_open keeper.new) }
+{
     'turns: while !pieces.is_ended() {
-        do_piece(&mut run, &mut pieces, &mut lines, source, out, keeper)?;
+        do_piece(run, pieces, lines, source, out, keeper)?;
     }
-    Ok(do_end(&mut run, &mut lines, out, keeper)?)
+    Ok(do_end(run, lines, out, keeper)?)
 }
 
 /// Does each line that is held whole, writes the replies, and takes the next piece.
-fn do_piece<P: WeightPolicy + Drop, S: Source, K: Sink, Q: Keeper>(
+fn do_piece<P: WeightPolicy + Drop + Copy, S: Source, K: Sink, Q: Keeper>(
     run: &mut ScriptRun<P>,
     pieces: &mut PieceReader,
     lines: &mut LineCutter,
@@ -99,7 +120,7 @@ fn do_piece<P: WeightPolicy + Drop, S: Source, K: Sink, Q: Keeper>(
 }
 
 /// Does each line that is held whole, and writes the replies.
-fn do_and_send<P: WeightPolicy + Drop, K: Sink, Q: Keeper>(
+fn do_and_send<P: WeightPolicy + Drop + Copy, K: Sink, Q: Keeper>(
     run: &mut ScriptRun<P>,
     lines: &mut LineCutter,
     out: &mut K,
@@ -117,7 +138,7 @@ fn do_and_send<P: WeightPolicy + Drop, K: Sink, Q: Keeper>(
 }
 
 /// Does each line that is held at the end of the input, writes the replies, and says how many lines are refused.
-fn do_end<P: WeightPolicy + Drop, K: Sink, Q: Keeper>(
+fn do_end<P: WeightPolicy + Drop + Copy, K: Sink, Q: Keeper>(
     run: &mut ScriptRun<P>,
     lines: &mut LineCutter,
     out: &mut K,
@@ -133,7 +154,7 @@ fn do_end<P: WeightPolicy + Drop, K: Sink, Q: Keeper>(
 }
 
 /// Does each line that is held whole.
-fn do_held<P: WeightPolicy + Drop, K: Sink, Q: Keeper>(
+fn do_held<P: WeightPolicy + Drop + Copy, K: Sink, Q: Keeper>(
     run: &mut ScriptRun<P>,
     lines: &mut LineCutter,
     out: &mut K,
@@ -152,7 +173,7 @@ fn do_held<P: WeightPolicy + Drop, K: Sink, Q: Keeper>(
 }
 
 /// Does each line that is held at the end of the input: those that are whole, and the rest unless it is empty.
-fn do_rest<P: WeightPolicy + Drop, K: Sink, Q: Keeper>(
+fn do_rest<P: WeightPolicy + Drop + Copy, K: Sink, Q: Keeper>(
     run: &mut ScriptRun<P>,
     lines: &mut LineCutter,
     out: &mut K,

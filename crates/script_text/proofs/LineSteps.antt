@@ -16,15 +16,15 @@ command_line-right schema word name fields count = rw (eq-eqb (length (name ∷ 
 
 -- what a line says, by the first of its conditions that holds
 
-pub line_of-skipped : (schema : SchemaValue) (bytes : List ℕ) → true ≡ is_skipped bytes → Ok line.Nothing ≡ line_of schema bytes
+pub line_of-skipped : (schema : SchemaValue) (bytes : List ℕ) → true ≡ is_skipped bytes → line_of schema bytes ≡ Ok line.Nothing
 unfolding line_of
 line_of-skipped schema bytes skipped = rw (← skipped) refl
 
-pub line_of-long : (schema : SchemaValue) (bytes : List ℕ) → false ≡ is_skipped bytes → true ≡ is_long bytes → Err code.Long ≡ line_of schema bytes
+pub line_of-long : (schema : SchemaValue) (bytes : List ℕ) → false ≡ is_skipped bytes → true ≡ is_long bytes → line_of schema bytes ≡ Err code.Long
 unfolding line_of
 line_of-long schema bytes skipped long = rw (← skipped, ← long) refl
 
-pub line_of-not_clean : (schema : SchemaValue) (bytes : List ℕ) → false ≡ is_skipped bytes → false ≡ is_long bytes → false ≡ is_clean (without_cr bytes) → Err code.Text ≡ line_of schema bytes
+pub line_of-not_clean : (schema : SchemaValue) (bytes : List ℕ) → false ≡ is_skipped bytes → false ≡ is_long bytes → false ≡ is_clean (without_cr bytes) → line_of schema bytes ≡ Err code.Text
 unfolding line_of
 line_of-not_clean schema bytes skipped long clean = rw (← skipped, ← long, ← clean) refl
 

@@ -31,8 +31,8 @@ use Rattle.script_text.specs.declared.word.MeasureWord.TheVariants.{Sum, Avg, Po
 use Rattle.script_text.specs.declared.word.RegionWord.{RegionWord}
 use Rattle.script_text.specs.declared.word.RegionWord.TheVariants.{Count, Terms, Worlds}
 use Rattle.script_text.specs.declared.word.ScriptWord.{ScriptWord}
-use Rattle.script_text.specs.declared.word.ScriptWord.TheVariants.{OfFact, OfId, OfRegion, OfMeasure, OfView}
-use Rattle.script_text.specs.ScriptLine.{command_line, field_count_of, line_given, line_of, view_given}
+use Rattle.script_text.specs.declared.word.ScriptWord.TheVariants.{OfFact, OfId, OfRegion, OfMeasure, OfView, OfGrowth}
+use Rattle.script_text.specs.ScriptLine.{command_line, dim_given, field_count_of, line_given, line_of, new_name_given, parent_given, view_given}
 use Rattle.script_text.specs.ScriptWord.{kind_of, line_of_fact, line_of_id, line_of_measure, line_of_region, word_spelled}
 
 -- a node that is found among some has a number below each bound of theirs
@@ -94,6 +94,7 @@ abbrev pub OnFact : (Fact → Type 0) → Line → Type 0
 OnFact P (line.Edit (edit.Put fact)) = P fact
 OnFact P (line.Edit (edit.Change fact)) = P fact
 OnFact P (line.Edit (edit.Withdraw id)) = ⊤
+OnFact P (line.Grow grow) = ⊤
 OnFact P line.Nothing = ⊤
 OnFact P (line.Count region) = ⊤
 OnFact P (line.Sum measure region) = ⊤
@@ -158,11 +159,25 @@ module _ (schema : SchemaValue) (trees : All IsTree schema.dims) where
       let same : line.View view ≡ said = cc in
       subst Lies same tt
 
+  of_growth : (dim : Result ℕ Code) (parent : ℕ → Result ℕ Code) (name : ℕ → Result (List ℕ) Code) (said : Line)
+      → result_then (λ dim. result_then (λ parent. result_then (λ name. Ok (line.Grow (record { dim = dim; parent = parent; name = name }))) (name dim)) (parent dim)) dim ≡ Ok said → Lies said
+  of_growth (Err why) parent name said e = cc
+  of_growth (Ok dim) parent name said e = of_leaf (parent dim) (name dim) e
+    where
+      of_leaf : (parent : Result ℕ Code) (name : Result (List ℕ) Code)
+          → result_then (λ parent. result_then (λ name. Ok (line.Grow (record { dim = dim; parent = parent; name = name }))) name) parent ≡ Ok said → Lies said
+      of_leaf (Err why) name e = cc
+      of_leaf (Ok parent) (Err why) e = cc
+      of_leaf (Ok parent) (Ok name) e =
+          let same : line.Grow (record { dim = dim; parent = parent; name = name }) ≡ said = cc in
+          subst Lies same tt
+
   line_given-lies : (word : ScriptWord) (fields : List (List ℕ)) (said : Line) → line_given schema word fields ≡ Ok said → Lies said
   line_given-lies (OfFact word) fields said e = of_fact word (fact_given schema.dims (shape_of schema) fields) said (λ fact is. fact_given-region schema.dims (shape_of schema) fields fact trees is) e
   line_given-lies (OfId word) fields said e = of_id word (id_given fields) said e
   line_given-lies (OfRegion word) fields said e = of_region word (region_given schema.dims fields) said e
   line_given-lies (OfMeasure word) fields said e = of_measure word (region_given schema.dims (drop 1 fields)) (measure_given (shape_of schema) (kind_of word) (field_at fields 0)) said e
+  line_given-lies OfGrowth fields said e = of_growth (dim_given schema (field_at fields 0)) (λ dim. parent_given schema.dims dim (field_at fields 1)) (λ dim. new_name_given schema.dims dim (field_at fields 2)) said e
   line_given-lies OfView fields said e = of_view (view_given schema (field_at fields 0)) said e
 
   command_line-lies : (fields : List (List ℕ)) (word : Option ScriptWord) (said : Line) → command_line schema fields word ≡ Ok said → Lies said

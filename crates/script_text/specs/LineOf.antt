@@ -1,11 +1,12 @@
 -- What an accepted line of a script names is there.
-use Rattle.std.specs.Prelude.{◌≡◌, ℕ, ◌<◌, List, length, Err, ⊤}
+use Rattle.std.specs.Prelude.{◌≡◌, ℕ, ◌<◌, List, length, Err, IsOkAnd, ⊤}
 use Rattle.cube_model.specs.Facts.{IsId}
 use Rattle.region_algebra.specs.Space.{IsRegion}
 use Rattle.fact_records.specs.declared.measure_reader.MeasureKind.{MeasureKind}
 use Rattle.fact_records.specs.declared.measure_reader.MeasureKind.TheVariants as kind
 use Rattle.fact_records.specs.MeasureFields.{IsMeasureOf}
 use Rattle.fact_records.specs.Valid.{IsEditOf}
+use Rattle.schema_text.specs.Growth.{IsGrowOf}
 use Rattle.schema_text.specs.Schema.{SchemaValue, shape_of}
 use Rattle.script_text.specs.declared.line.Line.{Line}
 use Rattle.script_text.specs.declared.line.Line.TheVariants as line
@@ -22,6 +23,7 @@ pub record IsMeasureOver (schema : SchemaValue) (wanted : MeasureKind) (measure 
 abbrev pub IsLineOf : SchemaValue → Line → Type 0
 IsLineOf schema line.Nothing = ⊤
 IsLineOf schema (line.Edit change) = IsEditOf (shape_of schema) schema.dims change
+IsLineOf schema (line.Grow grow) = IsGrowOf schema.dims grow
 IsLineOf schema (line.Count region) = IsRegion schema.dims region
 IsLineOf schema (line.Sum measure region) = IsMeasureOver schema kind.Number measure region
 IsLineOf schema (line.Avg measure region) = IsMeasureOver schema kind.Number measure region
@@ -31,7 +33,12 @@ IsLineOf schema (line.Rows id) = IsId id
 IsLineOf schema (line.View view) = view < length schema.views
 IsLineOf schema (line.Worlds region) = IsRegion schema.dims region
 
--- where a line is refused, this is its code; want of memory says nothing of it
+-- a line lets a dimension grow
+abbrev pub IsGrowth : Line → Type 0
+IsGrowth (line.Grow grow) = ⊤
+IsGrowth said = ⊥
+
+-- where a line is refused, this is its code; memory is wanting for a line that lets a dimension grow, which has a name, and for no other
 abbrev pub IsFaultOf : SchemaValue → List ℕ → LineFault → Type 0
 IsFaultOf schema bytes (fault.Code refusal) = line_of schema bytes ≡ Err refusal
-IsFaultOf schema bytes fault.Memory = ⊤
+IsFaultOf schema bytes fault.Memory = IsOkAnd (line_of schema bytes) IsGrowth

@@ -1,8 +1,11 @@
 -- What a line of a script says over a schema, and why it may be refused.
-use Rattle.std.specs.Prelude.{ℕ, ◌+◌, List, length, drop, ◌==◌, if◌then◌else◌, Option, Some, None, Result, Ok, Err}
-use Rattle.std.specs.Option.{option_map_or}
+use Rattle.std.specs.Prelude.{ℕ, ◌+◌, List, length, drop, ◌==◌, ◌&&◌, if◌then◌else◌, Option, Some, None, is_none, position, slice_get, Result, Ok, Err}
+use Rattle.std.specs.Option.{option_and_then, option_map_or}
+use Rattle.std.specs.Str.{bytes_eq}
 use Rattle.cube_base.specs.declared.code.Code.{Code}
 use Rattle.cube_base.specs.declared.code.Code.TheVariants as code
+use Rattle.cube_base.specs.Name.{is_name}
+use Rattle.cube_model.specs.Tree.{Dimension, node_named}
 use Rattle.text_lines.specs.Text.{fields_of}
 use Rattle.text_lines.specs.LineText.{without_cr, is_skipped, is_long, is_clean, field_at}
 use Rattle.fact_records.specs.Fields.{fact_given, id_given, region_given, result_then}
@@ -10,7 +13,7 @@ use Rattle.fact_records.specs.MeasureFields.{measure_given}
 use Rattle.schema_text.specs.Schema.{SchemaValue, shape_of, view_named}
 use Rattle.script_text.specs.declared.word.MeasureWord.{MeasureWord}
 use Rattle.script_text.specs.declared.word.ScriptWord.{ScriptWord}
-use Rattle.script_text.specs.declared.word.ScriptWord.TheVariants.{OfFact, OfId, OfRegion, OfMeasure, OfView}
+use Rattle.script_text.specs.declared.word.ScriptWord.TheVariants.{OfFact, OfId, OfRegion, OfMeasure, OfView, OfGrowth}
 use Rattle.script_text.specs.declared.line.Line.{Line}
 use Rattle.script_text.specs.declared.line.Line.TheVariants as line
 use Rattle.script_text.specs.ScriptWord.{kind_of, line_of_fact, line_of_id, line_of_measure, line_of_region, word_spelled}
@@ -23,6 +26,7 @@ field_count_of schema (OfId _) = 2
 field_count_of schema (OfRegion _) = 1 + length schema.dims
 field_count_of schema (OfMeasure _) = 2 + length schema.dims
 field_count_of schema OfView = 2
+field_count_of schema OfGrowth = 4
 
 -- the nodes are judged before the measure, whose name stands before theirs
 abbrev pub measure_line_given : SchemaValue → MeasureWord → List (List ℕ) → Result Line Code
@@ -34,12 +38,30 @@ measure_line_given schema word fields =
 abbrev pub view_given : SchemaValue → List ℕ → Result ℕ Code
 view_given schema name = option_map_or (λ view. Ok view) (view_named schema.views name) (Err code.Name)
 
+-- the dimension that a name says, by its place, and the node of one
+abbrev pub dim_given : SchemaValue → List ℕ → Result ℕ Code
+dim_given schema name = option_map_or (λ dim. Ok dim) (position (λ other. bytes_eq other name) schema.names) (Err code.Node)
+
+abbrev pub parent_given : List Dimension → ℕ → List ℕ → Result ℕ Code
+parent_given dims dim name = option_map_or (λ node. Ok node) (option_and_then (λ tree. node_named tree name) (slice_get dims dim)) (Err code.Node)
+
+-- the name of a new node of a dimension: it is a name, and no node's
+abbrev pub new_name_given : List Dimension → ℕ → List ℕ → Result (List ℕ) Code
+new_name_given dims dim name = if is_name name && is_none (option_and_then (λ tree. node_named tree name) (slice_get dims dim)) then Ok name else Err code.Name
+
+-- the leaf that a dimension, a node of it and a name say, which are judged in this order
+abbrev pub growth_given : SchemaValue → List (List ℕ) → Result Line Code
+growth_given schema fields =
+    result_then (λ dim. result_then (λ parent. result_then (λ name. Ok (line.Grow (record { dim = dim; parent = parent; name = name })))
+    (new_name_given schema.dims dim (field_at fields 2))) (parent_given schema.dims dim (field_at fields 1))) (dim_given schema (field_at fields 0))
+
 -- what the fields behind a word say
 abbrev pub line_given : SchemaValue → ScriptWord → List (List ℕ) → Result Line Code
 line_given schema (OfFact word) fields = result_then (λ fact. Ok (line_of_fact word fact)) (fact_given schema.dims (shape_of schema) fields)
 line_given schema (OfId word) fields = result_then (λ id. Ok (line_of_id word id)) (id_given fields)
 line_given schema (OfRegion word) fields = result_then (λ region. Ok (line_of_region word region)) (region_given schema.dims fields)
 line_given schema (OfMeasure word) fields = measure_line_given schema word fields
+line_given schema OfGrowth fields = growth_given schema fields
 line_given schema OfView fields = result_then (λ view. Ok (line.View view)) (view_given schema (field_at fields 0))
 
 -- and what all fields of a line of a word say: first their number is judged

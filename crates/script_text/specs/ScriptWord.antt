@@ -8,7 +8,7 @@ use Rattle.fact_records.specs.declared.measure_reader.MeasureKind.TheVariants as
 use Rattle.script_text.specs.declared.line.Line.{Line}
 use Rattle.script_text.specs.declared.line.Line.TheVariants as line
 use Rattle.script_text.specs.declared.word.ScriptWord.{ScriptWord}
-use Rattle.script_text.specs.declared.word.ScriptWord.TheVariants.{OfFact, OfId, OfRegion, OfMeasure, OfView}
+use Rattle.script_text.specs.declared.word.ScriptWord.TheVariants.{OfFact, OfId, OfRegion, OfMeasure, OfView, OfGrowth}
 use Rattle.script_text.specs.declared.word.FactWord.{FactWord}
 use Rattle.script_text.specs.declared.word.FactWord.TheVariants.{Insert, Change}
 use Rattle.script_text.specs.declared.word.IdWord.{IdWord}
@@ -24,6 +24,7 @@ SPELLINGS =
     (codes "insert", OfFact Insert)
     ∷ (codes "change", OfFact Change)
     ∷ (codes "withdraw", OfId Withdraw)
+    ∷ (codes "grow", OfGrowth)
     ∷ (codes "count", OfRegion Count)
     ∷ (codes "sum", OfMeasure Sum)
     ∷ (codes "avg", OfMeasure Avg)

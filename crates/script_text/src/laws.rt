@@ -37,6 +37,8 @@ pub fn worked_lines()
     ensures sum { line_of graded (line_with (codes "sum") (codes "n" ∷ codes "b" ∷ codes "a" ∷ [])) ≡ Ok (line.Sum 1 (1 ∷ 0 ∷ [])) }
     ensures average { line_of graded (line_with (codes "avg") (codes "n" ∷ codes "c" ∷ codes "b" ∷ [])) ≡ Ok (line.Avg 1 (2 ∷ 1 ∷ [])) }
     ensures pool { line_of graded (line_with (codes "pool") (codes "p" ∷ codes "a" ∷ codes "b" ∷ [])) ≡ Ok (line.Pool 0 (0 ∷ 1 ∷ [])) }
+    ensures growth { map (line_of counted) (line_with (codes "grow") (codes "f" ∷ codes "e" ∷ codes "z" ∷ []) ∷ line_with (codes "grow") (codes "p" ∷ codes "a" ∷ replicate 128 122 ∷ []) ∷ [])
+        ≡ Ok (line.Grow (record { dim = 0; parent = 4; name = codes "z" })) ∷ Ok (line.Grow (record { dim = 1; parent = 0; name = replicate 128 122 })) ∷ [] }
     ensures view { map (line_of counted) (line_with (codes "view") (codes "v" ∷ []) ∷ line_with (codes "view") (codes "w" ∷ []) ∷ []) ≡ Ok (line.View 0) ∷ Ok (line.View 1) ∷ [] }
     ensures nothing { map (line_of counted) ([] ∷ (13 ∷ []) ∷ codes "#x" ∷ (35 ∷ replicate 5000 255) ∷ []) ≡ replicate 4 (Ok line.Nothing) }
     ensures negative { line_of weighed (line_with (codes "insert") (codes "4" ∷ codes "b" ∷ codes "b" ∷ codes "-5" ∷ codes "5" ∷ []))
@@ -67,6 +69,12 @@ pub fn worked_refusals()
     ensures parts { map (line_of graded) (line_with (codes "insert") (codes "1" ∷ codes "b" ∷ codes "b" ∷ codes "80:21" ∷ codes "5" ∷ []) ∷ line_with (codes "change") (codes "1" ∷ codes "b" ∷ codes "b" ∷ codes "100" ∷ codes "5" ∷ []) ∷ []) ≡ replicate 2 (Err code.Parts) }
     ensures negative { line_of weighed (line_with (codes "insert") (codes "4" ∷ codes "b" ∷ codes "b" ∷ codes "5" ∷ codes "-5" ∷ [])) ≡ Err code.Value }
     ensures view_name { map (line_of counted) (line_with (codes "view") (codes "none" ∷ []) ∷ line_with (codes "view") ([] ∷ []) ∷ []) ≡ replicate 2 (Err code.Name) }
+    ensures growth_fields { map (line_of counted) (line_with (codes "grow") (codes "f" ∷ codes "e" ∷ []) ∷ line_with (codes "grow") (codes "x" ∷ codes "e" ∷ codes "z" ∷ codes "z" ∷ []) ∷ codes "grow" ∷ []) ≡ replicate 3 (Err code.Fields) }
+    ensures growth_node { map (line_of counted) (line_with (codes "grow") (codes "x" ∷ codes "a" ∷ codes "z" ∷ []) ∷ line_with (codes "grow") ([] ∷ codes "a" ∷ codes "z" ∷ []) ∷ line_with (codes "grow") (codes "f" ∷ codes "x" ∷ codes "z" ∷ [])
+        ∷ line_with (codes "grow") (codes "p" ∷ codes "d" ∷ codes "z" ∷ []) ∷ []) ≡ replicate 4 (Err code.Node) }
+    ensures growth_name { map (line_of counted) (line_with (codes "grow") (codes "f" ∷ codes "e" ∷ codes "c" ∷ []) ∷ line_with (codes "grow") (codes "f" ∷ codes "e" ∷ codes "e" ∷ []) ∷ line_with (codes "grow") (codes "f" ∷ codes "e" ∷ [] ∷ [])
+        ∷ line_with (codes "grow") (codes "f" ∷ codes "e" ∷ replicate 129 122 ∷ []) ∷ []) ≡ replicate 4 (Err code.Name) }
+    ensures growth_node_first { map (line_of counted) (line_with (codes "grow") (codes "x" ∷ codes "e" ∷ [] ∷ []) ∷ line_with (codes "grow") (codes "f" ∷ codes "x" ∷ codes "c" ∷ []) ∷ []) ≡ replicate 2 (Err code.Node) }
     ensures one_view { map (line_of counted) (codes "view" ∷ line_with (codes "view") (codes "v" ∷ codes "v" ∷ []) ∷ []) ≡ replicate 2 (Err code.Fields) }
 {}
 

@@ -1,14 +1,16 @@
 //! What a line of a script says.
-use cube_base::Code;
-use cube_model::{Edit, Region};
+use cube_base::{Code, Memory};
+use cube_model::{Edit, Grow, Region};
 
 /// What a line of a script says.
-#[derive(Clone, Copy, Debug)]
+#[derive(Debug, Drop)]
 pub enum Line {
     /// Nothing: it is passed over.
     Nothing,
     /// `insert|ID|NODE..|VALUE..`, `change|ID|NODE..|VALUE..` or `withdraw|ID`: an edit of the facts.
     Edit(Edit),
+    /// `grow|DIMENSION|PARENT|NAME`: a leaf that a dimension is to get.
+    Grow(Grow),
     /// `count|NODE..`: how much the facts in a region count.
     Count(Region),
     /// `sum|MEASURE|NODE..`: the sum of the number measure at this place over a region.
@@ -34,4 +36,26 @@ pub enum LineFault {
     Code(Code),
     /// Want of memory.
     Memory,
+}
+
+impl From<Code> for LineFault {
+    ghost use Rattle.std.specs.Prelude.{◌≡◌};
+    ghost use Rattle.script_text.specs.declared.line.LineFault.TheVariants as line_fault;
+
+    ghost from_gives = { λ code fault. fault ≡ line_fault.Code code };
+
+    fn from(code: Code) -> Self {
+        LineFault::Code(code)
+    }
+}
+
+impl From<Memory> for LineFault {
+    ghost use Rattle.std.specs.Prelude.{◌≡◌};
+    ghost use Rattle.script_text.specs.declared.line.LineFault.TheVariants as line_fault;
+
+    ghost from_gives = { λ _ fault. fault ≡ line_fault.Memory };
+
+    fn from(_: Memory) -> Self {
+        LineFault::Memory
+    }
 }

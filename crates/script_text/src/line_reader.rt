@@ -1,15 +1,19 @@
 //! Reading a line of a script.
-ghost use Rattle.std.specs.Prelude.{◌≡◌, ◌≢◌, ◌+◌, ◌<◌, length, IfErr, IfOk};
+ghost use Rattle.std.specs.Prelude.{◌≡◌, ◌+◌, ◌<◌, is_ok, length, position, slice_get, true, Ok, IfErr, IfOk, IfSome};
+ghost use Rattle.std.specs.Str.{bytes_eq};
+ghost use Rattle.cube_base.specs.Name.{is_name};
 ghost use Rattle.text_lines.specs.LineText.{field_at};
 ghost use Rattle.text_lines.specs.Text.{fields_of};
 ghost use Rattle.script_text.specs.LineOf.{IsFaultOf, IsLineOf};
-ghost use Rattle.script_text.specs.ScriptLine.{command_line, field_count_of, line_given, line_of, measure_line_given, view_given};
+ghost use Rattle.script_text.specs.LineSteps.{IsReadOf};
+ghost use Rattle.script_text.specs.ScriptLine.{command_line, dim_given, field_count_of, growth_given, line_given, line_of, measure_line_given, new_name_given, parent_given, view_given};
 ghost use Rattle.script_text.specs.ScriptWord.{word_spelled};
 
 use crate::line::{Line, LineFault};
 use crate::word::{MeasureWord, ScriptWord, word_spelled};
-use cube_base::Code;
+use cube_base::{Code, Memory, Name, is_name};
 use fact_records::{read_fact, read_id, read_measure, read_region};
+use region_algebra::{Grow, Space};
 use schema_text::Schema;
 use std::alloc::Global;
 use text_lines::{FieldWalk, Fields, clean_text, field_count, is_long, is_skipped, without_cr};
@@ -20,49 +24,47 @@ use text_lines::{FieldWalk, Fields, clean_text, field_count, is_long, is_skipped
 /// is wrong; `Id`, the id is not a number from 1 to 2^63 - 1; `Node`, a field is not the name of a node of its dimension;
 /// `Measure`, a field is not the name of a measure, or of one that the word does not take: `sum` and `avg` take a measure
 /// of numbers, `pool` one of distributions; `Value`, the field of a number measure gives no value; `Parts`, that of a
-/// parts measure; `Name`, no view has the name. The lines that there are take no memory.
-pub fn read_line(_alloc: Global, schema: &Schema, line: &[u8]) -> Result<Line, LineFault>
+/// parts measure; `Name`, no view has the name. A line that lets a dimension grow is judged so, behind its number of fields: `Node`, no
+/// dimension has the name, or no node of it that of the parent; `Name`, the last field is no name, or a node of the dimension has it.
+/// No other line takes memory.
+pub fn read_line(alloc: Global, schema: &Schema, line: &[u8]) -> Result<Line, LineFault>
     ensures line { IfOk result (λ read. line_of schema.now line.now ≡ Ok read) }
     ensures refused { IfErr result (IsFaultOf schema.now line.now) }
     ensures within { IfOk result (IsLineOf schema.now) }
-    ensures no_memory { result ≢ Err LineFault.Memory }
 {
-    match read_over(schema, line) {
-        Ok(read) => Ok(read),
-        Err(code) => Err(LineFault::Code(code)),
-    }
+    read_over(alloc, schema, line)
 }
 
-/// What a line says, or its code.
-fn read_over(schema: &Schema, line: &[u8]) -> Result<Line, Code>
-    ensures line { result ≡ line_of schema.now line.now }
+/// What is read of a line.
+fn read_over(alloc: Global, schema: &Schema, line: &[u8]) -> Result<Line, LineFault>
+    ensures line { IsReadOf (line_of schema.now line.now) result }
     ensures within { IfOk result (IsLineOf schema.now) }
 {
     if is_skipped(line) {
         return Ok(Line::Nothing);
     }
     if is_long(line) {
-        return Err(Code::Long);
+        return Err(LineFault::Code(Code::Long));
     }
     match clean_text(without_cr(line)) {
-        Some(text) => read_text(schema, text),
-        None => Err(Code::Text),
+        Some(text) => read_text(alloc, schema, text),
+        None => Err(LineFault::Code(Code::Text)),
     }
 }
 
-/// What a line that is neither skipped nor long says.
-fn read_text(schema: &Schema, text: &str) -> Result<Line, Code>
-    ensures line { result ≡ command_line schema.now (fields_of text.now) (word_spelled (field_at (fields_of text.now) 0)) }
+/// What is read of a line that is neither skipped nor long.
+fn read_text(alloc: Global, schema: &Schema, text: &str) -> Result<Line, LineFault>
+    ensures line { IsReadOf (command_line schema.now (fields_of text.now) (word_spelled (field_at (fields_of text.now) 0))) result }
     ensures within { IfOk result (IsLineOf schema.now) }
 {
     let mut fields = FieldWalk::new(text);
     let Some(word) = word_spelled(fields.next_field()) else {
-        return Err(Code::Command);
+        return Err(LineFault::Code(Code::Command));
     };
     if field_count(text.as_bytes()) != count_of(schema, word) {
-        return Err(Code::Fields);
+        return Err(LineFault::Code(Code::Fields));
     }
-    read_fields(schema, word, &mut fields)
+    read_fields(alloc, schema, word, &mut fields)
 }
 
 /// The number of fields of a line of a word.
@@ -76,13 +78,19 @@ fn count_of(schema: &Schema, word: ScriptWord) -> usize
         ScriptWord::OfId(_) | ScriptWord::OfView => 2,
         ScriptWord::OfRegion(_) => 1 + nodes,
         ScriptWord::OfMeasure(_) => 2 + nodes,
+        ScriptWord::OfGrowth => 4,
     }
 }
 
-/// What the fields behind a word say.
-fn read_fields(schema: &Schema, word: ScriptWord, fields: &mut FieldWalk<'_>) -> Result<Line, Code>
+/// What is read of the fields behind a word.
+fn read_fields(
+    alloc: Global,
+    schema: &Schema,
+    word: ScriptWord,
+    fields: &mut FieldWalk<'_>,
+) -> Result<Line, LineFault>
     requires { length fields.old + 1 ≡ field_count_of schema.now word }
-    ensures line { result ≡ line_given schema.now word fields.old }
+    ensures line { IsReadOf (line_given schema.now word fields.old) result }
     ensures within { IfOk result (IsLineOf schema.now) }
 {
     let space = schema.space();
@@ -90,7 +98,8 @@ fn read_fields(schema: &Schema, word: ScriptWord, fields: &mut FieldWalk<'_>) ->
         ScriptWord::OfFact(word) => Ok(word.line(read_fact(space, schema.shape(), fields)?)),
         ScriptWord::OfId(word) => Ok(word.line(read_id(fields)?)),
         ScriptWord::OfRegion(word) => Ok(word.line(read_region(space, fields)?)),
-        ScriptWord::OfMeasure(word) => read_of_measure(schema, word, fields),
+        ScriptWord::OfMeasure(word) => Ok(read_of_measure(schema, word, fields)?),
+        ScriptWord::OfGrowth => read_growth(alloc, schema, fields),
         ScriptWord::OfView => Ok(Line::View(read_view(schema, fields.next_field())?)),
     }
 }
@@ -120,4 +129,78 @@ fn read_view(schema: &Schema, name: &str) -> Result<u32, Code>
         Some(view) => Ok(view),
         None => Err(Code::Name),
     }
+}
+
+/// The leaf that a dimension, a node of it and a name say. Memory is asked for once all three are accepted.
+fn read_growth(
+    alloc: Global,
+    schema: &Schema,
+    fields: &mut FieldWalk<'_>,
+) -> Result<Line, LineFault>
+    requires { length fields.old ≡ 3 }
+    ensures line { IsReadOf (growth_given schema.now fields.old) result }
+    ensures within { IfOk result (IsLineOf schema.now) }
+{
+    let dim = read_dim(schema, fields.next_field())?;
+    let (parent, name) = (fields.next_field(), fields.next_field());
+    let space = schema.space();
+    let parent = read_parent(space, dim, parent)?;
+    if !is_new_name(space, dim, name) {
+        return Err(LineFault::Code(Code::Name));
+    }
+    let name = name_of(alloc, name)?;
+    Ok(Line::Grow(Grow { dim, parent, name }))
+}
+
+/// The dimension that a name says, by its place.
+fn read_dim(schema: &Schema, name: &str) -> Result<u32, Code>
+    ensures dim { result ≡ dim_given schema.now name.now }
+    ensures within { IfOk result (λ dim. dim < length schema.now.dims) }
+{
+    // There are at most six dimensions: the place fits.
+    let _ = schema.space().dims();
+    match place_of(schema.dim_names(), name) {
+        Some(dim) => Ok(dim as u32),
+        None => Err(Code::Node),
+    }
+}
+
+/// The place of a name among names.
+fn place_of(names: &[Name], name: &str) -> Option<usize>
+    ensures place { result ≡ position (λ other. bytes_eq other name.now) names.now }
+    ensures within { IfSome result (λ place. place < length names.now) }
+{
+    names.iter().position(|other| has_text(other, name))
+}
+
+/// Whether a name has this text.
+fn has_text(name: &Name, text: &str) -> bool
+    ensures { result ≡ bytes_eq name.now text.now }
+{
+    name.text() == text
+}
+
+/// The node of a dimension that a name says.
+fn read_parent(space: &Space, dim: u32, name: &str) -> Result<u32, Code>
+    requires { dim < length space.now }
+    ensures parent { result ≡ parent_given space.now dim name.now }
+    ensures within { IfOk result (λ parent. IfSome (slice_get space.now dim) (λ tree. parent < length tree)) }
+{
+    space.dim(dim).find(name).ok_or(Code::Node)
+}
+
+/// Whether a text may be the name of a new node of a dimension: it is a name, and no node's.
+fn is_new_name(space: &Space, dim: u32, text: &str) -> bool
+    requires { dim < length space.now }
+    ensures { result ≡ is_ok (new_name_given space.now dim text.now) }
+{
+    is_name(text) && space.dim(dim).find(text).is_none()
+}
+
+/// The name that a text is.
+fn name_of(alloc: Global, text: &str) -> Result<Name, Memory>
+    requires { is_name text.now ≡ true }
+    ensures { IfOk result (λ name. name ≡ text.now) }
+{
+    Ok(Name::new(alloc, text)?.unwrap())
 }

@@ -20,6 +20,8 @@ pub enum ScriptWord {
     OfMeasure(MeasureWord),
     /// The name of a view; its word is `view`.
     OfView,
+    /// The name of a dimension, a node of it and the name of a new one; its word is `grow`.
+    OfGrowth,
 }
 
 /// A word before a fact.
@@ -62,6 +64,8 @@ pub fn word_spelled(field: &str) -> Option<ScriptWord>
         Some(ScriptWord::OfFact(FactWord::Change))
     } else if field == "withdraw" {
         Some(ScriptWord::OfId(IdWord::Withdraw))
+    } else if field == "grow" {
+        Some(ScriptWord::OfGrowth)
     } else if field == "count" {
         Some(ScriptWord::OfRegion(RegionWord::Count))
     } else if field == "sum" {

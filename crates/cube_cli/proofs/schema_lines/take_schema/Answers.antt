@@ -1,5 +1,5 @@
 -- The lines that were taken tell the schema, or which of them is at fault.
-use Rattle.std.proofs.Common.{◌≡◌, Ok, Err, ap, sym, ◌∙◌}
+use Rattle.std.proofs.Common.{ap, sym, ◌∙◌}
 use Rattle.schema_text.specs.SchemaText.{BadLine, ReadSchema, schema_of}
 use Rattle.script_run.specs.Seen.{SourceSeen, source_seen}
 use Rattle.cube_cli.proofs.SchemaTold.{refuses_schema, takes_few, takes_schema}

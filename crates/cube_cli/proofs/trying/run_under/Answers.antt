@@ -1,5 +1,5 @@
 -- Nothing is kept, so that nothing is said of the keeper.
-use Rattle.std.proofs.Common.{◌≡◌, None, refl, sym, ◌∙◌}
+use Rattle.std.proofs.Common.{None}
 use Rattle.script_run.specs.Seen.{KeeperSeen, SinkSeen, SourceSeen, sink_seen, source_seen}
 use Rattle.cube_cli.proofs.Unkept.{cube_ground, ends_unkept, ground_new, no_cause, none_done}
 use Rattle.cube_cli.proofs.trying.run_under.Goals as goal

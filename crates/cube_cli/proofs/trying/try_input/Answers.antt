@@ -1,5 +1,5 @@
 -- The schema is taken, and the script behind it done; or nothing is done.
-use Rattle.std.proofs.Common.{◌≡◌, refl, ap, ◌∙◌}
+use Rattle.std.proofs.Common.{ap}
 use Rattle.schema_text.specs.Schema.{SchemaValue}
 use Rattle.line_cutter.specs.Pieces.{Held}
 use Rattle.script_run.specs.Seen.{SinkSeen, SourceSeen, sink_seen, source_seen}

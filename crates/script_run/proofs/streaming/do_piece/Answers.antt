@@ -1,9 +1,7 @@
-use Rattle.std.proofs.Common.{◌≡◌, refl, sym, ap, ◌∙◌, subst}
+use Rattle.std.proofs.Common.{refl}
 use Rattle.std.proofs.lemmas.Result.{err_from_is_err_and}
 use Rattle.script_run.specs.Seen.{told_of}
-use Rattle.script_run.specs.Stream.{stop_of}
-use Rattle.script_run.specs.StreamTurn.{DoesPiece, Outside, outside_of}
-use Rattle.std.specs.Prelude.{Err, Result, Ok}
+use Rattle.script_run.specs.StreamTurn.{Outside, outside_of}
 use Rattle.script_run.proofs.PieceTurns.{does_piece-broke, does_piece-fed, does_piece-no_piece}
 use Rattle.script_run.proofs.streaming.do_piece.Goals as goal
 

@@ -20,5 +20,6 @@ returns c = record {
   sum = refl;
   average = refl;
   pool = refl;
+  growth = refl;
   view = refl;
 }

@@ -22,5 +22,9 @@ returns c = record {
   measure = refl;
   fields_first = refl;
   view_name = refl;
+  growth_fields = refl;
+  growth_node = refl;
+  growth_name = refl;
+  growth_node_first = refl;
   one_view = refl;
 }
