@@ -1,0 +1,15 @@
+pub mod Updated
+pub mod Told
+pub mod Rowed
+pub mod Refreshed
+pub mod Edited
+pub mod Grown
+pub mod Drafted
+pub mod Alone
+pub mod GrownSchema
+pub mod ReadIds
+pub mod Filed
+pub mod Imported
+pub mod Scripted
+pub mod GoingOn
+pub mod Commands
