@@ -25,7 +25,7 @@ const TWO_REPAIRS: &str =
     "\u{feff}id,Place,Auto,Repair\r\n1,\"Paris, TX\",Camry,100\r\n2,TX,Camry,600\n";
 
 /// The schema of a store without facts, a file, its first record that is refused, what is written, and what is exported then.
-type File = (
+pub type File = (
     &'static str,
     &'static [u8],
     Option<(u64, Code)>,
@@ -300,7 +300,7 @@ fn is_exported(alloc: Global, keeper: &mut MemKeeper, text: &str) -> Result<bool
 }
 
 /// Whether a file is imported as a case says, by one batch or none.
-fn is_imported(alloc: Global, row: &File) -> Result<bool, Memory> {
+pub fn is_imported(alloc: Global, row: &File) -> Result<bool, Memory> {
     let (schema, file, refused, written, exported) = *row;
     let mut keeper = keeper_of(alloc, schema, &[], &[], &[])?;
     let ran = run_kept(alloc, &["import", "s"], file, &WHOLE, &mut keeper)?;

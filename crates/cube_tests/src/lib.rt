@@ -10,6 +10,7 @@ mod drills;
 #[cfg(test)]
 mod ends;
 #[cfg(test)]
+mod examples;
 #[cfg(test)]
 mod fact_files;
 #[cfg(test)]
