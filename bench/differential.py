@@ -44,12 +44,13 @@ WRONG_DEPTHS = [b"", b"-1", b"01", b"9", b"10", b"x", b"256", b"4294967296"]
 WRONG_LINES = [
     *(b"count", b"sum\ta", b"avg\ta\tb", b"pool\ta\tb", b"view", b"view\tx", b"view\tx\t1", b"view\tx\t1\t2", b"worlds"),
     *(b"Insert\t1\ta", b"insert", b"withdraw", b"rows", b"terms", b"\t", b"x", b"error\tid", b"end", b"node\t1\tz"),
+    *(b"grow", b"grow\ta\tb", b"grow\ta\tb\tc", b"grow\ta\tb\tc\td", b"grow\tAll\tAll\tz", b"grow\t\t\t", b"Grow\ta\tb\tc"),
     *(b"parts\tQ\t100\tgood\tbad", b"parts\tQ\t0\tx\ty", b"parts\tQ\t1\tx\tx", b"parts\tQ\t1\tx", b"policy\tem", b"policy\tweight\ta", b"policy\tweight", b"cube\t2", b"cube\t3", b"node\t1\tz\t1", b"dimension\t", b"number\t"),
 ]
 # Words of scripts, and how often they come.
 WORDS = {
     **{b"insert": 12, b"change": 4, b"withdraw": 2, b"terms": 3, b"rows": 4},
-    **{b"count": 3, b"sum": 3, b"avg": 4, b"pool": 3, b"worlds": 3, b"view": 3},
+    **{b"count": 3, b"sum": 3, b"avg": 4, b"pool": 3, b"worlds": 3, b"view": 3, b"grow": 3},
 }
 SKIPPED = [b"", b"\r", b"#", b"# insert\t1", b"#\xff\x00\r", b"#" + b"x" * 5000]
 HOSTILE = [
@@ -131,6 +132,7 @@ class Made:
         self.measures = [MadeMeasure(random, name) for name in names]
         self.ids = IDS[-random.choice([3, 6, 9]) :]
         self.views = random.sample(NAMES, random.choices([0, 1, 2, 4, 5], [20, 20, 10, 5, 1])[0])
+        self.names = random.sample(NAMES, len(self.trees))
         self.schema = self.schema_lines()
         self.script = [self.script_line() for _ in range(random.choice([0, 10, 20, 40]))]
 
@@ -138,7 +140,7 @@ class Made:
         has_numbers = self.random.random() < 0.3
         lines = [b"cube\t2" if has_numbers else b"cube\t1", b"policy\t" + self.policy()]
         lines += [measure.line() for measure in self.measures]
-        for name, tree in zip(self.random.sample(NAMES, len(self.trees)), self.trees):
+        for name, tree in zip(self.names, self.trees):
             lines += [b"dimension\t" + name, *tree.lines(self.random if has_numbers else None)]
         return [*lines, *map(self.view_line, self.views), b"end"]
 
@@ -175,6 +177,15 @@ class Made:
         names = right if right and self.random.random() < 0.9 else [m.name for m in self.measures] + NAMES
         return self.random.choice(names)
 
+    def growth(self):
+        """A dimension, a node of it, and a name, mostly a new one, which lines behind may ask for."""
+        place = self.random.randrange(len(self.trees))
+        tree = self.trees[place]
+        parent = tree.node(self.random)
+        name = self.random.choice(NAMES + [b"n%d" % k for k in range(6)])
+        tree.names.append(name)
+        return [self.names[place], parent, name]
+
     def fields(self):
         random = self.random
         word = random.choices(list(WORDS), [self.often(word) for word in WORDS])[0]
@@ -183,6 +194,8 @@ class Made:
         values = [measure.value() for measure in self.measures]
         if word in (b"count", b"terms", b"worlds"):
             return [word, *nodes]
+        if word == b"grow":
+            return [word, *self.growth()]
         if word == b"view":
             return [word, random.choice(self.views if self.views and random.random() < 0.9 else NAMES)]
         if word in (b"sum", b"avg", b"pool"):

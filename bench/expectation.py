@@ -19,17 +19,12 @@ import plain_model
 MOST_WORLDS = 2_000
 
 
-def facts_of(schema, script):
-    """The facts that a script leaves, of which it keeps the first few, so that the worlds can be listed."""
-    facts = []
-    for line in script:
-        try:
-            facts = plain_model.do_line(schema, facts, line)[1]
-        except plain_model.Refused:
-            pass
+def state_of(schema, script):
+    """The schema and the facts that a script leaves, of which it keeps the first few, so that the worlds can be listed."""
+    _, _, schema, facts = plain_model.do_lines(schema, [], script)
     while count_worlds(schema, facts) > MOST_WORLDS:
         facts = facts[:-1]
-    return facts
+    return schema, facts
 
 
 def count_worlds(schema, facts):
@@ -105,7 +100,7 @@ def main():
             schema, _ = plain_model.read_schema(made.schema)
         except plain_model.SchemaFault:
             continue
-        facts = facts_of(schema, made.script[:12])
+        schema, facts = state_of(schema, made.script[:12])
         if not holds(schema, facts):
             print(f"seed {seed} cube {number}: worlds and answers differ")
             return 1

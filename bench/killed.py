@@ -1,8 +1,8 @@
 #!/usr/bin/env python3
 """Kills runs over a store at random moments, and looks at what they leave: killed.py PROGRAM RUNS SEED
 
-Each run does a long script of edits over a fresh store and is killed without warning. Then `check` must say that the store is sound, and its
-facts must be those of a prefix of the script that holds all lines which were answered.
+Each run does a long script of edits and growths over a fresh store and is killed without warning. Then `check` must say that the store is
+sound, and its facts and nodes must be those of a prefix of the script that holds all lines which were answered.
 """
 import shutil
 import signal
@@ -26,22 +26,30 @@ def schema():
     return f"cube\t1\npolicy\tcount\nnumber\tCost\ndimension\tPlace\nnode\t0\tAll\nnode\t1\tTX\n{leaves}end\n".encode()
 
 
+def grown(random, names):
+    """A line by which a leaf is put under Texas or under one of its cities, and the names with it, by number."""
+    parent, name = names[random.randrange(1, NODES + 2)], f"part{len(names)}"
+    return f"grow\tPlace\t{parent}\t{name}\n", [*names, name]
+
+
 def script(random):
-    """Lines of edits, none of which is refused, with the facts after each: ids with their nodes and values."""
-    facts, lines, states = {}, [], [{}]
+    """Lines, none of which is refused, with what is kept after each: the facts' nodes and values by id, and how many nodes there are."""
+    names = ["All", "TX", *(f"city{k}" for k in range(NODES))]
+    facts, lines, states = {}, [], [({}, len(names))]
     for k in range(LINES):
-        free = k + 1
-        if facts and random.random() < 0.3:
+        kind = random.random()
+        if kind < 0.01:
+            line, names = grown(random, names)
+            lines.append(line)
+        elif facts and kind < 0.3:
             gone = random.choice(sorted(facts))
             del facts[gone]
             lines.append(f"withdraw\t{gone}\n")
         else:
-            place = random.choice([1, *(2 + random.randrange(NODES) for _ in range(9))])
-            cost = random.randrange(1000)
-            facts[free] = (place, cost)
-            name = "TX" if place == 1 else f"city{place - 2}"
-            lines.append(f"insert\t{free}\t{name}\t{cost}\n")
-        states.append(dict(facts))
+            place = random.choice([1, *(random.randrange(2, len(names)) for _ in range(9))])
+            facts[k + 1] = (place, random.randrange(1000))
+            lines.append(f"insert\t{k + 1}\t{names[place]}\t{facts[k + 1][1]}\n")
+        states.append((dict(facts), len(names)))
     return "".join(lines).encode(), states
 
 
@@ -59,11 +67,11 @@ def killed_run(program, folder, number, random):
     answered = out.read_bytes().count(b"\n")
     written, status, said = stores.call(program, ["check", path])
     stores.must((status, said), (0, b""), f"check after {answered} replies")
-    _, facts, _ = stores.tables(path)
-    found = {i: (nodes[0], cols[0]) for i, nodes, cols in facts}
+    text, facts, _ = stores.tables(path)
+    found = {i: (nodes[0], cols[0]) for i, nodes, cols in facts}, text.count(b"\nnode\t")
     done = next((n for n in range(answered, len(states)) if states[n] == found), None)
     if done is None:
-        raise stores.Wrong(f"run {number}: the facts are those of no prefix that holds the {answered} lines answered")
+        raise stores.Wrong(f"run {number}: facts and nodes are those of no prefix that holds the {answered} lines answered")
     return answered, done
 
 
@@ -83,7 +91,7 @@ def main():
     finally:
         shutil.rmtree(folder)
     whole = sum(done == LINES for _, done in ends)
-    print(f"{runs} runs killed, {whole} of them at their end; up to {max(d - a for a, d in ends)} edits were kept beyond the answered ones; all stores sound")
+    print(f"{runs} runs killed, {whole} of them at their end; up to {max(d - a for a, d in ends)} lines were kept beyond the answered ones; all stores sound")
     return 0
 
 

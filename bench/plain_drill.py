@@ -54,7 +54,7 @@ def drill(n):
     schema, facts, sizes, refusals = drill_schema(), [], [], 0
     for line in drill_lines(n):
         try:
-            reply, facts = do_line(schema, facts, line)
+            reply, schema, facts = do_line(schema, facts, line)
             sizes.append(int(reply.split()[1]))
         except Refused:
             refusals += 1

@@ -131,18 +131,24 @@ def value_in(text):
 
 
 class Dimension(NamedTuple):
-    """A tree. Nodes go by their places in the order of their lines, each parent before its children. The numbers that a
-    text of version 2 gives them are judged and then forgotten, since no reply depends on them."""
+    """A tree. Nodes go by their places in the order of their lines, each parent before its children. No reply depends on
+    their numbers: the text that is kept does, and the facts that are kept name them."""
 
     names: list  # of each node
     leaves_under: list  # of each node: the leaves that are it or lie below it, in order
     depths: list  # of each node
+    numbers: list  # of each node
 
 
 class Measure(NamedTuple):
     name: bytes
     scale: int | None  # of a distribution; None for whole numbers
-    columns: int  # how many values it has
+    outcomes: tuple = ()  # of a distribution
+
+    @property
+    def columns(self):
+        """How many values it has."""
+        return 1 if self.scale is None else len(self.outcomes)
 
 
 class View(NamedTuple):
@@ -151,6 +157,7 @@ class View(NamedTuple):
 
 
 class Schema(NamedTuple):
+    policy: list  # the fields of its line
     names: list  # of the dimensions
     weight: Callable  # what a cell weighs by its number of precise facts, and by the sum of the weight measure over them
     weight_measure: int | None  # its place among the measures
@@ -165,6 +172,7 @@ class Draft:
     def __init__(self):
         self.last_word = None
         self.has_numbers = False  # of its nodes, as in version 2
+        self.policy = None  # the fields of its line
         self.weight = None
         self.weight_name = None  # of the measure by which cells weigh
         self.measures = []
@@ -190,6 +198,7 @@ def read_version(draft, version):
 def read_policy(draft, policy, name=None):
     refuse_where(name is not None and not is_name(name), "name")
     refuse_where(policy not in POLICIES, "policy")
+    draft.policy = [b"policy", policy] + ([] if name is None else [name])
     draft.weight, draft.weight_name = POLICIES[policy], name
 
 
@@ -204,7 +213,7 @@ def is_wrong_measure(draft, name):
 def read_number(draft, name):
     refuse_where(is_wrong_measure(draft, name), "name")
     refuse_columns(draft, 1)
-    draft.measures.append(Measure(name, None, 1))
+    draft.measures.append(Measure(name, None))
 
 
 def read_parts(draft, name, scale_text, *outcomes):
@@ -213,7 +222,7 @@ def read_parts(draft, name, scale_text, *outcomes):
     scale = number_in(1, MAX_SCALE, scale_text)
     refuse_where(scale is None, "number")
     refuse_columns(draft, len(outcomes))
-    draft.measures.append(Measure(name, scale, len(outcomes)))
+    draft.measures.append(Measure(name, scale, outcomes))
 
 
 def read_dimension(draft, name):
@@ -314,16 +323,39 @@ def read_schema(lines):
             raise SchemaFault(place, refused.code) from None
         if draft.last_word == b"end":
             measure = weight_measure_of(draft)
-            schema = Schema(draft.dimensions, draft.weight, measure, draft.measures, dimensions_of(draft), draft.views)
+            dimensions = dimensions_of(draft)
+            schema = Schema(draft.policy, draft.dimensions, draft.weight, measure, draft.measures, dimensions, draft.views)
             return schema, lines[place:]
     raise SchemaFault(len(lines) + 1, "cut")
+
+
+def measure_fields(measure):
+    if measure.scale is None:
+        return [b"number", measure.name]
+    return [b"parts", measure.name, b"%d" % measure.scale, *measure.outcomes]
+
+
+def node_fields(dim, node, has_numbers):
+    fields = [b"node", b"%d" % dim.depths[node], dim.names[node]]
+    return fields + [b"%d" % dim.numbers[node]] if has_numbers else fields
+
+
+def schema_text(schema):
+    """The one text of a schema that is kept: of version 1 where the number of each node is its place."""
+    has_numbers = any(dim.numbers != list(range(len(dim.numbers))) for dim in schema.dimensions)
+    lines = [[b"cube", b"2" if has_numbers else b"1"], schema.policy, *map(measure_fields, schema.measures)]
+    for name, dim in zip(schema.names, schema.dimensions):
+        lines += [[b"dimension", name], *(node_fields(dim, node, has_numbers) for node in range(len(dim.names)))]
+    lines += [[b"view", view.name, *(b"%d" % depth for depth in view.depths)] for view in schema.views]
+    return b"".join(b"\t".join(line) + b"\n" for line in [*lines, [b"end"]])
 
 
 # Trees.
 
 
 def dimensions_of(draft):
-    return [Dimension(list(names), leaves_under(depths), depths) for names, depths in zip(draft.names, draft.depths)]
+    trees = zip(draft.names, draft.depths, draft.numbers)
+    return [Dimension(list(names), leaves_under(depths), depths, list(numbers)) for names, depths, numbers in trees]
 
 
 def parents_of(depths):
@@ -588,6 +620,56 @@ def edited(schema, facts, later):
     return reply_line(b"ok", len(refreshed(extended(schema, facts), after))), later
 
 
+def grown(schema, place, parent, name):
+    """The schema whose dimension of a place has a new leaf, the parent's last child, and where nodes stand then. Its
+    number is how many nodes there were."""
+    dim = schema.dimensions[place]
+    behind = [n for n in range(parent + 1, len(dim.depths)) if dim.depths[n] <= dim.depths[parent]]
+    at = behind[0] if behind else len(dim.depths)
+    depths = dim.depths[:at] + [dim.depths[parent] + 1] + dim.depths[at:]
+    names = dim.names[:at] + [name] + dim.names[at:]
+    numbers = dim.numbers[:at] + [len(dim.numbers)] + dim.numbers[at:]
+    later = Dimension(names, leaves_under(depths), depths, numbers)
+    dimensions = schema.dimensions[:place] + [later] + schema.dimensions[place + 1 :]
+    return schema._replace(dimensions=dimensions), lambda node: node + (node >= at)
+
+
+def cell_code(schema, cell):
+    """The place of a cell among all cells, the first dimension slowest."""
+    code = 0
+    for dim, leaf in zip(schema.dimensions, cell):
+        code = code * len(dim.leaves_under[0]) + dim.leaves_under[0].index(leaf)
+    return code
+
+
+def coded(schema, table):
+    """A table of facts by id, with the codes of their cells."""
+    return {fact.id: (a.denominator, [(cell_code(schema, c), w) for c, w in a.rows]) for fact, a in table}
+
+
+def do_grow(schema, facts, dimension, parent, name):
+    """A dimension gets a leaf. It is answered how many facts lie otherwise then, and the schema is another after it."""
+    refuse_where(dimension not in schema.names, "node")
+    place = schema.names.index(dimension)
+    dim = schema.dimensions[place]
+    refuse_where(parent not in dim.names, "node")
+    refuse_where(not is_name(name) or name in dim.names, "name")
+    node = dim.names.index(parent)
+    refuse_where(dim.depths[node] == MAX_DEPTH, "depth")
+    refuse_where(len(dim.names) == MAX_NODES, "limit")
+    later, moved_to = grown(schema, place, node, name)
+    refuse_where(prod(len(dim.leaves_under[0]) for dim in later.dimensions) >= MAX_PRODUCT, "cells")
+    refuse_where(prod(len(dim.names) for dim in later.dimensions) >= MAX_PRODUCT, "nodes")
+    there = [
+        f._replace(region=tuple(moved_to(n) if k == place else n for k, n in enumerate(f.region))) for f in facts
+    ]
+    refuse_where(any(cell_count(later, fact.region) > MAX_CELLS for fact in there), "region")
+    after = extended(later, there)
+    refuse_where(sum(len(allocation.rows) for _, allocation in after) > MAX_ROWS, "rows")
+    before, now = coded(schema, extended(schema, facts)), coded(later, after)
+    return reply_line(b"ok", sum(before[id] != lies for id, lies in now.items())), later, there
+
+
 def do_terms(schema, facts, *names):
     found = answer(schema, facts, read_region(schema, names))
     return reply_line(b"terms", len(found), *(number for term in found for number in term)), facts
@@ -701,28 +783,32 @@ COMMANDS = {
 
 
 def do_line(schema, facts, line):
-    """The reply to a line that is not refused, and the facts after it."""
+    """The reply to a line that is not refused, and the schema and the facts after it."""
     word, *fields = fields_of(line)
+    if word == b"grow":
+        refuse_where(len(fields) != 3, "fields")
+        return do_grow(schema, facts, *fields)
     refuse_where(word not in COMMANDS, "command")
     command, has_first, has_nodes, has_values = COMMANDS[word]
     count = has_first + has_nodes * len(schema.dimensions) + has_values * len(schema.measures)
     refuse_where(len(fields) != count, "fields")
-    return command(schema, facts, *fields)
+    reply, later = command(schema, facts, *fields)
+    return reply, schema, later
 
 
-def do_lines(schema, lines):
-    """The replies to the lines, done one after the other from no fact on, and how many were refused."""
-    facts, replies, refusals = [], [], 0
+def do_lines(schema, facts, lines):
+    """The replies to the lines, done one after the other, how many were refused, and the schema and the facts after them."""
+    replies, refusals = [], 0
     for line in lines:
         if is_skipped(line):
             continue
         try:
-            reply, facts = do_line(schema, facts, line)
+            reply, schema, facts = do_line(schema, facts, line)
         except Refused as refused:
             reply = reply_line(b"error", refused.code)
             refusals += 1
         replies.append(reply)
-    return b"".join(replies), refusals
+    return b"".join(replies), refusals, schema, facts
 
 
 # Files of facts. What a record is, Python's `csv` says.
@@ -813,7 +899,7 @@ def run(words, text):
         schema, script = read_schema(lines_of(text))
     except SchemaFault as fault:
         return b"", SCHEMA_REFUSED, f"cube: schema line {fault.line}: {fault.code}\n".encode()
-    replies, refusals = do_lines(schema, script)
+    replies, refusals, _, _ = do_lines(schema, [], script)
     return replies, FINISHED_WITH_REFUSALS if refusals else FINISHED, b""
 
 

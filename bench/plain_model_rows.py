@@ -127,6 +127,9 @@ node|2|LA|4
 end
 """)
 
+# Nodes of each depth.
+CHAIN = ["cube|1", "policy|uniform", "dimension|D", *(f"node|{k}|n{k}" for k in range(9)), "end"]
+
 # Four models in two cities, where a cell weighs as much as its facts say.
 SHARES = lines_in("""
 cube|1
@@ -399,6 +402,57 @@ SCRIPTS = [
         ("view|states", "view|2|TX|1|1|1|NV|1|1|1"),
     ]),
     ("the most cells of a region", GRID, [("insert|1|L|R", "error|region"), ("change|1|L|R", "error|missing")]),
+    ("dimensions that grow", CARS, [
+        *REPAIRS,
+        ("grow|Place|Houston|Galleria", "ok|0"),
+        ("grow|Place|Houston|Midtown", "ok|0"),
+        ("insert|5|Houston|Camry|70", "ok|1"),
+        ("rows|5", "rows|2|2|Galleria|Camry|1|Midtown|Camry|1"),
+        ("grow|Auto|Sedan|Accord", "ok|3"),
+        ("rows|4", "rows|3|2|Austin|Camry|2|Dallas|Camry|1"),
+    ]),
+    ("a precise fact lies in what grows under its leaf", CARS, [
+        ("insert|1|Houston|Camry|5", "ok|1"),
+        ("insert|2|TX|Camry|1", "ok|1"),
+        ("grow|Place|Houston|Galleria", "ok|0"),
+        ("rows|1", "rows|1|1|Galleria|Camry|1"),
+        ("grow|Place|Houston|Midtown", "ok|2"),
+        ("rows|1", "rows|2|2|Galleria|Camry|1|Midtown|Camry|1"),
+        ("rows|2", "rows|4|4|Austin|Camry|1|Dallas|Camry|1|Galleria|Camry|1|Midtown|Camry|1"),
+    ]),
+    ("a fact is weighed by what no leaf has any more", BY_REPAIRS, [
+        ("insert|1|Austin|Camry|3", "ok|1"),
+        ("insert|2|Dallas|Camry|1", "ok|1"),
+        ("insert|3|TX|Camry|8", "ok|1"),
+        ("rows|3", "rows|4|2|Austin|Camry|3|Dallas|Camry|1"),
+        ("grow|Place|Austin|North", "ok|0"),
+        ("rows|3", "rows|4|2|North|Camry|3|Dallas|Camry|1"),
+        ("grow|Place|Austin|South", "ok|3"),
+        ("rows|3", "rows|1|1|Dallas|Camry|1"),
+        ("sum|Repair|South|Camry", "sum|1.500000000|1.500000000|3/2"),
+    ]),
+    ("growths that are refused", CARS, [
+        ("grow|City|TX|x", "error|node"),
+        ("grow|Place|Waco|x", "error|node"),
+        ("grow|Place|TX|LA", "error|name"),
+        ("grow|Place|TX|", "error|name"),
+        ("grow|Place|TX|" + "x" * 129, "error|name"),
+        ("grow|Place|TX", "error|fields"),
+        ("grow|Place|TX|x|y", "error|fields"),
+        ("grow|City|TX|", "error|node"),
+        ("grow|Place|Waco|LA", "error|node"),
+        ("grow|Auto|TX|LA", "error|node"),
+        ("Grow|Place|TX|x", "error|command"),
+        ("grow|Place|TX|Camry", "ok|0"),
+        ("grow|Place|TX|Camry", "error|name"),
+    ]),
+    ("a name is judged before the depth", CHAIN, [
+        ("grow|D|n8|x", "error|depth"),
+        ("grow|D|n8|n0", "error|name"),
+        ("grow|D|n9|n0", "error|node"),
+        ("grow|D|n7|x", "ok|0"),
+        ("grow|D|x|y", "error|depth"),
+    ]),
 ]
 
 SLOW_SCRIPTS = [
@@ -430,7 +484,7 @@ SLOW_SCRIPTS = [
 ]
 
 # With these limits the order of the refusals that large inputs alone meet is seen on small ones.
-SMALL_LIMITS = {"MAX_CELLS": 5, "MAX_FACTS": 3, "MAX_ROWS": 6}
+SMALL_LIMITS = {"MAX_CELLS": 5, "MAX_FACTS": 3, "MAX_ROWS": 6, "MAX_NODES": 11, "MAX_PRODUCT": 90}
 
 LIMITED_SCRIPTS = [
     ("limits in their order", CARS, [
@@ -450,6 +504,55 @@ LIMITED_SCRIPTS = [
         ("withdraw|3", "ok|2"),
         ("insert|3|LA|F150|0", "error|rows"),
     ]),
+    ("limits of growths in their order", CARS, [
+        ("insert|1|TX|Camry|0", "ok|1"),
+        ("insert|2|TX|Camry|0", "ok|1"),
+        ("grow|Place|TX|Waco", "error|rows"),
+        ("withdraw|2", "ok|0"),
+        ("grow|Place|TX|Waco", "ok|1"),
+        ("grow|Place|TX|Marfa", "ok|1"),
+        ("insert|2|LA|Camry|0", "ok|1"),
+        # Six cells, and seven rows.
+        ("grow|Place|TX|Alpine", "error|region"),
+        ("grow|Auto|Camry|Hybrid", "ok|0"),
+        # Ten nodes by nine, and ten cells.
+        ("grow|Auto|Camry|Diesel", "error|nodes"),
+        ("grow|Place|CA|SJ", "ok|0"),
+        # Twelve nodes, and by eight 96.
+        ("grow|Place|CA|Reno", "error|limit"),
+        ("rows|1", "rows|5|5|Austin|Hybrid|1|Dallas|Hybrid|1|Houston|Hybrid|1|Waco|Hybrid|1|Marfa|Hybrid|1"),
+    ]),
+    ("the depth is judged before the limit", CHAIN, [
+        ("grow|D|n7|x", "ok|0"),
+        ("grow|D|n7|y", "ok|0"),
+        ("grow|D|n8|z", "error|depth"),
+        ("grow|D|n7|z", "error|limit"),
+    ]),
+]
+
+# A schema, growths, and the text that is kept then.
+KEPT_TEXTS = [
+    (ONE_CITY, [], ONE_CITY),
+    (ONE_CITY, ["grow|Place|TX|Houston"], [*ONE_CITY[:-1], "node|2|Houston", "end"]),
+    (ONE_CITY, ["grow|Place|NV|Elko", "grow|Place|Elko|South"], lines_in("""
+cube|2
+policy|count
+dimension|Place
+node|0|All|0
+node|1|NV|1
+node|2|Reno|2
+node|2|Elko|6
+node|3|South|7
+node|1|TX|3
+node|2|Austin|4
+node|2|Dallas|5
+end
+""")),
+    (NUMBERED, ["grow|Place|CA|SF"], [*NUMBERED[:-1], "node|2|SF|6", "end"]),
+    (["cube|2", *CARS[1:4], *(f"{line}|{k}" for k, line in enumerate(CARS[4:12])), CARS[12],
+      *(f"{line}|{k}" for k, line in enumerate(CARS[13:20])), *CARS[20:]], [], CARS),
+    (QUALITY, [], QUALITY),
+    (BY_REPAIRS, [], BY_REPAIRS),
 ]
 
 # The cars with another line in the place of one, the line that is then at fault, and its code.
@@ -629,11 +732,22 @@ def holds(example):
     return found == example.ends
 
 
+def keeps_text(schema, growths, text):
+    """Whether the model keeps this text of a schema after growths. Where it does not, both are printed."""
+    first, _ = plain_model.read_schema(plain_model.lines_of(encoded(schema)))
+    _, _, last, _ = plain_model.do_lines(first, [], plain_model.lines_of(encoded(growths)))
+    found = plain_model.schema_text(last)
+    if found != encoded(text):
+        print(f"the model keeps\n{found}\nand the example\n{encoded(text)}")
+    return found == encoded(text)
+
+
 def main():
     chosen = examples() + (slow_examples() if sys.argv[1:] == ["slow"] else [])
     held = [holds(example) for example in chosen]
     with patch.multiple(plain_model, **SMALL_LIMITS):
         held += [holds(example) for example in limited_examples()]
+    held += [keeps_text(*row) for row in KEPT_TEXTS]
     print(f"{len(held)} examples, {held.count(False)} wrong")
     return 0 if all(held) else 1
 

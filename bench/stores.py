@@ -1,9 +1,10 @@
 #!/usr/bin/env python3
 """Stores in files, through the built program and through stock SQLite: stores.py PROGRAM CASES SEED
 
-Random scripts are done over a store in pieces, each by a call of its own, and compared with the plain model: the replies, the status, the
-answer of `check`, and what another reader finds in the tables. Then stores are made by hand through SQLite and read by the program, and
-damaged ones, files that are none, and files that cannot be read or written are refused. The status is 1 at the first difference.
+Stores are made by hand through SQLite, and read and grown by the program; damaged ones, files that are none, and files that cannot be read
+or written are refused. Then random scripts are done over a store in pieces, each by a call of its own, one of which ends behind each growth,
+and compared with the plain model: the replies, the status, and after each piece the answer of `check` and what another reader finds in the
+tables, the text of the schema too. The status is 1 at the first difference.
 """
 import os
 import sqlite3
@@ -11,6 +12,7 @@ import struct
 import subprocess
 import sys
 import tempfile
+from itertools import pairwise
 from pathlib import Path
 from random import Random
 
@@ -58,42 +60,38 @@ def tables(path):
     return text, facts, rows
 
 
-def cell_code(schema, cell):
-    """The number of a cell: the places of its leaves among the leaves of each dimension, the first dimension slowest."""
-    code = 0
-    for dim, node in zip(schema.dimensions, cell):
-        leaves = dim.leaves_under[0]
-        code = code * len(leaves) + leaves.index(node)
-    return code
+def numbers_of(schema, region):
+    """The numbers of a region's nodes, which the model knows by their places."""
+    return [dim.numbers[node] for dim, node in zip(schema.dimensions, region)]
 
 
 def wanted_tables(schema, facts):
-    """The facts and rows that a store is to hold, for a schema of version 1."""
+    """The text, the facts and the rows that a store is to hold."""
     facts = sorted(facts, key=lambda fact: fact.id)
-    kept = [(f.id, list(f.region), [value for values in f.values for value in values]) for f in facts]
+    kept = [(f.id, numbers_of(schema, f.region), [value for values in f.values for value in values]) for f in facts]
     rows = [
-        (fact.id, lies.denominator, sorted((cell_code(schema, cell), weight) for cell, weight in lies.rows))
+        (fact.id, lies.denominator, sorted((plain_model.cell_code(schema, cell), weight) for cell, weight in lies.rows))
         for fact, lies in plain_model.extended(schema, facts)
     ]
-    return kept, rows
+    return plain_model.schema_text(schema), kept, rows
+
+
+def must_hold(program, path, schema, facts, when):
+    """What `check` says of a store, and what its tables are."""
+    text, kept, rows = wanted_tables(schema, facts)
+    count = sum(len(r) for _, _, r in rows)
+    must(call(program, ["check", path]), (b"sound\t%d\t%d\n" % (len(kept), count), 0, b""), f"check after {when}")
+    found_text, found, found_rows = tables(path)
+    must(found_text, text, f"text of the schema after {when}")
+    must(found, kept, f"facts of the tables after {when}")
+    must(found_rows, rows, f"rows of the tables after {when}")
 
 
 # Random scripts in pieces.
 
 
-def done_in_model(schema, facts, lines):
-    """The replies to lines over facts, how many were refused, and the facts after them."""
-    replies, refusals = [], 0
-    for line in lines:
-        if plain_model.is_skipped(line):
-            continue
-        try:
-            reply, facts = plain_model.do_line(schema, facts, line)
-        except plain_model.Refused as refused:
-            reply = plain_model.reply_line(b"error", refused.code)
-            refusals += 1
-        replies.append(reply)
-    return b"".join(replies), refusals, facts
+def places_behind_growths(script):
+    return {place for place, line in enumerate(script, 1) if line.startswith(b"grow\t")}
 
 
 def compare_case(program, folder, seed, number):
@@ -115,19 +113,13 @@ def compare_case(program, folder, seed, number):
     must(call(program, ["init", str(path)], head), (b"ok\t0\n", 0, b""), "init")
     must(call(program, ["init", str(path)], head), (b"", 4, b"cube: cube exists\n"), "second init")
     facts = []
-    cuts = sorted(random.randint(0, len(script)) for _ in range(random.randint(0, 3)))
-    for start, end in zip([0, *cuts], [*cuts, len(script)]):
+    must_hold(program, str(path), schema, facts, "init")
+    cuts = {random.randint(0, len(script)) for _ in range(random.randint(0, 3))} | places_behind_growths(script)
+    for start, end in pairwise(sorted(cuts | {0, len(script)})):
         piece = script[start:end]
-        replies, refusals, facts = done_in_model(schema, facts, piece)
+        replies, refusals, schema, facts = plain_model.do_lines(schema, facts, piece)
         must(call(program, ["run", str(path)], b"".join(line + b"\n" for line in piece)), (replies, 1 if refusals else 0, b""), f"lines {start} to {end}")
-    kept, rows = wanted_tables(schema, facts)
-    count = sum(len(r) for _, _, r in rows)
-    must(call(program, ["check", str(path)]), (f"sound\t{len(kept)}\t{count}\n".encode(), 0, b""), "check")
-    version = next(line for line in lines if not plain_model.is_skipped(line))
-    if plain_model.fields_of(version)[1] == b"1":
-        _, found, found_rows = tables(path)
-        must(found, kept, "facts of the tables")
-        must(found_rows, rows, "rows of the tables")
+        must_hold(program, str(path), schema, facts, f"lines {start} to {end}")
     os.remove(path)
 
 
@@ -198,6 +190,42 @@ def compare_hand_made(program, folder):
             must(call(program, ["run", path], b"withdraw\t1\n"), wanted, f"run over {name}")
             must(tables_alone(path), tables_alone_of(before, folder), f"tables of {name} afterwards")
     print(f"{len(cases)} stores by hand alike")
+
+
+# What a growth keeps of the store by hand, over a text that is not as the program writes it: a leaf behind all others, one between, two
+# under a leaf that facts are in, and one that is refused.
+GROWTHS = [
+    (b"grow\tPlace\tTX\tWaco\n", b"ok\t0\n", 0, SCHEMA.replace(b"end\n", b"node\t2\tWaco\nend\n"), ROWS),
+    (
+        b"grow\tPlace\tAustin\tNorth\n",
+        b"ok\t0\n",
+        0,
+        b"cube\t2\npolicy\tcount\nnumber\tRepair\ndimension\tPlace\nnode\t0\tAll\t0\nnode\t1\tTX\t1\nnode\t2\tAustin\t2\nnode\t3\tNorth\t5\n"
+        b"node\t2\tDallas\t3\nnode\t2\tHouston\t4\nend\n",
+        ROWS,
+    ),
+    (
+        b"grow\tPlace\tAustin\tNorth\ngrow\tPlace\tAustin\tSouth\n",
+        b"ok\t0\nok\t4\n",
+        0,
+        b"cube\t2\npolicy\tcount\nnumber\tRepair\ndimension\tPlace\nnode\t0\tAll\t0\nnode\t1\tTX\t1\nnode\t2\tAustin\t2\nnode\t3\tNorth\t5\n"
+        b"node\t3\tSouth\t6\nnode\t2\tDallas\t3\nnode\t2\tHouston\t4\nend\n",
+        [(1, 2, [(0, 1), (1, 1)]), (2, 2, [(0, 1), (1, 1)]), (3, 1, [(2, 1)]), (4, 1, [(2, 1)])],
+    ),
+    (b"grow\tPlace\tTX\tDallas\n", b"error\tname\n", 1, b"# made by hand\n" + SCHEMA, ROWS),
+]
+
+
+def compare_grown(program, folder):
+    """Stores that SQLite wrote, and the program grows: no fact changes."""
+    for number, (lines, replies, status, text, rows) in enumerate(GROWTHS):
+        path = str(Path(folder) / f"grown {number}.cube")
+        hand_made(path, schema=b"# made by hand\n" + SCHEMA)
+        must(call(program, ["run", path], lines), (replies, status, b""), f"growth {number}")
+        must(tables(path), (text, FACTS, rows), f"tables after growth {number}")
+        count = sum(len(r) for _, _, r in rows)
+        must(call(program, ["check", path]), (b"sound\t4\t%d\n" % count, 0, b""), f"check after growth {number}")
+    print(f"{len(GROWTHS)} grown stores alike")
 
 
 def tables_alone(path):
@@ -307,6 +335,7 @@ def main():
     with tempfile.TemporaryDirectory() as folder:
         try:
             compare_hand_made(program, folder)
+            compare_grown(program, folder)
             compare_damaged(program, folder)
             compare_full(program, folder)
             compare_cases(program, folder, cases, seed)
