@@ -1,17 +1,82 @@
--- The first field of a line, and how many there are.
-use Rattle.std.proofs.Common.{◌≡◌, ◌≢◌, ℕ, ◌<◌, List, [], ◌∷◌, ◌++◌, length, get_or, Option, Some, None, MatchOption, lit<}
-use Rattle.std.specs.Borrow.{Bor}
-use Rattle.std.proofs.lemmas.List.Elements.{All-from_get_or}
-use Rattle.std.proofs.lemmas.Str.Pattern.{IsSplitOnceResult, split_parts}
+-- The first field of a line ends at the first TAB, or with the line, and the others stand behind that TAB.
+use Rattle.std.proofs.Common.{◌≡◌, ℕ, suc, ◌+◌, ◌<◌, ◌≤◌, ◌==◌, Bool, true, false, not, cond, ltb, List, [], ◌∷◌, length, take, drop, get_or, slice_range, Option, Some, None, IfSome, inl, inr, refl, sym, subst, ap, ap₂, ◌∙◌, arith}
+use Rattle.std.specs.Str.{IsCharBoundary, IsUtf8}
+use Rattle.std.proofs.lemmas.Bool.{cases_lt, cond-true, cond-false}
+use Rattle.std.proofs.lemmas.Bool.Decides.{nat_tests}
+use Rattle.std.proofs.lemmas.List.{drop-drop, get_or-drop, length-drop}
+use Rattle.std.proofs.lemmas.List.Sums.{prefix_len_stops}
+use Rattle.std.proofs.lemmas.Str.{IsCharBoundary-after_ascii, IsCharBoundary-before_ascii, IsCharBoundary-end}
+use Rattle.text_lines.specs.FieldsLeft.{fields_from}
+use Rattle.std.specs.List.{onto_first, prefix_len}
 use Rattle.text_lines.specs.Text.{fields_of}
-use Rattle.text_lines.proofs.Cuts.{fields_of-cut, fields_of-none}
 
--- a cut at the first TAB gives the first field, and the others are those of the rest
-pub fields_of-split_once : (line : List ℕ) (cut : Option (Bor (List ℕ) × Bor (List ℕ))) → IsSplitOnceResult 9 line cut
-    → MatchOption cut (fields_of line ≡ line ∷ []) (λ x. fields_of line ≡ x.0.now ∷ fields_of x.1.now)
-fields_of-split_once line None cut =
-    let none : (i : ℕ) → i < length line → get_or line i 0 ≢ 9 = split_parts 9 line None cut (lit< tt) in
-    fields_of-none line (All-from_get_or (λ b. b ≢ 9) line 0 none)
-fields_of-split_once line (Some x) cut =
-    let parts : (line ≡ x.0.now ++ 9 ∷ x.1.now) × ((i : ℕ) → i < length x.0.now → get_or x.0.now i 0 ≢ 9) = split_parts 9 line (Some x) cut (lit< tt) in
-    fields_of-cut line x.0.now x.1.now parts.0 (All-from_get_or (λ b. b ≢ 9) x.0.now 0 parts.1)
+-- how many bytes stand before the first TAB
+abbrev pub field_len : List ℕ → ℕ
+field_len line = prefix_len (λ b. not (b == 9)) line
+
+-- the fields behind the first
+abbrev pub fields_behind : List ℕ → List (List ℕ)
+fields_behind line = cond (ltb (field_len line) (length line)) (fields_of (drop (suc (field_len line)) line)) []
+
+first_of : (tab : Bool) (b : ℕ) (line : List ℕ) → fields_of line ≡ take (field_len line) line ∷ fields_behind line
+    → let n = cond (not tab) (1 + field_len line) 0 in
+    cond tab ([] ∷ fields_of line) (onto_first b (fields_of line)) ≡ take n (b ∷ line) ∷ cond (ltb n (suc (length line))) (fields_of (drop (suc n) (b ∷ line))) []
+first_of true b line is = ap (λ rest. [] ∷ rest) (sym (cond-true (ltb 0 (suc (length line))) (fields_of line) [] (grind (arith, nat_tests))))
+first_of false b line is =
+    let one : 1 + field_len line ≡ suc (field_len line) = omega arith in
+    let fewer : ltb (1 + field_len line) (suc (length line)) ≡ ltb (field_len line) (length line) = grind (arith, nat_tests) in
+    ap (onto_first b) is ∙ sym (ap₂ (λ field rest. field ∷ rest) (ap (λ n. take n (b ∷ line)) one) (ap₂ (λ more n. cond more (fields_of (drop n line)) []) fewer one))
+
+fields_of-first : (line : List ℕ) → fields_of line ≡ take (field_len line) line ∷ fields_behind line
+fields_of-first [] = refl
+fields_of-first (b ∷ line) = first_of (b == 9) b line (fields_of-first line)
+
+-- a byte that is no other than a TAB
+is_tab : (b : ℕ) → not (b == 9) ≡ false → b ≡ 9
+is_tab b is = grind (arith, nat_tests)
+
+-- a field from the place i to the place end, in the whole line
+module _ (line bytes : List ℕ) (next : Option ℕ) (i end : ℕ) (boundary : IfSome next (IsCharBoundary line)) (first : next ≡ Some i) (same : bytes ≡ line)
+    (place : end ≡ i + field_len (drop i bytes)) (inside : end ≤ length bytes) where
+  start : IsCharBoundary line i
+  start = subst (λ next. IfSome next (IsCharBoundary line)) first boundary
+
+  ends : end ≡ i + field_len (drop i line)
+  ends = subst (λ line. end ≡ i + field_len (drop i line)) same place
+
+  within : end ≤ length line
+  within = subst (λ line. end ≤ length line) same inside
+
+  tab : end < length line → get_or line end 0 ≡ 9
+  tab more =
+      ap (λ k. get_or line k 0) ends ∙ sym (get_or-drop i line (field_len (drop i line)) 0)
+      ∙ is_tab _ (prefix_len_stops (λ b. not (b == 9)) (drop i line) 0 (omega (arith, length-drop i line, ends)))
+
+  pub field_end-boundary : IsCharBoundary line end
+  field_end-boundary =
+      elim (cases_lt end (length line)) [
+        | inr done ↦ subst (IsCharBoundary line) (omega (arith, within)) (IsCharBoundary-end line)
+        | inl more ↦ IsCharBoundary-before_ascii line end more (omega (arith, tab more))
+      ]
+
+  pub next-boundary : IsUtf8 line → IfSome (cond (ltb end (length line)) (Some (end + 1)) None) (IsCharBoundary line)
+  next-boundary utf8 = by (ltb end (length line)) refl
+    where
+      by : (more : Bool) → ltb end (length line) ≡ more → IfSome (cond more (Some (end + 1)) None) (IsCharBoundary line)
+      by true is = let more : end < length line = grind (arith, nat_tests) in IsCharBoundary-after_ascii line end utf8 more (omega (arith, tab more))
+      by false is = tt
+
+  pub fields_from-first : fields_of (drop i line) ≡ slice_range line i end ∷ fields_from (cond (ltb end (length line)) (Some (end + 1)) None) line
+  fields_from-first =
+      let n = field_len (drop i line) in
+      fields_of-first (drop i line)
+      ∙ ap₂ (λ field rest. field ∷ rest) (ap (λ k. take k (drop i line)) (omega (arith, ends)))
+      (by (ltb end (length line)) (ltb-same) (drop-drop (suc n) i line ∙ ap (λ k. drop k line) (omega (arith, ends))))
+    where
+      ltb-same : ltb (field_len (drop i line)) (length (drop i line)) ≡ ltb end (length line)
+      ltb-same = grind (arith, nat_tests, ends, length-drop i line, start.0)
+
+      by : (more : Bool) → ltb (field_len (drop i line)) (length (drop i line)) ≡ more → drop (suc (field_len (drop i line))) (drop i line) ≡ drop (end + 1) line
+          → fields_behind (drop i line) ≡ fields_from (cond more (Some (end + 1)) None) line
+      by true is rest = cond-true _ _ _ is ∙ ap fields_of rest
+      by false is rest = cond-false _ _ _ is

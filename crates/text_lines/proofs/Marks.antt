@@ -1,15 +1,16 @@
 -- What the marks of a block say of its bytes, and what blocks say of all bytes.
-use Rattle.std.proofs.Common.{◌≡◌, ℕ, zero, suc, ◌+◌, ◌-◌, ◌*◌, ◌/◌, ◌%◌, ◌^◌, ◌≤◌, Bool, true, false, not, ◌&&◌, ◌||◌, cond, eqb, ltb, List, [], ◌∷◌, ◌++◌, map, length, replicate, take, drop, refl, ap, ap₂, sym, ◌∙◌, arith}
-use Rattle.std.specs.List.{list_all, count_by}
+use Rattle.std.proofs.Common.{◌≡◌, ◌≢◌, ℕ, zero, suc, ◌+◌, ◌-◌, ◌*◌, ◌/◌, ◌%◌, ◌^◌, ◌≤◌, Bool, true, false, not, ◌&&◌, ◌||◌, cond, eqb, ltb, List, [], ◌∷◌, ◌++◌, map, length, replicate, take, drop, refl, ap, ap₂, sym, ◌∙◌, arith}
+use Rattle.std.specs.List.{list_all, count_by, prefix_len}
 use Rattle.std.proofs.Math.Nat.{div-one, div-div-eq-div-mul, pow-succ'}
-use Rattle.std.proofs.lemmas.Bool.{and_parts}
+use Rattle.std.proofs.lemmas.Bool.{and_parts, cond-true, cond-false, eq-eqb, ne_eqb}
 use Rattle.std.proofs.lemmas.Bool.Decides.{nat_tests}
 use Rattle.std.proofs.lemmas.List.{length-append, length-replicate, drop-drop, drop-map, length-drop, length-map, take-append-drop, take-take, take_all}
-use Rattle.std.proofs.lemmas.List.Folds.{list_all-append}
-use Rattle.std.proofs.lemmas.List.Sums.{sum_by-append}
+use Rattle.std.proofs.lemmas.List.Folds.{list_all-append, prefix_len-append}
+use Rattle.std.proofs.lemmas.List.Sums.{prefix_len-le-length, sum_by-append}
 use Rattle.std.proofs.Math.Seq.{take-add}
-use Rattle.std.proofs.lemmas.Simd.{mask_l-mod, ones-mask_l}
+use Rattle.std.proofs.lemmas.Simd.{chunk-drop, leading_from_mask_l, length-chunk, mask_l-mod, ones-mask_l, trailing_mask_l}
 use lib.Bits.{bit_and, bit_or}
+use lib.Count.{count_trailing_zeros}
 use lib.Lanes.{mask_l, top, chunk}
 use Rattle.std.specs.Int.RustNames.{count_ones}
 use Rattle.text_lines.specs.LineText.{is_plain}
@@ -72,14 +73,58 @@ plain-from_lanes v lanes short is =
     ∙ ap (λ n. eqb n 0) (mask_l-mod (map (λ x. not (is_plain x)) v) 64 (omega (arith, length-map v (λ x. not (is_plain x)))))
     ∙ list_all-from_marks is_plain v
 
--- the marks of the last block that are left by a shift count the bytes from a place on
+-- the marks of the last block that are left by a shift are those of the bytes from a place on
+mask_l-behind : (p : ℕ → Bool) (xs : List ℕ) (last k at : ℕ) → length xs ≤ last + 16 → last + k ≡ at
+    → mask_l (map p (chunk last 16 xs)) / 2 ^ k ≡ mask_l (map p (drop at xs))
+mask_l-behind p xs last k at rest place =
+    mask_l-drop (map p (chunk last 16 xs)) k ∙ ap mask_l (drop-map p k (chunk last 16 xs))
+    ∙ ap (λ l. mask_l (map p (drop k l))) (take_all 16 (drop last xs) (omega (arith, length-drop last xs)))
+    ∙ ap (λ l. mask_l (map p l)) (drop-drop k last xs ∙ ap (λ n. drop n xs) place)
+
+-- so they count these
 pub count_by-behind : (p : ℕ → Bool) (xs : List ℕ) (last k at : ℕ) → length xs ≤ last + 16 → last + k ≡ at
     → count_ones (mask_l (map p (chunk last 16 xs)) / 2 ^ k) ≡ count_by p (drop at xs)
-count_by-behind p xs last k at rest place =
-    ap count_ones (mask_l-drop (map p (chunk last 16 xs)) k ∙ ap mask_l (drop-map p k (chunk last 16 xs)))
-    ∙ ones-mask_l p (drop k (chunk last 16 xs))
-    ∙ ap (λ l. count_by p (drop k l)) (take_all 16 (drop last xs) (omega (arith, length-drop last xs)))
-    ∙ ap (count_by p) (drop-drop k last xs ∙ ap (λ n. drop n xs) place)
+count_by-behind p xs last k at rest place = ap count_ones (mask_l-behind p xs last k at rest place) ∙ ones-mask_l p (drop at xs)
+
+-- and tell where the first is
+pub place-unmarked : (p : ℕ → Bool) (xs : List ℕ) (last k at : ℕ) → length xs ≤ last + 16 → last + k ≡ at → at ≤ length xs
+    → mask_l (map p (chunk last 16 xs)) / 2 ^ k ≡ 0 → length xs ≡ at + prefix_len (λ x. not (p x)) (drop at xs)
+place-unmarked p xs last k at rest place within none =
+    omega (arith, leading_from_mask_l p (drop at xs) (sym (mask_l-behind p xs last k at rest place) ∙ none), length-drop at xs)
+
+pub place-marked : (p : ℕ → Bool) (xs : List ℕ) (last k at : ℕ) → length xs ≤ last + 16 → last + k ≡ at → (mask_l (map p (chunk last 16 xs)) / 2 ^ k ≢ 0)
+    → count_trailing_zeros 64 (mask_l (map p (chunk last 16 xs)) / 2 ^ k) ≡ prefix_len (λ x. not (p x)) (drop at xs)
+place-marked p xs last k at rest place some =
+    let marks = mask_l-behind p xs last k at rest place in
+    ap (count_trailing_zeros 64) marks ∙ trailing_mask_l p 64 (drop at xs) (omega (arith, length-drop at xs)) (omega (arith, marks, some))
+
+-- where all bytes come before the first that has a mark, none has one
+no_mark : (m : Bool) (n l k : ℕ) → n ≤ l → cond (not m) (1 + n) 0 ≡ 1 + l → (n ≡ l → k ≡ 0) → cond m 1 0 + 2 * k ≡ 0
+no_mark true n l k within all rest = absurd (omega (arith, all))
+no_mark false n l k within all rest = omega (arith, rest (omega (arith, all)))
+
+no_marks : (p : ℕ → Bool) (xs : List ℕ) → prefix_len (λ x. not (p x)) xs ≡ length xs → mask_l (map p xs) ≡ 0
+no_marks p [] all = refl
+no_marks p (x ∷ xs) all = no_mark (p x) _ (length xs) _ (prefix_len-le-length (λ y. not (p y)) xs) (omega (arith, all)) (no_marks p xs)
+
+-- the first of the bytes from a place on is in the block there, or it is the first behind it
+prefix_len-block : (p : ℕ → Bool) (xs : List ℕ) (at : ℕ)
+    → prefix_len p (drop at xs) ≡ cond (eqb (prefix_len p (chunk at 16 xs)) (length (chunk at 16 xs))) (length (chunk at 16 xs) + prefix_len p (drop (at + 16) xs)) (prefix_len p (chunk at 16 xs))
+prefix_len-block p xs at = ap (prefix_len p) (chunk-drop at 16 xs) ∙ prefix_len-append p (chunk at 16 xs) (drop (at + 16) xs)
+
+pub place-next : (p : ℕ → Bool) (xs : List ℕ) (at : ℕ) → at + 16 ≤ length xs → mask_l (map p (chunk at 16 xs)) ≡ 0
+    → prefix_len (λ x. not (p x)) (drop at xs) ≡ 16 + prefix_len (λ x. not (p x)) (drop (at + 16) xs)
+place-next p xs at room none =
+    let q : ℕ → Bool = λ x. not (p x) in
+    prefix_len-block q xs at ∙ cond-true _ _ _ (eq-eqb _ _ (leading_from_mask_l p (chunk at 16 xs) none))
+    ∙ ap (λ n. n + prefix_len q (drop (at + 16) xs)) (length-chunk at 16 xs room)
+
+pub place-here : (p : ℕ → Bool) (xs : List ℕ) (at : ℕ) → at + 16 ≤ length xs → mask_l (map p (chunk at 16 xs)) ≢ 0
+    → count_trailing_zeros 64 (mask_l (map p (chunk at 16 xs))) ≡ prefix_len (λ x. not (p x)) (drop at xs)
+place-here p xs at room some =
+    let q : ℕ → Bool = λ x. not (p x) in
+    trailing_mask_l p 64 (chunk at 16 xs) (omega (arith, length-chunk at 16 xs room)) (omega (arith, some))
+    ∙ sym (prefix_len-block q xs at ∙ cond-false _ _ _ (ne_eqb _ _ (λ all. some (no_marks p (chunk at 16 xs) all))))
 
 -- the bytes before a place and the block at it
 pub count_by-marks : (p : ℕ → Bool) (xs : List ℕ) (at count marks : ℕ) → count ≡ count_by p (take at xs) → marks ≡ mask_l (map p (chunk at 16 xs))
@@ -107,6 +152,14 @@ list_all-rest p xs last at before rest all =
 pub list_all-refused : (p : ℕ → Bool) (xs : List ℕ) (at : ℕ) → list_all p (chunk at 16 xs) ≡ false → list_all p xs ≡ false
 list_all-refused p xs at refused =
     grind (arith, nat_tests, refused, list_all-split p xs (at + 16), list_all-block p xs at)
+
+-- behind the spaces that fill a block stand its bytes
+drop-spaces : (gap : ℕ) (xs : List ℕ) → drop gap (replicate gap 32 ++ xs) ≡ xs
+drop-spaces zero xs = refl
+drop-spaces (suc gap) xs = drop-spaces gap xs
+
+pub drop-filled : (gap from : ℕ) (xs : List ℕ) → drop (gap + from) (replicate gap 32 ++ xs) ≡ drop from xs
+drop-filled gap from xs = sym (drop-drop from gap (replicate gap 32 ++ xs)) ∙ ap (drop from) (drop-spaces gap xs)
 
 behind_spaces : (n : ℕ) (xs : List ℕ) → list_all is_plain (replicate n 32 ++ xs) ≡ list_all is_plain xs
 behind_spaces zero xs = refl

@@ -1,7 +1,7 @@
 //! Tests of all bytes of a text, 16 at a time. Most lines are two to four such blocks.
-ghost use Rattle.std.specs.Prelude.{◌≡◌, ◌==◌, ◌+◌, ◌-◌, ◌≤◌, ◌++◌, count_by, drop, length, map, replicate};
+ghost use Rattle.std.specs.Prelude.{◌≡◌, ◌==◌, ◌+◌, ◌-◌, ◌≤◌, ◌++◌, count_by, drop, length, map, not, replicate};
 ghost use Rattle.std.specs.Simd.Lanes.{chunk, mask_l};
-ghost use Rattle.std.specs.List.{list_all};
+ghost use Rattle.std.specs.List.{list_all, prefix_len};
 ghost use Rattle.text_lines.specs.LineText.{is_plain};
 
 use std::simd::prelude::*;
@@ -25,6 +25,45 @@ pub(crate) fn count_of(bytes: &[u8], byte: u8) -> usize
         at += BLOCK;
     }
     count + count_behind(bytes, at, byte)
+}
+
+/// The place of the first byte of this value, of those from a place on: the end of the text where none has it.
+pub(crate) fn place_of(bytes: &[u8], from: usize, byte: u8) -> usize
+    requires { from ≤ length bytes.now }
+    ensures place { result ≡ from + prefix_len (λ b. not (b == byte)) (drop from bytes.now) }
+    ensures within { result ≤ length bytes.now }
+{
+    if bytes.len() < BLOCK {
+        let gap = BLOCK - bytes.len();
+        return place_behind(&filled(bytes), gap + from, byte) - gap;
+    }
+    let last = bytes.len() - BLOCK;
+    let mut at = from;
+    while at < last {
+        let marks = marks_of(bytes, at, byte);
+        if marks != 0 {
+            return at + marks.trailing_zeros() as usize;
+        }
+        at += BLOCK;
+    }
+    place_behind(bytes, at, byte)
+}
+
+/// The same where all bytes from the place on lie in the last block.
+fn place_behind(bytes: &[u8], from: usize, byte: u8) -> usize
+    requires within { from ≤ length bytes.now }
+    requires block { 16 ≤ length bytes.now }
+    requires behind { length bytes.now ≤ from + 16 }
+    ensures place { result ≡ from + prefix_len (λ b. not (b == byte)) (drop from bytes.now) }
+    ensures within { result ≤ length bytes.now }
+{
+    let last = bytes.len() - BLOCK;
+    // The marks of the bytes before the place are shifted out.
+    let marks = marks_of(bytes, last, byte) >> (from - last);
+    if marks == 0 {
+        return bytes.len();
+    }
+    from + marks.trailing_zeros() as usize
 }
 
 /// How many of the bytes from a place on have this value. All of them lie in the last block.

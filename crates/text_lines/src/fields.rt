@@ -1,10 +1,10 @@
 //! The fields of a line: what stands between its TABs.
-ghost use Rattle.std.specs.Prelude.{◌≡◌, ℕ, ◌≤◌, List, ◌∷◌, length};
+ghost use Rattle.std.specs.Prelude.{◌≡◌, ℕ, ◌+◌, ◌≤◌, if◌then◌else◌, List, ◌∷◌, length, nat_lt, None, Some};
 ghost use Rattle.std.specs.Str.{bytes_eq};
 ghost use Rattle.text_lines.specs.Text.{fields_of};
 ghost use Rattle.text_lines.specs.LineText.{field_at};
 
-use crate::blocks::count_of;
+use crate::blocks::{count_of, place_of};
 use std::marker::Model;
 
 /// What hands out fields one after another, as the walk through a line does. What reads ids, names and values takes
@@ -22,16 +22,21 @@ pub trait Fields<'a> {
 /// A walk through the fields of a line, which makes no list of them. Contracts see the fields that are left.
 #[derive(Drop)]
 pub struct FieldWalk<'a> {
-    rest: Option<&'a str>,
+    line: &'a str,
+    // Where the next field begins: None behind the last.
+    next: Option<usize>,
 }
 
 impl<'a> Model for FieldWalk<'a> {
-    ghost use Rattle.std.specs.Prelude.{ℕ, List};
-    ghost use Rattle.text_lines.specs.FieldsLeft.{fields_left};
+    ghost use Rattle.std.specs.Prelude.{ℕ, List, IfSome};
+    ghost use Rattle.std.specs.Str.{IsCharBoundary};
+    ghost use Rattle.text_lines.specs.FieldsLeft.{fields_from};
 
     ghost Value = { List (List ℕ) };
 
-    ghost view = { λ w. fields_left w.rest };
+    ghost view = { λ w. fields_from w.next w.line.now };
+
+    ghost invariant = { λ w. IfSome w.next (IsCharBoundary w.line.now) };
 }
 
 impl<'a> FieldWalk<'a> {
@@ -39,7 +44,10 @@ impl<'a> FieldWalk<'a> {
     pub fn new(line: &'a str) -> Self
         ensures { result ≡ fields_of line.now }
     {
-        FieldWalk { rest: Some(line) }
+        FieldWalk {
+            line,
+            next: Some(0),
+        }
     }
 }
 
@@ -47,17 +55,22 @@ impl<'a> Fields<'a> for FieldWalk<'a> {
     ghost left = { λ walk. walk };
 
     fn next_field(&mut self) -> &'a str {
-        let line = self.rest.unwrap();
-        match line.split_once('\t') {
-            Some((field, rest)) => {
-                self.rest = Some(rest);
-                field
-            }
-            None => {
-                self.rest = None;
-                line
-            }
-        }
+        let line = self.line;
+        let first = self.next.unwrap();
+        let end = place_of(line.as_bytes(), first, b'\t');
+        self.next = next_behind(line, end);
+        &line[first..end]
+    }
+}
+
+/// Where the field begins behind one that ends at this place: None where the line ends too.
+fn next_behind(line: &str, end: usize) -> Option<usize>
+    ensures { result ≡ if nat_lt end (length line.now) then Some (end + 1) else None }
+{
+    if end < line.len() {
+        Some(end + 1)
+    } else {
+        None
     }
 }
 
