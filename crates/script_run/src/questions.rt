@@ -31,31 +31,31 @@ const COUNT: u32 = 0;
 pub fn answer<P: WeightPolicy + Drop>(
     alloc: Global,
     cube: &Cube<P>,
-    said: Line,
+    said: &Line,
 ) -> Result<Option<Reply>, Memory>
-    requires { IsLineOf cube.now.schema said }
-    ensures reply { IfOk result (λ reply. reply ≡ answer_to (P.weigh cube.now.policy) cube.now.schema (state_of cube.now) said) }
+    requires { IsLineOf cube.now.schema said.now }
+    ensures reply { IfOk result (λ reply. reply ≡ answer_to (P.weigh cube.now.policy) cube.now.schema (state_of cube.now) said.now) }
     ensures cells { IfOk result (λ reply. IfSome reply (NamesCells cube.now.schema.dims)) }
 {
     match said {
         Line::Nothing | Line::Edit(_) | Line::Grow(_) => Ok(None),
-        Line::Count(region) => Ok(Some(count_reply(&cube.answer(region)?))),
+        Line::Count(region) => Ok(Some(count_reply(&cube.answer(*region)?))),
         Line::Sum { measure, region } => {
-            let terms = cube.answer(region)?;
-            Ok(Some(sum_reply(cube.schema(), measure, &terms)))
+            let terms = cube.answer(*region)?;
+            Ok(Some(sum_reply(cube.schema(), *measure, &terms)))
         }
         Line::Avg { measure, region } => {
-            let terms = cube.answer(region)?;
-            Ok(Some(average_reply(cube.schema(), measure, &terms)))
+            let terms = cube.answer(*region)?;
+            Ok(Some(average_reply(cube.schema(), *measure, &terms)))
         }
         Line::Pool { measure, region } => {
-            let terms = cube.answer(region)?;
-            Ok(Some(pool_reply(alloc, cube.schema(), measure, &terms)?))
+            let terms = cube.answer(*region)?;
+            Ok(Some(pool_reply(alloc, cube.schema(), *measure, &terms)?))
         }
-        Line::Terms(region) => Ok(Some(Reply::Terms(cube.answer(region)?))),
-        Line::Rows(id) => Ok(Some(rows_reply(alloc, cube.rows(id))?)),
-        Line::View(view) => Ok(Some(Reply::View(cube.view_list(view)?))),
-        Line::Worlds(region) => Ok(Some(worlds_reply(cube, region)?)),
+        Line::Terms(region) => Ok(Some(Reply::Terms(cube.answer(*region)?))),
+        Line::Rows(id) => Ok(Some(rows_reply(alloc, cube.rows(*id))?)),
+        Line::View(view) => Ok(Some(Reply::View(cube.view_list(*view)?))),
+        Line::Worlds(region) => Ok(Some(worlds_reply(cube, *region)?)),
     }
 }
 

@@ -70,24 +70,24 @@ pub fn is_edit(read: &Result<Line, Code>) -> bool
 pub fn do_read<P: WeightPolicy + Drop + Copy, Q: Keeper>(
     alloc: Global,
     cube: &mut Cube<P>,
-    read: Result<Line, Code>,
+    read: &Result<Line, Code>,
     keeper: &mut Q,
 ) -> Result<Option<Reply>, LineStop>
-    requires within { IfOk read (IsLineOf cube.old.schema) }
+    requires within { IfOk read.now (IsLineOf cube.old.schema) }
     requires open { IsTrue (Q.is_open keeper.old) }
-    ensures reply { IfOk result (λ reply. reply ≡ (step_from (P.weigh cube.old.policy) cube.old.schema (state_of cube.old) read).reply) }
-    ensures state { OnOk result (cube.new ≡ cube_at cube.old (step_from (P.weigh cube.old.policy) cube.old.schema (state_of cube.old) read).state) }
+    ensures reply { IfOk result (λ reply. reply ≡ (step_from (P.weigh cube.old.policy) cube.old.schema (state_of cube.old) read.now).reply) }
+    ensures state { OnOk result (cube.new ≡ cube_at cube.old (step_from (P.weigh cube.old.policy) cube.old.schema (state_of cube.old) read.now).state) }
     ensures cells { IfOk result (λ reply. IfSome reply (NamesCells cube.new.schema.dims)) }
     ensures same { OnErr result (cube.new ≡ cube.old) }
-    ensures kept { OnOk result (Commits (batches_from (P.weigh cube.old.policy) cube.old.schema (state_of cube.old) read) (told_of Q.content Q.journal keeper.old) (told_of Q.content Q.journal keeper.new)) }
+    ensures kept { OnOk result (Commits (batches_from (P.weigh cube.old.policy) cube.old.schema (state_of cube.old) read.now) (told_of Q.content Q.journal keeper.old) (told_of Q.content Q.journal keeper.new)) }
     ensures same_kept { OnErr result (told_of Q.content Q.journal keeper.new ≡ told_of Q.content Q.journal keeper.old) }
     ensures count { OnOk result (Q.faults keeper.new ≡ Q.faults keeper.old) }
-    ensures stop { IfErr result (IsStopOf (batches_from (P.weigh cube.old.policy) cube.old.schema (state_of cube.old) read) (Q.faults keeper.old) (Q.faults keeper.new)) }
+    ensures stop { IfErr result (IsStopOf (batches_from (P.weigh cube.old.policy) cube.old.schema (state_of cube.old) read.now) (Q.faults keeper.old) (Q.faults keeper.new)) }
     ensures stays_open { IsTrue (Q.is_open keeper.new) }
 {
     match read {
         Ok(said) => do_said(alloc, cube, said, keeper),
-        Err(code) => Ok(Some(Reply::Error(code))),
+        Err(code) => Ok(Some(Reply::Error(*code))),
     }
 }
 
@@ -95,24 +95,24 @@ pub fn do_read<P: WeightPolicy + Drop + Copy, Q: Keeper>(
 fn do_said<P: WeightPolicy + Drop + Copy, Q: Keeper>(
     alloc: Global,
     cube: &mut Cube<P>,
-    said: Line,
+    said: &Line,
     keeper: &mut Q,
 ) -> Result<Option<Reply>, LineStop>
-    requires within { IsLineOf cube.old.schema said }
+    requires within { IsLineOf cube.old.schema said.now }
     requires open { IsTrue (Q.is_open keeper.old) }
-    ensures reply { IfOk result (λ reply. reply ≡ (step_of (P.weigh cube.old.policy) cube.old.schema (state_of cube.old) said).reply) }
-    ensures state { OnOk result (cube.new ≡ cube_at cube.old (step_of (P.weigh cube.old.policy) cube.old.schema (state_of cube.old) said).state) }
+    ensures reply { IfOk result (λ reply. reply ≡ (step_of (P.weigh cube.old.policy) cube.old.schema (state_of cube.old) said.now).reply) }
+    ensures state { OnOk result (cube.new ≡ cube_at cube.old (step_of (P.weigh cube.old.policy) cube.old.schema (state_of cube.old) said.now).state) }
     ensures cells { IfOk result (λ reply. IfSome reply (NamesCells cube.new.schema.dims)) }
     ensures same { OnErr result (cube.new ≡ cube.old) }
-    ensures kept { OnOk result (Commits (batches_of (P.weigh cube.old.policy) cube.old.schema (state_of cube.old) said) (told_of Q.content Q.journal keeper.old) (told_of Q.content Q.journal keeper.new)) }
+    ensures kept { OnOk result (Commits (batches_of (P.weigh cube.old.policy) cube.old.schema (state_of cube.old) said.now) (told_of Q.content Q.journal keeper.old) (told_of Q.content Q.journal keeper.new)) }
     ensures same_kept { OnErr result (told_of Q.content Q.journal keeper.new ≡ told_of Q.content Q.journal keeper.old) }
     ensures count { OnOk result (Q.faults keeper.new ≡ Q.faults keeper.old) }
-    ensures stop { IfErr result (IsStopOf (batches_of (P.weigh cube.old.policy) cube.old.schema (state_of cube.old) said) (Q.faults keeper.old) (Q.faults keeper.new)) }
+    ensures stop { IfErr result (IsStopOf (batches_of (P.weigh cube.old.policy) cube.old.schema (state_of cube.old) said.now) (Q.faults keeper.old) (Q.faults keeper.new)) }
     ensures stays_open { IsTrue (Q.is_open keeper.new) }
 {
     match said {
-        Line::Edit(edit) => Ok(Some(do_edit(cube, &edit, keeper)?)),
-        Line::Grow(grow) => Ok(Some(do_growth(cube, &grow, keeper)?)),
+        Line::Edit(edit) => Ok(Some(do_edit(cube, edit, keeper)?)),
+        Line::Grow(grow) => Ok(Some(do_growth(cube, grow, keeper)?)),
         other => Ok(answer(alloc, cube, other)?),
     }
 }

@@ -97,7 +97,7 @@ impl<P: WeightPolicy + Drop + Copy> ScriptRun<P> {
             return Err(self.give_up(out, 0));
         };
         self.make_ready(&read, out)?;
-        self.do_read(read, out, keeper)
+        self.do_read(&read, out, keeper)
     }
 
     /// Writes the gathered replies, and says how many lines are refused.
@@ -145,28 +145,28 @@ impl<P: WeightPolicy + Drop + Copy> ScriptRun<P> {
     // Does a line that was read, and answers it.
     fn do_read<K: Sink, Q: Keeper>(
         &mut self,
-        read: Result<Line, Code>,
+        read: &Result<Line, Code>,
         out: &mut K,
         keeper: &mut Q,
     ) -> Result<(), BreakOff>
         requires few { self.old.done < 2 ^ 62 }
-        requires within { IfOk read (IsLineOf self.old.cube.schema) }
+        requires within { IfOk read.now (IsLineOf self.old.cube.schema) }
         requires open { IsTrue (Q.is_open keeper.old) }
-        ensures done { (schema : SchemaValue) (first : State) (lines : List (List ℕ)) (start : Option (List ℕ)) (line : List ℕ) → HasDone (P.weigh self.old.cube.policy) schema first lines start (K.taken out.old) self.old → line_of self.old.cube.schema line ≡ read
+        ensures done { (schema : SchemaValue) (first : State) (lines : List (List ℕ)) (start : Option (List ℕ)) (line : List ℕ) → HasDone (P.weigh self.old.cube.policy) schema first lines start (K.taken out.old) self.old → line_of self.old.cube.schema line ≡ read.now
             → OnOk result (HasDone (P.weigh self.old.cube.policy) schema first (lines ++ line ∷ []) start (K.taken out.new) self.new) }
         ensures few_gathered { OnOk result (AreFew self.new.gathered) }
         ensures policy { self.new.cube.policy ≡ self.old.cube.policy }
         ensures keeps { self.new.keeps ≡ self.old.keeps }
         ensures count { OnOk result (K.faults out.new ≡ K.faults out.old) }
-        ensures broken { (schema : SchemaValue) (first : State) (lines : List (List ℕ)) (start : Option (List ℕ)) (line : List ℕ) → HasDone (P.weigh self.old.cube.policy) schema first lines start (K.taken out.old) self.old → line_of self.old.cube.schema line ≡ read
+        ensures broken { (schema : SchemaValue) (first : State) (lines : List (List ℕ)) (start : Option (List ℕ)) (line : List ℕ) → HasDone (P.weigh self.old.cube.policy) schema first lines start (K.taken out.old) self.old → line_of self.old.cube.schema line ≡ read.now
             → IfErr result (BreaksOff (run (P.weigh self.old.cube.policy) schema first (lines ++ line ∷ [])).replies (seen_since (sink_seen K.taken K.faults out.old out.new) start)) }
-        ensures kept { (schema : SchemaValue) (first : State) (lines : List (List ℕ)) (start : Option (List ℕ)) (line : List ℕ) (before : Told) → IsReadyFor self.old.gathered read → HasDone (P.weigh self.old.cube.policy) schema first lines start (K.taken out.old) self.old → line_of self.old.cube.schema line ≡ read
+        ensures kept { (schema : SchemaValue) (first : State) (lines : List (List ℕ)) (start : Option (List ℕ)) (line : List ℕ) (before : Told) → IsReadyFor self.old.gathered read.now → HasDone (P.weigh self.old.cube.policy) schema first lines start (K.taken out.old) self.old → line_of self.old.cube.schema line ≡ read.now
             → HasKept (P.weigh self.old.cube.policy) schema first lines before (told_of Q.content Q.journal keeper.old) self.old.gathered → OnOk result (HasKept (P.weigh self.old.cube.policy) schema first (lines ++ line ∷ []) before (told_of Q.content Q.journal keeper.new) self.new.gathered) }
-        ensures stopped { (schema : SchemaValue) (first : State) (lines : List (List ℕ)) (start : Option (List ℕ)) (line : List ℕ) (before : Told) → IsReadyFor self.old.gathered read → HasDone (P.weigh self.old.cube.policy) schema first lines start (K.taken out.old) self.old → line_of self.old.cube.schema line ≡ read
+        ensures stopped { (schema : SchemaValue) (first : State) (lines : List (List ℕ)) (start : Option (List ℕ)) (line : List ℕ) (before : Told) → IsReadyFor self.old.gathered read.now → HasDone (P.weigh self.old.cube.policy) schema first lines start (K.taken out.old) self.old → line_of self.old.cube.schema line ≡ read.now
             → HasKept (P.weigh self.old.cube.policy) schema first lines before (told_of Q.content Q.journal keeper.old) self.old.gathered → IfErr result (KeptAt (P.weigh self.old.cube.policy) schema first (lines ++ line ∷ []) before (told_of Q.content Q.journal keeper.new)) }
         ensures no_fault { OnOk result (Q.faults keeper.new ≡ Q.faults keeper.old) }
         ensures cause { IfErr result (λ off. is_keep off ≡ true → Rose (Q.faults keeper.old) (Q.faults keeper.new)) }
-        ensures other_cause { IsReadyFor self.old.gathered read → IfErr result (λ off. is_keep off ≡ false → Q.faults keeper.new ≡ Q.faults keeper.old) }
+        ensures other_cause { IsReadyFor self.old.gathered read.now → IfErr result (λ off. is_keep off ≡ false → Q.faults keeper.new ≡ Q.faults keeper.old) }
         ensures ahead { OnOk result (self.old.done + length self.new.gathered ≤ self.new.done + length self.old.gathered) }
         ensures counted { OnOk result (self.new.done ≡ self.old.done + 1) }
         ensures behind { IfErr result (IsBehind self.old.done (length self.old.gathered)) }
@@ -182,19 +182,19 @@ impl<P: WeightPolicy + Drop + Copy> ScriptRun<P> {
     // Does a line that was read on the cube, and gives its reply.
     fn do_on_cube<Q: Keeper>(
         &mut self,
-        read: Result<Line, Code>,
+        read: &Result<Line, Code>,
         keeper: &mut Q,
     ) -> Result<Option<Reply>, LineStop>
-        requires within { IfOk read (IsLineOf self.old.cube.schema) }
+        requires within { IfOk read.now (IsLineOf self.old.cube.schema) }
         requires open { IsTrue (Q.is_open keeper.old) }
-        ensures reply { IfOk result (λ reply. reply ≡ (step_from (P.weigh self.old.cube.policy) self.old.cube.schema (state_of self.old.cube) read).reply) }
-        ensures state { OnOk result (self.new ≡ record self.old { cube = cube_at self.old.cube (step_from (P.weigh self.old.cube.policy) self.old.cube.schema (state_of self.old.cube) read).state }) }
+        ensures reply { IfOk result (λ reply. reply ≡ (step_from (P.weigh self.old.cube.policy) self.old.cube.schema (state_of self.old.cube) read.now).reply) }
+        ensures state { OnOk result (self.new ≡ record self.old { cube = cube_at self.old.cube (step_from (P.weigh self.old.cube.policy) self.old.cube.schema (state_of self.old.cube) read.now).state }) }
         ensures cells { IfOk result (λ reply. IfSome reply (NamesCells self.new.cube.schema.dims)) }
         ensures same { OnErr result (self.new ≡ self.old) }
-        ensures kept { OnOk result (Commits (batches_from (P.weigh self.old.cube.policy) self.old.cube.schema (state_of self.old.cube) read) (told_of Q.content Q.journal keeper.old) (told_of Q.content Q.journal keeper.new)) }
+        ensures kept { OnOk result (Commits (batches_from (P.weigh self.old.cube.policy) self.old.cube.schema (state_of self.old.cube) read.now) (told_of Q.content Q.journal keeper.old) (told_of Q.content Q.journal keeper.new)) }
         ensures same_kept { OnErr result (told_of Q.content Q.journal keeper.new ≡ told_of Q.content Q.journal keeper.old) }
         ensures count { OnOk result (Q.faults keeper.new ≡ Q.faults keeper.old) }
-        ensures stop { IfErr result (IsStopOf (batches_from (P.weigh self.old.cube.policy) self.old.cube.schema (state_of self.old.cube) read) (Q.faults keeper.old) (Q.faults keeper.new)) }
+        ensures stop { IfErr result (IsStopOf (batches_from (P.weigh self.old.cube.policy) self.old.cube.schema (state_of self.old.cube) read.now) (Q.faults keeper.old) (Q.faults keeper.new)) }
         ensures stays_open { IsTrue (Q.is_open keeper.new) }
     {
         do_read(self.alloc, &mut self.cube, read, keeper)

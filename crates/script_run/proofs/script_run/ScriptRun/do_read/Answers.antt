@@ -20,7 +20,7 @@ returns-in-Ok-clause-done g c = λ schema first lines start line done is_read.
     let here = c.in-Ok.ensures.state in
     let gathered = subst (HasGathered (run weigh schema first lines).replies start taken) (sym (ap (λ w. w.gathered) here)) done.gathered in
     on_ok_both c.answer.result
-    (λ more answered. line_done {P = g.row.P.Denot} weigh schema first lines line start taken _ c.args.self.now c.do_on_cube.new.self c.answer.new.self c.args.read c.in-Ok.reply done is_read c.in-Ok.ensures.reply here more answered)
+    (λ more answered. line_done {P = g.row.P.Denot} weigh schema first lines line start taken _ c.args.self.now c.do_on_cube.new.self c.answer.new.self c.args.read.now c.in-Ok.reply done is_read c.in-Ok.ensures.reply here more answered)
     (c.answer.ensures.gathered (run weigh schema first lines).replies start gathered) c.answer.ensures.answered
 
 pub returns-in-Ok-clause-broken : goal.returns-in-Ok-clause-broken
@@ -30,7 +30,7 @@ returns-in-Ok-clause-broken g c = λ schema first lines start line done is_read.
     let sink = sink_seen g.K.Sink.taken g.K.Sink.faults c.args.out.now c.answer.new.out in
     let here = c.in-Ok.ensures.state in
     let gathered = subst (HasGathered (run weigh schema first lines).replies start taken) (sym (ap (λ w. w.gathered) here)) done.gathered in
-    let all = replies_here {P = g.row.P.Denot} weigh schema first lines line start taken c.args.self.now c.args.read c.do_on_cube.new.self.cube c.in-Ok.reply done is_read c.in-Ok.ensures.reply (ap (λ w. w.cube) here) in
+    let all = replies_here {P = g.row.P.Denot} weigh schema first lines line start taken c.args.self.now c.args.read.now c.do_on_cube.new.self.cube c.in-Ok.reply done is_read c.in-Ok.ensures.reply (ap (λ w. w.cube) here) in
     subst (λ replies. IfErr c.answer.result (BreaksOff replies (seen_since sink start))) (sym all)
     (c.answer.ensures.broken (run weigh schema first lines).replies start gathered (ap (λ w. w.done) here ∙ count_done weigh schema first lines start taken _ done))
 
@@ -39,7 +39,7 @@ returns-in-Ok-clause-kept g c = λ schema first lines start line before ready do
     let weigh = g.P.WeightPolicy.weigh c.args.self.now.cube.policy in
     let size : length c.do_on_cube.new.self.gathered ≡ length c.args.self.now.gathered = ap (λ w. length w.gathered) c.in-Ok.ensures.state in
     on_ok_weaker c.answer.result
-    (λ (le : length c.answer.new.self.gathered ≤ length c.do_on_cube.new.self.gathered + 1). line_kept {P = g.row.P.Denot} weigh schema first lines line start _ before c.args.self.now c.args.read _ _ c.answer.new.self.gathered ready done is_read kept c.in-Ok.ensures.kept (omega arith))
+    (λ (le : length c.answer.new.self.gathered ≤ length c.do_on_cube.new.self.gathered + 1). line_kept {P = g.row.P.Denot} weigh schema first lines line start _ before c.args.self.now c.args.read.now _ _ c.answer.new.self.gathered ready done is_read kept c.in-Ok.ensures.kept (omega arith))
     c.answer.ensures.one_more
 
 pub returns-in-Ok-clause-stopped : goal.returns-in-Ok-clause-stopped
@@ -47,7 +47,7 @@ returns-in-Ok-clause-stopped g c = λ schema first lines start line before ready
     let weigh = g.P.WeightPolicy.weigh c.args.self.now.cube.policy in
     let stop = subst (λ w. IfErr c.answer.result (IsGatheredStop (w.done + 1) (length w.gathered + 1))) c.in-Ok.ensures.state c.answer.ensures.stop in
     IfErr-weaker c.answer.result (IsGatheredStop (c.args.self.now.done + 1) (length c.args.self.now.gathered + 1)) _
-    (λ off here. line_stopped {P = g.row.P.Denot} weigh schema first lines line start _ before c.args.self.now c.args.read _ _ off ready done is_read kept c.in-Ok.ensures.kept here) stop
+    (λ off here. line_stopped {P = g.row.P.Denot} weigh schema first lines line start _ before c.args.self.now c.args.read.now _ _ off ready done is_read kept c.in-Ok.ensures.kept here) stop
 
 pub returns-in-Ok-clause-cause : goal.returns-in-Ok-clause-cause
 returns-in-Ok-clause-cause g c = IfErr-weaker c.answer.result _ _ (λ off stop. told_or_not (is_keep off) stop.no_keep) c.answer.ensures.stop
@@ -66,7 +66,7 @@ returns-in-Err-KeepFault-clause-stopped g c = λ schema first lines start line b
     let weigh = g.P.WeightPolicy.weigh c.args.self.now.cube.policy in
     let fault = rw c.in-Err-KeepFault.field-0-is at c.in-Err-KeepFault.ensures.stop in
     let stop = subst (λ w. (c.keep_fault.result ≡ Keep w.done) ⊎ IsGatheredStop w.done (length w.gathered) c.keep_fault.result) c.in-Err-KeepFault.ensures.same c.keep_fault.ensures.stop in
-    line_failed {P = g.row.P.Denot} weigh schema first lines line start _ before c.args.self.now c.args.read _ _ c.keep_fault.result ready done is_read kept c.in-Err-KeepFault.ensures.same_kept fault.1 stop
+    line_failed {P = g.row.P.Denot} weigh schema first lines line start _ before c.args.self.now c.args.read.now _ _ c.keep_fault.result ready done is_read kept c.in-Err-KeepFault.ensures.same_kept fault.1 stop
 
 pub returns-in-Err-KeepFault-clause-cause : goal.returns-in-Err-KeepFault-clause-cause
 returns-in-Err-KeepFault-clause-cause g c = λ told.
@@ -78,7 +78,7 @@ returns-in-Err-KeepFault-clause-other_cause g c = λ ready not_told.
     let weigh = g.P.WeightPolicy.weigh c.args.self.now.cube.policy in
     let fault = rw c.in-Err-KeepFault.field-0-is at c.in-Err-KeepFault.ensures.stop in
     let same = c.in-Err-KeepFault.ensures.same in
-    let none = ap (λ w. w.gathered) same ∙ none_before weigh c.args.self.now.cube.schema (state_of c.args.self.now.cube) c.args.read c.args.self.now.gathered ready fault.1 in
+    let none = ap (λ w. w.gathered) same ∙ none_before weigh c.args.self.now.cube.schema (state_of c.args.self.now.cube) c.args.read.now c.args.self.now.gathered ready fault.1 in
     told_or_not (is_keep c.keep_fault.result) not_told (ap is_keep (tells_fault _ _ c.keep_fault.result none c.keep_fault.ensures.stop))
 
 pub returns-in-Err-Memory-clause-broken : goal.returns-in-Err-Memory-clause-broken
