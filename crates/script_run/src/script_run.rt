@@ -1,5 +1,5 @@
 //! Doing the lines of a script, one after the other.
-ghost use Rattle.std.specs.Prelude.{◌≡◌, ℕ, ◌+◌, ◌<◌, ◌≤◌, ◌^◌, ◌++◌, ◌⊎◌, [], ◌∷◌, false, true, List, Option, length, IfErr, IfOk, IfSome, IsTrue, OnErr, OnOk};
+ghost use Rattle.std.specs.Prelude.{◌≡◌, ℕ, ◌+◌, ◌<◌, ◌≤◌, ◌^◌, ◌++◌, ◌⊎◌, [], ◌∷◌, false, true, List, Option, length, Err, IfErr, IfOk, IfSome, IsTrue, OnErr, OnOk};
 ghost use Rattle.std.specs.Io.KnownBytes.{Appends};
 ghost use Rattle.std.specs.List.{concat};
 ghost use Rattle.cube_base.specs.Outside.{Rose};
@@ -96,6 +96,10 @@ impl<P: WeightPolicy + Drop + Copy> ScriptRun<P> {
         let Ok(read) = self.read(line) else {
             return Err(self.give_up(out, 0));
         };
+        // At once, since the calls below have large locals, which are cleared when they begin.
+        if let Err(code) = &read {
+            return self.refuse(*code, out);
+        }
         self.make_ready(&read, out)?;
         self.do_read(&read, out, keeper)
     }
@@ -177,6 +181,29 @@ impl<P: WeightPolicy + Drop + Copy> ScriptRun<P> {
             Err(LineStop::KeepFault) => Err(self.keep_fault(out)),
             Err(LineStop::Memory) => Err(self.give_up(out, 0)),
         }
+    }
+
+    // Answers a line that is refused as it is read. Nothing is done on the cube, and the keeper is not called.
+    fn refuse<K: Sink>(&mut self, code: Code, out: &mut K) -> Result<(), BreakOff>
+        requires few { self.old.done < 2 ^ 62 }
+        ensures done { (schema : SchemaValue) (first : State) (lines : List (List ℕ)) (start : Option (List ℕ)) (line : List ℕ) → HasDone (P.weigh self.old.cube.policy) schema first lines start (K.taken out.old) self.old → line_of self.old.cube.schema line ≡ Err code
+            → OnOk result (HasDone (P.weigh self.old.cube.policy) schema first (lines ++ line ∷ []) start (K.taken out.new) self.new) }
+        ensures few_gathered { OnOk result (AreFew self.new.gathered) }
+        ensures policy { self.new.cube.policy ≡ self.old.cube.policy }
+        ensures keeps { self.new.keeps ≡ self.old.keeps }
+        ensures count { OnOk result (K.faults out.new ≡ K.faults out.old) }
+        ensures broken { (schema : SchemaValue) (first : State) (lines : List (List ℕ)) (start : Option (List ℕ)) (line : List ℕ) → HasDone (P.weigh self.old.cube.policy) schema first lines start (K.taken out.old) self.old → line_of self.old.cube.schema line ≡ Err code
+            → IfErr result (BreaksOff (run (P.weigh self.old.cube.policy) schema first (lines ++ line ∷ [])).replies (seen_since (sink_seen K.taken K.faults out.old out.new) start)) }
+        ensures kept { (schema : SchemaValue) (first : State) (lines : List (List ℕ)) (start : Option (List ℕ)) (line : List ℕ) (before now : Told) → HasDone (P.weigh self.old.cube.policy) schema first lines start (K.taken out.old) self.old → line_of self.old.cube.schema line ≡ Err code
+            → HasKept (P.weigh self.old.cube.policy) schema first lines before now self.old.gathered → OnOk result (HasKept (P.weigh self.old.cube.policy) schema first (lines ++ line ∷ []) before now self.new.gathered) }
+        ensures stopped { (schema : SchemaValue) (first : State) (lines : List (List ℕ)) (start : Option (List ℕ)) (line : List ℕ) (before now : Told) → HasDone (P.weigh self.old.cube.policy) schema first lines start (K.taken out.old) self.old → line_of self.old.cube.schema line ≡ Err code
+            → HasKept (P.weigh self.old.cube.policy) schema first lines before now self.old.gathered → IfErr result (KeptAt (P.weigh self.old.cube.policy) schema first (lines ++ line ∷ []) before now) }
+        ensures no_keep { IfErr result (λ off. is_keep off ≡ false) }
+        ensures ahead { OnOk result (self.old.done + length self.new.gathered ≤ self.new.done + length self.old.gathered) }
+        ensures counted { OnOk result (self.new.done ≡ self.old.done + 1) }
+        ensures behind { IfErr result (IsBehind self.old.done (length self.old.gathered)) }
+    {
+        self.answer(&Some(Reply::Error(code)), out)
     }
 
     // Does a line that was read on the cube, and gives its reply.

@@ -25,6 +25,14 @@ returns-in_default-clause-stopped g c = λ schema first lines start before keeps
 pub returns-in_default-clause-cause : goal.returns-in_default-clause-cause
 returns-in_default-clause-cause g c = told_or_not _ (gave_up-no_keep _ _ _ _ c.give_up.ensures.stop)
 
+pub returns-in-Err-clause-kept : goal.returns-in-Err-clause-kept
+returns-in-Err-clause-kept g c = λ schema first lines start before keeps done kept.
+    c.refuse.ensures.kept schema first lines start c.args.line.now before _ done (c.in-Ok.ensures.read ∙ c.in-Err.is) kept
+
+pub returns-in-Err-clause-stopped : goal.returns-in-Err-clause-stopped
+returns-in-Err-clause-stopped g c = λ schema first lines start before keeps done kept.
+    c.refuse.ensures.stopped schema first lines start c.args.line.now before _ done (c.in-Ok.ensures.read ∙ c.in-Err.is) kept
+
 pub returns-in_err-make_ready-clause-broken : goal.returns-in_err-make_ready-clause-broken
 returns-in_err-make_ready-clause-broken g c = λ schema first lines start done.
     let exit = err_from_is_err_and c.from_residual.result c.from_residual.ensures.1 in
