@@ -67,7 +67,7 @@ pub over_keeping : (schema : SchemaValue) (sink : SinkSeen) (keeper : KeeperSeen
 over_keeping schema sink keeper (Finished refused) kept = refl
 over_keeping schema sink keeper (WriteFault done) kept = refl
 over_keeping schema sink keeper (KeepFault done) kept = tt
-over_keeping schema sink keeper (Memory done) kept = tt
+over_keeping schema sink keeper (Memory done) kept = λ one. refl
 over_keeping schema sink keeper Usage kept = refl
 over_keeping schema sink keeper (Schema at why) kept = refl
 over_keeping schema sink keeper NoCube kept = refl

@@ -42,7 +42,7 @@ module _ (seen : Seen) (keeper : KeeperSeen) (wrote : WroteNothing seen.sink) (k
 pub init_over_stop : (stop : InputStop) → InitOver empty_content (end_of_stop stop)
 init_over_stop input_stop.Fault = refl
 init_over_stop input_stop.TooLong = refl
-init_over_stop input_stop.Memory = tt
+init_over_stop input_stop.Memory = λ one. refl
 
 -- no more bytes were taken than may be
 pub few_stop : (source : SourceSeen) (stop : InputStop) → StopsReading INPUT_LIMIT source.left source.left_after source.faults source.faults_after stop → TookFew source (end_of_stop stop)

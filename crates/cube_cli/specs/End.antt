@@ -238,11 +238,12 @@ EndsInit seen keeper (KeepFault done) = FailedKeeping seen keeper × (done ≡ 0
 -- memory was wanting, before the schema was kept or behind
 EndsInit seen keeper (Memory done) = NoFaultAtAll seen keeper × (((done ≡ 0) × DidNothing seen keeper) ⊎ ((done ≡ 1) × WasRead seen.source (λ input. CommitsSchema input keeper) × TakesPart seen.sink.taken seen.sink.taken_after INIT_LINE))
 
--- and of what the store held: it was there, or nothing was; a fault of the keeper and want of memory may come before that is known
+-- and of what the store held: it was there, or nothing was; a fault of the keeper may come before that is known, and so may want of
+-- memory, but for that which comes behind the commit
 abbrev pub InitOver : Stored → End → Type 0
 InitOver content HasCube = content ≢ empty_content
 InitOver content (KeepFault _) = ⊤
-InitOver content (Memory _) = ⊤
+InitOver content (Memory done) = done ≡ 1 → content ≡ empty_content
 InitOver content end = content ≡ empty_content
 
 -- a read failed, and nothing else

@@ -132,24 +132,24 @@ module _ (seen : Seen) (keeper : KeeperSeen) (content : Stored) (input : List �
   telling-stays (Memory done) ends = untouched ends.2.kept
 
   -- a new store, where there was none
-  init-stays : (end : End) → end ≢ Memory 1 → (content ≡ empty_content → Stays) → EndsInit seen keeper end → InitOver content end → Stays
-  init-stays Usage other empty ends over = absurd ends
-  init-stays NoCube other empty ends over = absurd ends
-  init-stays (BadStore found) other empty ends over = absurd ends
-  init-stays (BadRecord bad) other empty ends over = absurd ends
-  init-stays (ImportRows would) other empty ends over = absurd ends
-  init-stays HasCube other empty ends over = untouched ends.nothing.kept
-  init-stays (Schema at why) other empty ends over = untouched ends.1.kept
-  init-stays (Finished refused) other empty ends over = empty over
-  init-stays (ReadFault done) other empty ends over = untouched ends.nothing.kept
-  init-stays (TooLong done) other empty ends over = untouched ends.nothing.kept
-  init-stays (WriteFault done) other empty ends over = empty over
-  init-stays (KeepFault done) other empty ends over = untouched ends.2.kept
-  init-stays (Memory done) other empty ends over = either ends.1
+  init-stays : (end : End) → (content ≡ empty_content → Stays) → EndsInit seen keeper end → InitOver content end → Stays
+  init-stays Usage empty ends over = absurd ends
+  init-stays NoCube empty ends over = absurd ends
+  init-stays (BadStore found) empty ends over = absurd ends
+  init-stays (BadRecord bad) empty ends over = absurd ends
+  init-stays (ImportRows would) empty ends over = absurd ends
+  init-stays HasCube empty ends over = untouched ends.nothing.kept
+  init-stays (Schema at why) empty ends over = untouched ends.1.kept
+  init-stays (Finished refused) empty ends over = empty over
+  init-stays (ReadFault done) empty ends over = untouched ends.nothing.kept
+  init-stays (TooLong done) empty ends over = untouched ends.nothing.kept
+  init-stays (WriteFault done) empty ends over = empty over
+  init-stays (KeepFault done) empty ends over = untouched ends.2.kept
+  init-stays (Memory done) empty ends over = either ends.1
     where
       either : ((done ≡ 0) × DidNothing seen keeper) ⊎ ((done ≡ 1) × WasRead seen.source (λ input. CommitsSchema input keeper) × TakesPart seen.sink.taken seen.sink.taken_after INIT_LINE) → Stays
       either (inl none) = untouched none.1.kept
-      either (inr one) = absurd (other (ap (λ n. Memory n) one.0))
+      either (inr one) = empty (over one.0)
 
   -- any command but `init`
   of_held : (Q : Stored → Type 0) → Holds keeper Q → Q content
@@ -224,13 +224,13 @@ empty-unsound : IsSoundContent empty_content → ⊥
 unfolding schema_of
 empty-unsound sound = sound
 
-pub cube-stays : (words : List (List ℕ)) (seen : Seen) (keeper : KeeperSeen) (end : End) → (command_of words ≡ Some (Store Init) → end ≢ Memory 1) → IsSome seen.source.left → Says words seen keeper end → StaysSound keeper
-cube-stays words seen keeper end behind tells says = by_content keeper.told.content refl
+pub cube-stays : (words : List (List ℕ)) (seen : Seen) (keeper : KeeperSeen) (end : End) → IsSome seen.source.left → Says words seen keeper end → StaysSound keeper
+cube-stays words seen keeper end tells says = by_content keeper.told.content refl
   where
     by_command : (content : Stored) (input : List ℕ) → keeper.told.content ≡ Some content → seen.source.left ≡ Some input → IsSoundContent content → (command_of words ≡ Some (Store Init)) ⊎ (command_of words ≢ Some (Store Init)) → IfSome keeper.told_after.content IsSoundContent
     by_command content input told left sound (inl init) =
         let made : SaysOfStore Init seen keeper end = subst (λ command. SaysOf command seen keeper end) init says in
-        init-stays seen keeper content input told left IsSoundContent sound (λ later holds. holds) (λ lines. scripted-sound content lines sound) end (behind init)
+        init-stays seen keeper content input told left IsSoundContent sound (λ later holds. holds) (λ lines. scripted-sound content lines sound) end
         (λ empty. absurd (empty-unsound (subst IsSoundContent empty sound))) made.0 (subst (λ held. IfSome held (λ content. InitOver content end)) told made.1)
     by_command content input told left sound (inr other) =
         command-stays seen keeper content input told left IsSoundContent sound (λ later holds. holds) (λ lines. scripted-sound content lines sound) (command_of words) end other says

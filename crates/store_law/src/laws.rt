@@ -1,16 +1,12 @@
 //! Laws of what a store holds after edits, growths, imports and scripts. The functions do nothing: each law is the contract.
-ghost use Rattle.std.specs.Prelude.{◌≡◌, ◌≢◌, ◌≤◌, [], ℕ, All, List, IsOkAnd, IsSome, None, Ok, Some, true};
+ghost use Rattle.std.specs.Prelude.{◌≡◌, ◌≤◌, [], ℕ, All, List, IsOkAnd, IsSome, None, Ok, Some, true};
 ghost use Rattle.cube_base.specs.Name.{is_name};
-ghost use Rattle.cube_cli.specs.Command.{command_of};
 ghost use Rattle.cube_cli.specs.End.{Says};
 ghost use Rattle.cube_cli.specs.Files.{IsAccepted, facts_with, import_batch};
 ghost use Rattle.cube_cli.specs.SchemaAlone.{schema_alone};
 ghost use Rattle.cube_cli.specs.Store.{Finds, IsSoundContent, IsSoundOver, policy_of, schema_batch, state_over};
 ghost use Rattle.cube_cli.specs.Seen.{Seen};
-ghost use Rattle.cube_cli.specs.declared.command.Command.TheVariants.{Store};
-ghost use Rattle.cube_cli.specs.declared.command.StoreCommand.TheVariants.{Init};
 ghost use Rattle.cube_cli.specs.declared.end.End.{End};
-ghost use Rattle.cube_cli.specs.declared.end.End.TheVariants.{Memory};
 ghost use Rattle.cube_core.specs.Growth.{growth_difference, judge_growth};
 ghost use Rattle.cube_model.specs.Allocation.{Policy, extended, row_count};
 ghost use Rattle.cube_model.specs.Facts.{after};
@@ -104,9 +100,7 @@ pub fn scripts_go_on_over_what_is_kept()
 
 /// Whatever the program does, a sound store stays so, and one in which there is nothing is empty or sound: whatever the words of the
 /// command line and whatever `cube` says at the end, at faults too, where the source tells its input and the keeper its content.
-/// Left out is an `init` for whose reply memory was wanting: of it `cube` does not say that the store was empty before.
 pub fn runs_leave_stores_sound()
-    ensures stays { (words : List (List ℕ)) (seen : Seen) (keeper : KeeperSeen) (end : End) → (command_of words ≡ Some (Store Init) → end ≢ Memory 1) → IsSome seen.source.left
-        → Says words seen keeper end → StaysSound keeper }
+    ensures stays { (words : List (List ℕ)) (seen : Seen) (keeper : KeeperSeen) (end : End) → IsSome seen.source.left → Says words seen keeper end → StaysSound keeper }
     ensures begins { (words : List (List ℕ)) (seen : Seen) (keeper : KeeperSeen) (end : End) → IsSome seen.source.left → Says words seen keeper end → BeginsSound keeper }
 {}
