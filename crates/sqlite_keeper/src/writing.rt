@@ -3,8 +3,27 @@ use crate::blob;
 use crate::fault::Fault;
 use crate::layout::{MAKE_ALLOC, MAKE_CUBE, MAKE_FACT};
 use fact_keeper::{Batch, KeptFact, KeptRows};
-use sqlite::{Alter, Connection, Transaction, params};
+use sqlite::types::ValueRef;
+use sqlite::{Alter, Connection, Error, ErrorCode, Transaction, params};
 use std::alloc::Global;
+
+/// How a row is put into a table, by the same values, the first of which is its id.
+struct Put {
+    /// Inserts it, and is refused where the id is there.
+    insert: &'static str,
+    /// Changes it, where the id is there.
+    update: &'static str,
+}
+
+const PUT_FACT: Put = Put {
+    insert: "INSERT INTO fact (id, nodes, cols) VALUES (?1, ?2, ?3)",
+    update: "UPDATE fact SET nodes = ?2, cols = ?3 WHERE id = ?1",
+};
+
+const PUT_ROWS: Put = Put {
+    insert: "INSERT INTO alloc (id, den, body) VALUES (?1, ?2, ?3)",
+    update: "UPDATE alloc SET den = ?2, body = ?3 WHERE id = ?1",
+};
 
 /// Writes a batch. Where it is not written whole, nothing of it is.
 pub(crate) fn write_batch<S: Alter>(
@@ -59,8 +78,9 @@ fn put_facts<S: Alter>(
     tx: &mut Transaction<'_, S>,
     facts: &[KeptFact],
 ) -> Result<(), Fault> {
+    let mut is_there = false;
     'facts: for fact in facts {
-        put_fact(alloc, tx, fact)?;
+        is_there = put_fact(alloc, tx, fact, is_there)?;
     }
     Ok(())
 }
@@ -71,8 +91,9 @@ fn put_all_rows<S: Alter>(
     tx: &mut Transaction<'_, S>,
     entries: &[KeptRows],
 ) -> Result<(), Fault> {
+    let mut is_there = false;
     'entries: for rows in entries {
-        put_rows(alloc, tx, rows)?;
+        is_there = put_rows(alloc, tx, rows, is_there)?;
     }
     Ok(())
 }
@@ -97,36 +118,61 @@ fn drop_id<S: Alter>(tx: &mut Transaction<'_, S>, id: u64) -> Result<(), Fault> 
     Ok(())
 }
 
-/// Puts a fact in the place of the one of its id.
+/// Puts a fact in the place of the one of its id, and answers whether that was there.
 fn put_fact<S: Alter>(
     alloc: Global,
     tx: &mut Transaction<'_, S>,
     fact: &KeptFact,
-) -> Result<(), Fault> {
+    is_there: bool,
+) -> Result<bool, Fault> {
     let id = number(fact.id)?;
     let nodes = blob::of_nodes(alloc, fact.nodes.as_slice())?;
     let cols = blob::of_cols(alloc, fact.cols.as_slice())?;
-    tx.execute(
-        "INSERT INTO fact (id, nodes, cols) VALUES (?1, ?2, ?3) ON CONFLICT (id) DO UPDATE SET nodes = excluded.nodes, cols = excluded.cols",
-        params![id, &nodes, &cols],
-    )?;
-    Ok(())
+    put_row(tx, &PUT_FACT, params![id, &nodes, &cols], is_there)
 }
 
-/// Puts rows in the place of those of their id.
+/// Puts rows in the place of those of their id, and answers whether these were there.
 fn put_rows<S: Alter>(
     alloc: Global,
     tx: &mut Transaction<'_, S>,
     rows: &KeptRows,
-) -> Result<(), Fault> {
+    is_there: bool,
+) -> Result<bool, Fault> {
     let id = number(rows.id)?;
     let den = number(rows.den)?;
     let body = blob::of_rows(alloc, rows.rows.as_slice())?;
-    tx.execute(
-        "INSERT INTO alloc (id, den, body) VALUES (?1, ?2, ?3) ON CONFLICT (id) DO UPDATE SET den = excluded.den, body = excluded.body",
-        params![id, den, &body],
-    )?;
-    Ok(())
+    put_row(tx, &PUT_ROWS, params![id, den, &body], is_there)
+}
+
+/// Puts a row in the place of the one of its id, and answers whether that was there. A statement that looks for it first costs as much as
+/// two inserts, so what served the row before, `is_there`, is tried first.
+fn put_row<S: Alter>(
+    tx: &mut Transaction<'_, S>,
+    put: &Put,
+    values: &[ValueRef<'_>],
+    is_there: bool,
+) -> Result<bool, Fault> {
+    if !is_there && is_inserted(tx, put.insert, values)? {
+        return Ok(false);
+    }
+    if tx.execute(put.update, values)? > 0 {
+        return Ok(true);
+    }
+    tx.execute(put.insert, values)?;
+    Ok(false)
+}
+
+/// Inserts a row, or leaves the table as it was where that refuses it, as it does where the id is there.
+fn is_inserted<S: Alter>(
+    tx: &mut Transaction<'_, S>,
+    insert: &str,
+    values: &[ValueRef<'_>],
+) -> Result<bool, Fault> {
+    match tx.execute(insert, values) {
+        Ok(_) => Ok(true),
+        Err(Error::SqliteFailure(ErrorCode::ConstraintViolation(_))) => Ok(false),
+        Err(error) => Err(error.into()),
+    }
 }
 
 /// A number as SQL has it. One of 2^63 or more is a fault, since no table can hold it.
