@@ -1,7 +1,7 @@
 //! Each call of the source, the sink and the keeper failing in turn, where a script with lines of every kind runs over a store. How such
 //! a run ends, what it writes and what is kept is told by a run without a fault over the lines that are done by then.
-use crate::runs::{Ending, Outside, WHOLE, run_kept};
-use crate::stored::{are_same, keeper_of};
+use crate::runs::{Ending, Outside, WHOLE};
+use crate::stored::{KeptRun, are_same, run_stored, without_facts};
 use cube_base::Memory;
 use fact_keeper::MemKeeper;
 use std::alloc::{AllocError, Global};
@@ -99,15 +99,23 @@ fn count_of(rows: &[Row], word: &str) -> usize {
 fn after_lines(alloc: Global, rows: &[Row]) -> Result<Option<After>, Memory> {
     let lines = lines_of(alloc, rows)?;
     let replies = replies_of(alloc, rows)?;
-    let mut keeper = keeper_of(alloc, SCHEMA, &[], &[], &[])?;
-    let ran = run_kept(alloc, &["run", "s"], lines.as_bytes(), &WHOLE, &mut keeper)?;
+    let kept = run_stored(
+        alloc,
+        "run",
+        without_facts(SCHEMA),
+        0,
+        lines.as_bytes(),
+        &WHOLE,
+    )?;
     let refused = count_of(rows, "error") as u64;
-    if !ran.is(Ending::Finished { refused }, &replies) {
+    let is_right = kept.ran.is(Ending::Finished { refused }, &replies)
+        && kept.keeper.journal().len() == count_of(rows, "ok");
+    if !is_right {
+        drop(kept);
         return Ok(None);
     }
-    if keeper.journal().len() != count_of(rows, "ok") {
-        return Ok(None);
-    }
+    let KeptRun { ran, keeper } = kept;
+    drop(ran);
     Ok(Some(After {
         done: rows.len(),
         taken: lines.len(),
@@ -127,13 +135,13 @@ fn stops_so(
     after: &After,
 ) -> Result<bool, Memory> {
     let lines = lines_of(alloc, rows)?;
-    let mut keeper = keeper_of(alloc, SCHEMA, &[], &[], &[keep_fails])?;
-    let ran = run_kept(alloc, &["run", "s"], lines.as_bytes(), outside, &mut keeper)?;
-    Ok(
-        ran.is(end, written)
-            && keeper.journal().len() == after.keeper.journal().len()
-            && are_same(keeper.content(), after.keeper.content()),
-    )
+    let content = without_facts(SCHEMA);
+    let kept = run_stored(alloc, "run", content, keep_fails, lines.as_bytes(), outside)?;
+    let is_right = kept.ran.is(end, written)
+        && kept.keeper.journal().len() == after.keeper.journal().len()
+        && are_same(kept.keeper.content(), after.keeper.content());
+    drop(kept);
+    Ok(is_right)
 }
 
 /// How many reads of one byte there are behind the lines that are done until one more is: it has an LF, or the input ends.
@@ -214,6 +222,15 @@ fn stops_at_keeping(alloc: Global, rows: &[Row], after: &After) -> Result<bool, 
     stops_so(alloc, rows, call as u64, &WHOLE, end, &after.replies, after)
 }
 
+/// Whether each of these calls ends the run where it fails.
+fn stops_at_all(alloc: Global, rows: &[Row], after: &After) -> Result<bool, Memory> {
+    Ok(
+        stops_at_reads(alloc, rows, after)?
+            && stops_at_writes(alloc, rows, after)?
+            && stops_at_keeping(alloc, rows, after)?,
+    )
+}
+
 /// Whether each call that fails once so many lines are done, and before the next is, ends the run as it should.
 fn stops_behind(alloc: Global, rows: &[Row], done: usize) -> Result<bool, Memory> {
     let Some(front) = rows.get(..done) else {
@@ -222,11 +239,9 @@ fn stops_behind(alloc: Global, rows: &[Row], done: usize) -> Result<bool, Memory
     let Some(after) = after_lines(alloc, front)? else {
         return Ok(false);
     };
-    Ok(
-        stops_at_reads(alloc, rows, &after)?
-            && stops_at_writes(alloc, rows, &after)?
-            && stops_at_keeping(alloc, rows, &after)?,
-    )
+    let stops = stops_at_all(alloc, rows, &after);
+    drop(after);
+    stops
 }
 
 fn stops_at_each(alloc: Global, rows: &[Row]) -> bool {

@@ -2,9 +2,11 @@
 use crate::limits::large_schema;
 use crate::runs::{ALL, Ending, WHOLE, run_kept};
 use crate::store_faults::{Fault, end_so};
-use crate::stored::{CITIES, FACTS, FactRow, SPREADS, SpreadRow, holds_just, is_spread, keeper_of};
+use crate::stored::{
+    CITIES, FACTS, FactRow, SPREADS, SpreadRow, holds_just, is_spread, run_stored, without_facts,
+};
 use cube_base::{Code, Memory};
-use fact_keeper::MemKeeper;
+use fact_keeper::{Batch, MemKeeper};
 use std::alloc::{AllocError, Global};
 use std::fmt::Write;
 
@@ -19,6 +21,10 @@ const PLACES: &str =
 /// A name of quotes alone, one with quotes and a comma, and a distribution.
 const MOODS: &str =
     "cube\t1\npolicy\tcount\nparts\tMood\t100\tgood\tbad\ndimension\tPlace\nnode\t0\tAll\nnode\t1\t\"\"\nnode\t1\ta \"b\", c\nend\n";
+
+/// Two dimensions, one node with a comma and one with quotes, a number and a distribution.
+const MIXED: &str =
+    "cube\t1\npolicy\tcount\nnumber\tRepair\nparts\tMood\t100\tgood\tbad\ndimension\tPlace\nnode\t0\tAll\nnode\t1\tParis, TX\nnode\t1\tThe \"Hub\"\ndimension\tAuto\nnode\t0\tCamry\nend\n";
 
 /// Two repairs, behind a byte order mark.
 const TWO_REPAIRS: &str =
@@ -39,7 +45,9 @@ const NO_PLACE: &str = "id,Place\n";
 
 const NO_MOOD: &str = "id,Place,Mood\n";
 
-const FILES: [File; 38] = [
+const NO_MIXED: &str = "id,Place,Auto,Repair,Mood\n";
+
+const FILES: [File; 68] = [
     (
         PARIS,
         b"\xef\xbb\xbfid,Place,Auto,Repair\r\n1,\"Paris, TX\",Camry,100\r\n2,TX,Camry,600\n",
@@ -280,6 +288,211 @@ const FILES: [File; 38] = [
         "imported\t3\t3\n",
         "id,Place\n1,a\n3,b\n9223372036854775807,All\n",
     ),
+    // Of two measures: the header, records of any length, one wrong field or more.
+    (MIXED, b"\n\n", Some((0, Code::Header)), "", NO_MIXED),
+    (
+        MIXED,
+        b"id,Place,Auto,Repair\n",
+        Some((0, Code::Header)),
+        "",
+        NO_MIXED,
+    ),
+    (
+        MIXED,
+        b"id,Place,Auto,Mood,Repair\n",
+        Some((0, Code::Header)),
+        "",
+        NO_MIXED,
+    ),
+    (
+        MIXED,
+        b"Id,Place,Auto,Repair,Mood\n",
+        Some((0, Code::Header)),
+        "",
+        NO_MIXED,
+    ),
+    (
+        MIXED,
+        b"id,Place,Auto,Repair,Mood,\n",
+        Some((0, Code::Header)),
+        "",
+        NO_MIXED,
+    ),
+    (
+        MIXED,
+        b"id,Place,Auto,Repair, Mood\n",
+        Some((0, Code::Header)),
+        "",
+        NO_MIXED,
+    ),
+    (
+        MIXED,
+        b"\xef\xbb\xbf\xef\xbb\xbfid,Place,Auto,Repair,Mood\n",
+        Some((0, Code::Header)),
+        "",
+        NO_MIXED,
+    ),
+    (
+        MIXED,
+        b"1,All,Camry,1,50:50\n",
+        Some((0, Code::Header)),
+        "",
+        NO_MIXED,
+    ),
+    (
+        MIXED,
+        b"id,Place,Auto,Repair,Mood\n",
+        None,
+        "imported\t0\t0\n",
+        NO_MIXED,
+    ),
+    (
+        MIXED,
+        b"id,Place,Auto,Repair,Mood",
+        None,
+        "imported\t0\t0\n",
+        NO_MIXED,
+    ),
+    (
+        MIXED,
+        b"\n\r\n\"id\",Place,\"Auto\",Repair,Mood\r\n\r\n",
+        None,
+        "imported\t0\t0\n",
+        NO_MIXED,
+    ),
+    (
+        MIXED,
+        b"\xef\xbb\xbfid,Place,Auto,Repair,Mood\r\n2,\"Paris, TX\",Camry,-7,80:20\r\n1,\"The \"\"Hub\"\"\",Camry,600,0:100",
+        None,
+        "imported\t2\t2\n",
+        "id,Place,Auto,Repair,Mood\n1,\"The \"\"Hub\"\"\",Camry,600,0:100\n2,\"Paris, TX\",Camry,-7,80:20\n",
+    ),
+    (
+        MIXED,
+        b"id,Place,Auto,Repair,Mood\n9223372036854775807,All,Camry,-1000000000000,100:0\n",
+        None,
+        "imported\t1\t1\n",
+        "id,Place,Auto,Repair,Mood\n9223372036854775807,All,Camry,-1000000000000,100:0\n",
+    ),
+    (
+        MIXED,
+        b"id,Place,Auto,Repair,Mood\n1,All,Camry,1,50:50\n1,All,Camry,1,50:50\n",
+        Some((2, Code::Exists)),
+        "",
+        NO_MIXED,
+    ),
+    (
+        MIXED,
+        b"id,Place,Auto,Repair,Mood\n1,All,Camry,1,50:50\n2,All,Camry,1\n",
+        Some((2, Code::Fields)),
+        "",
+        NO_MIXED,
+    ),
+    (
+        MIXED,
+        b"id,Place,Auto,Repair,Mood\n1,All,Camry,1,50:50\n2,All,Camry,1,50:50,\n",
+        Some((2, Code::Fields)),
+        "",
+        NO_MIXED,
+    ),
+    (
+        MIXED,
+        b"id,Place,Auto,Repair,Mood\n1,All,Camry,1,50:50\n\"\"\n",
+        Some((2, Code::Fields)),
+        "",
+        NO_MIXED,
+    ),
+    (
+        MIXED,
+        b"id,Place,Auto,Repair,Mood\n\n1,All,Camry,1,50:50\n\r\n\n2,All,Camry,1,\n3\n",
+        Some((2, Code::Parts)),
+        "",
+        NO_MIXED,
+    ),
+    (
+        MIXED,
+        b"id,Place,Auto,Repair,Mood\n\xff\n",
+        Some((1, Code::Fields)),
+        "",
+        NO_MIXED,
+    ),
+    (
+        MIXED,
+        b"id,Place,Auto,Repair,Mood\n2,All,Camry,1,50:50,\xff\n",
+        Some((1, Code::Fields)),
+        "",
+        NO_MIXED,
+    ),
+    (
+        MIXED,
+        b"id,Place,Auto,Repair,Mood\n0,\xff,Camry,1,50:50\n",
+        Some((1, Code::Text)),
+        "",
+        NO_MIXED,
+    ),
+    (
+        MIXED,
+        b"id,Place,Auto,Repair,Mood\n0,Waco,Camry,1,50:50\n",
+        Some((1, Code::Id)),
+        "",
+        NO_MIXED,
+    ),
+    (
+        MIXED,
+        b"id,Place,Auto,Repair,Mood\n01,All,Camry,1,50:50\n",
+        Some((1, Code::Id)),
+        "",
+        NO_MIXED,
+    ),
+    (
+        MIXED,
+        b"id,Place,Auto,Repair,Mood\n9223372036854775808,All,Camry,1,50:50\n",
+        Some((1, Code::Id)),
+        "",
+        NO_MIXED,
+    ),
+    (
+        MIXED,
+        b"id,Place,Auto,Repair,Mood\n1, All,Camry,+1,50:50\n",
+        Some((1, Code::Node)),
+        "",
+        NO_MIXED,
+    ),
+    (
+        MIXED,
+        b"id,Place,Auto,Repair,Mood\n1,\"The\nHub\",Camry,x,50:50\n",
+        Some((1, Code::Node)),
+        "",
+        NO_MIXED,
+    ),
+    (
+        MIXED,
+        b"id,Place,Auto,Repair,Mood\n1,All,Camry,1000000000001,51:50\n",
+        Some((1, Code::Value)),
+        "",
+        NO_MIXED,
+    ),
+    (
+        MIXED,
+        b"id,Place,Auto,Repair,Mood\n1,All,Camry,-0,51:50\n",
+        Some((1, Code::Value)),
+        "",
+        NO_MIXED,
+    ),
+    (
+        MIXED,
+        b"id,Place,Auto,Repair,Mood\n1,All,Camry,1,51:50\n",
+        Some((1, Code::Parts)),
+        "",
+        NO_MIXED,
+    ),
+    (
+        MIXED,
+        b"id,Place,Auto,Repair,Mood\n1,All,Camry,1,100\n",
+        Some((1, Code::Parts)),
+        "",
+        NO_MIXED,
+    ),
 ];
 
 /// The end of an import of which this record is refused, if one is.
@@ -302,15 +515,14 @@ fn is_exported(alloc: Global, keeper: &mut MemKeeper, text: &str) -> Result<bool
 /// Whether a file is imported as a case says, by one batch or none.
 pub fn is_imported(alloc: Global, row: &File) -> Result<bool, Memory> {
     let (schema, file, refused, written, exported) = *row;
-    let mut keeper = keeper_of(alloc, schema, &[], &[], &[])?;
-    let ran = run_kept(alloc, &["import", "s"], file, &WHOLE, &mut keeper)?;
+    let mut kept = run_stored(alloc, "import", without_facts(schema), 0, file, &WHOLE)?;
     let batches = if refused.is_none() { 1 } else { 0 };
-    Ok(
-        ran.is(end_of(refused), written)
-            && ran.left == 0
-            && keeper.journal().len() == batches
-            && is_exported(alloc, &mut keeper, exported)?,
-    )
+    let is_right = kept.ran.is(end_of(refused), written)
+        && kept.ran.left == 0
+        && kept.keeper.journal().len() == batches
+        && is_exported(alloc, &mut kept.keeper, exported) == Ok(true);
+    drop(kept);
+    Ok(is_right)
 }
 
 fn are_imported(alloc: Global, rows: &[File]) -> bool {
@@ -342,28 +554,30 @@ const FIVE_SPREADS: [SpreadRow; 5] = [
 /// The spreads that change.
 const LATER_SPREADS: [SpreadRow; 2] = [(4, 4, &[(0, 2), (1, 2)]), (5, 1, &[(1, 1)])];
 
+/// Whether a batch has the new fact, and the rows of it and of the fourth.
+fn is_later(batch: &Batch) -> bool {
+    batch.schema.is_none()
+        && batch.gone.as_slice().is_empty()
+        && batch.facts.as_slice().len() == 1
+        && batch.rows.as_slice().len() == LATER_SPREADS.len()
+        && (batch.rows.as_slice().iter())
+            .zip(&LATER_SPREADS)
+            .all(|(kept, row)| is_spread(kept, row))
+}
+
 /// Whether a file over facts keeps its own, and the rows of those that lie otherwise.
 fn keeps_what_changed(alloc: Global) -> Result<bool, Memory> {
-    let mut keeper = keeper_of(alloc, CITIES, &FACTS, &SPREADS, &[])?;
     let file = b"id,Place,Hours\n5,Dallas,50\n";
-    let ran = run_kept(alloc, &["import", "s"], file, &WHOLE, &mut keeper)?;
-    let is_batch = match keeper.journal() {
-        [batch] => {
-            batch.schema.is_none()
-                && batch.gone.as_slice().is_empty()
-                && batch.facts.as_slice().len() == 1
-                && batch.rows.as_slice().len() == LATER_SPREADS.len()
-                && (batch.rows.as_slice().iter())
-                    .zip(&LATER_SPREADS)
-                    .all(|(kept, row)| is_spread(kept, row))
-        }
+    let kept = run_stored(alloc, "import", (CITIES, &FACTS, &SPREADS), 0, file, &WHOLE)?;
+    let is_batch = match kept.keeper.journal() {
+        [batch] => is_later(batch),
         _ => false,
     };
-    Ok(
-        is_batch
-            && ran.is(DONE, "imported\t1\t2\n")
-            && holds_just(keeper.content(), &FIVE_FACTS, &FIVE_SPREADS),
-    )
+    let is_right = is_batch
+        && kept.ran.is(DONE, "imported\t1\t2\n")
+        && holds_just(kept.keeper.content(), &FIVE_FACTS, &FIVE_SPREADS);
+    drop(kept);
+    Ok(is_right)
 }
 
 #[test]
@@ -407,13 +621,20 @@ const LARGE: [(&[u8], Ending, &str); 3] = [
     ),
 ];
 
+/// Whether the import of a file over the large schema ends so.
+fn ends_large(alloc: Global, schema: &str, row: &(&[u8], Ending, &str)) -> Result<bool, Memory> {
+    let (file, end, written) = *row;
+    let kept = run_stored(alloc, "import", without_facts(schema), 0, file, &WHOLE)?;
+    let is_right = kept.ran.is(end, written);
+    drop(kept);
+    Ok(is_right)
+}
+
 /// Whether files end so over a large schema.
 fn are_large(alloc: Global, rows: &[(&[u8], Ending, &str)]) -> Result<bool, Memory> {
     let schema = large_schema(alloc)?;
-    for (file, end, written) in rows {
-        let mut keeper = keeper_of(alloc, &schema, &[], &[], &[])?;
-        let ran = run_kept(alloc, &["import", "s"], file, &WHOLE, &mut keeper)?;
-        if !ran.is(*end, written) {
+    for row in rows {
+        if !ends_large(alloc, &schema, row)? {
             return Ok(false);
         }
     }
@@ -437,16 +658,12 @@ fn many_facts(alloc: Global, count: u32) -> Result<String, AllocError> {
 /// Whether a file of one fact more than there may be is refused at the last.
 fn are_too_many(alloc: Global) -> Result<bool, Memory> {
     let file = many_facts(alloc, 1_048_577)?;
-    let mut keeper = keeper_of(alloc, PLACES, &[], &[], &[])?;
-    let ran = run_kept(
-        alloc,
-        &["import", "s"],
-        file.as_bytes(),
-        &WHOLE,
-        &mut keeper,
-    )?;
+    let content = without_facts(PLACES);
+    let kept = run_stored(alloc, "import", content, 0, file.as_bytes(), &WHOLE)?;
     let end = end_of(Some((1_048_577, Code::Facts)));
-    Ok(ran.is(end, "") && keeper.journal().is_empty())
+    let is_right = kept.ran.is(end, "") && kept.keeper.journal().is_empty();
+    drop(kept);
+    Ok(is_right)
 }
 
 #[test]

@@ -273,18 +273,25 @@ fn is_said(
     Ok(ran.is(Ending::Finished { refused: 0 }, replies))
 }
 
-/// Whether a growth of the repairs in a store is answered and kept so, the store is sound then, and is asked.
-fn is_kept(alloc: Global, row: &Kept) -> Result<bool, Memory> {
+/// Whether a growth of a store is answered and kept so, the store is sound then, and is asked.
+fn is_kept_in(alloc: Global, keeper: &mut MemKeeper, row: &Kept) -> Result<bool, Memory> {
     let (growth, text, rows, spreads, asked) = *row;
-    let mut keeper = keeper_of(alloc, REPAIRS, &REPAIR_FACTS, &REPAIR_SPREADS, &[])?;
     Ok(
-        is_said(alloc, &mut keeper, "run", growth)?
-            && has_batch(&keeper, rows)
+        is_said(alloc, keeper, "run", growth)?
+            && has_batch(keeper, rows)
             && keeper.content().schema.as_slice() == text.as_bytes()
             && holds_just(keeper.content(), &REPAIR_FACTS, spreads)
-            && is_said(alloc, &mut keeper, "check", ("", "sound\t4\t5\n"))?
-            && is_said(alloc, &mut keeper, "run", asked)?,
+            && is_said(alloc, keeper, "check", ("", "sound\t4\t5\n"))?
+            && is_said(alloc, keeper, "run", asked)?,
     )
+}
+
+/// Whether a growth of the repairs in a store is answered and kept so, the store is sound then, and is asked.
+fn is_kept(alloc: Global, row: &Kept) -> Result<bool, Memory> {
+    let mut keeper = keeper_of(alloc, REPAIRS, &REPAIR_FACTS, &REPAIR_SPREADS, &[])?;
+    let kept = is_kept_in(alloc, &mut keeper, row);
+    drop(keeper);
+    kept
 }
 
 fn are_kept(alloc: Global, rows: &[Kept]) -> bool {

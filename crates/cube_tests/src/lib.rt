@@ -4,6 +4,8 @@
 #[cfg(test)]
 mod calls;
 #[cfg(test)]
+mod cubes;
+#[cfg(test)]
 mod distributions;
 #[cfg(test)]
 mod drills;
@@ -20,6 +22,8 @@ mod fractions;
 #[cfg(test)]
 mod growths;
 #[cfg(test)]
+mod large_cubes;
+#[cfg(test)]
 mod limits;
 #[cfg(test)]
 mod lines;
@@ -29,6 +33,8 @@ mod replies;
 mod runs;
 #[cfg(test)]
 mod schemas;
+#[cfg(test)]
+mod steps;
 #[cfg(test)]
 mod store_faults;
 #[cfg(test)]

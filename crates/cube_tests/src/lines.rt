@@ -6,291 +6,342 @@ use std::alloc::{AllocError, Global};
 /// The most bytes of a line.
 const MAX_LINE: usize = 4096;
 
-/// A line over the schema of repairs, and why it is refused.
-const REFUSED: [(&[u8], Code); 153] = [
-    (b"insert\t1\tAustin\tCam\x01ry\t1", Code::Text),
-    (b"insert\t1\tAus\xfftin\tCamry\t1", Code::Text),
-    (b"insert\t1\tAustin\tCamry\t1\x7f", Code::Text),
-    (b"insert\t1\tAustin\tCamry\t1\r\r", Code::Text),
-    (b"Insert\t1\tAustin\tCamry\t1", Code::Command),
-    (b"inserts\t1\tAustin\tCamry\t1", Code::Command),
-    (b"inser\t1\tAustin\tCamry\t1", Code::Command),
-    (b"insert", Code::Fields),
-    (b"insert\t1\tAustin\tCamry", Code::Fields),
-    (b"insert\t1\tAustin\tCamry\t1\t", Code::Fields),
-    (b"insert\t0\tAustin\tCamry\t1", Code::Id),
-    (b"insert\t\tAustin\tCamry\t1", Code::Id),
-    (b"insert\t01\tAustin\tCamry\t1", Code::Id),
-    (b"insert\t+1\tAustin\tCamry\t1", Code::Id),
-    (b"insert\t-1\tAustin\tCamry\t1", Code::Id),
-    (b"insert\t9223372036854775808\tAustin\tCamry\t1", Code::Id),
-    (b"insert\t18446744073709551617\tAustin\tCamry\t1", Code::Id),
-    (b"insert\t1\tWaco\tCamry\t1", Code::Node),
-    (b"insert\t1\tAustin\tCorolla\t1", Code::Node),
-    (b"insert\t1\tCamry\tAustin\t1", Code::Node),
-    (b"insert\t1\t\tCamry\t1", Code::Node),
-    (b"insert\t1\taustin\tCamry\t1", Code::Node),
-    (b"insert\t1\tLA\tCivic\t1000000000001", Code::Value),
-    (b"insert\t1\tLA\tCivic\t-1000000000001", Code::Value),
-    (b"insert\t1\tLA\tCivic\t18446744073709551617", Code::Value),
-    (b"insert\t1\tLA\tCivic\t+5", Code::Value),
-    (b"insert\t1\tLA\tCivic\t05", Code::Value),
-    (b"insert\t1\tLA\tCivic\t-0", Code::Value),
-    (b"insert\t1\tLA\tCivic\t", Code::Value),
-    (b"insert\t1\tLA\tCivic\t-", Code::Value),
-    (b"change\t1\tAustin\tCamry\t1\x01", Code::Text),
-    (b"change\t1\tAustin\tCamry\xc3\t1", Code::Text),
-    (b"change\x7f\t1\tAustin\tCamry\t1", Code::Text),
-    (b"Change\t1\tAustin\tCamry\t1", Code::Command),
-    (b"changes\t1\tAustin\tCamry\t1", Code::Command),
-    (b"chang\t1\tAustin\tCamry\t1", Code::Command),
-    (b"change", Code::Fields),
-    (b"change\t1\tAustin\tCamry", Code::Fields),
-    (b"change\t1\tAustin\tCamry\t1\t1", Code::Fields),
-    (b"change\t0\tAustin\tCamry\t1", Code::Id),
-    (b"change\t 1\tAustin\tCamry\t1", Code::Id),
-    (b"change\t00\tAustin\tCamry\t1", Code::Id),
-    (b"change\t9223372036854775808\tAustin\tCamry\t1", Code::Id),
-    (b"change\t1\tWaco\tCamry\t1", Code::Node),
-    (b"change\t1\tAustin\tWaco\t1", Code::Node),
-    (b"change\t1\tAustin\t\t1", Code::Node),
-    (b"change\t1\tAustin \tCamry\t1", Code::Node),
-    (b"change\t1\tAustin\tCamry\t+5", Code::Value),
-    (b"change\t1\tAustin\tCamry\t1000000000001", Code::Value),
-    (b"change\t1\tAustin\tCamry\t-1000000000001", Code::Value),
-    (b"change\t1\tAustin\tCamry\t-01", Code::Value),
-    (b"change\t1\tAustin\tCamry\t1.0", Code::Value),
-    (b"change\t1\tAustin\tCamry\t", Code::Value),
-    (b"withdraw\t1\x01", Code::Text),
-    (b"withdraw\t\xff", Code::Text),
-    (b"withdraw\t1\x7f", Code::Text),
-    (b"Withdraw\t1", Code::Command),
-    (b"withdraws\t1", Code::Command),
-    (b"withdra\t1", Code::Command),
-    (b"withdraw", Code::Fields),
-    (b"withdraw\t1\t", Code::Fields),
-    (b"withdraw\t0", Code::Id),
-    (b"withdraw\t", Code::Id),
-    (b"withdraw\t01", Code::Id),
-    (b"withdraw\t-1", Code::Id),
-    (b"withdraw\t1 ", Code::Id),
-    (b"withdraw\t9223372036854775808", Code::Id),
-    (b"terms\tAustin\tCam\x01", Code::Text),
-    (b"terms\tAus\xfftin\tCamry", Code::Text),
-    (b"terms\tAustin\tCamry\x7f", Code::Text),
-    (b"terms\r\tAustin\tCamry", Code::Text),
-    (b"Terms\tAustin\tCamry", Code::Command),
-    (b"term\tAustin\tCamry", Code::Command),
-    (b"terms \tAustin\tCamry", Code::Command),
-    (b"terms", Code::Fields),
-    (b"terms\tAustin", Code::Fields),
-    (b"terms\tAustin\tCamry\t", Code::Fields),
-    (b"terms\tWaco\tCamry", Code::Node),
-    (b"terms\tAustin\tWaco", Code::Node),
-    (b"terms\tCamry\tAustin", Code::Node),
-    (b"terms\t\tCamry", Code::Node),
-    (b"terms\tAustin\t", Code::Node),
-    (b"terms\taustin\tCamry", Code::Node),
-    (b"rows\t1\x01", Code::Text),
-    (b"rows\t\xc3", Code::Text),
-    (b"rows\t\x7f", Code::Text),
-    (b"Rows\t1", Code::Command),
-    (b"row\t1", Code::Command),
-    (b" rows\t1", Code::Command),
-    (b"rows", Code::Fields),
-    (b"rows\t1\t1", Code::Fields),
-    (b"rows\t0", Code::Id),
-    (b"rows\t", Code::Id),
-    (b"rows\t01", Code::Id),
-    (b"rows\t+1", Code::Id),
-    (b"rows\tone", Code::Id),
-    (b"rows\t9223372036854775808", Code::Id),
-    (b"Insert\t1\tAustin\tCamry\t1\x01", Code::Text),
-    (b"insert\t1\tAustin\tCam\x01ry", Code::Text),
-    (b"insert\t1\x01\tAustin\tCamry\t1", Code::Text),
-    (b"insert\t1\tAustin\tCamry\t\x7f", Code::Text),
-    (b"Insert\t1\tAustin\tCamry", Code::Command),
-    (b"Insert\t0\tAustin\tCamry\t1", Code::Command),
-    (b"Insert\t1\tWaco\tCamry\t1", Code::Command),
-    (b"Insert\t1\tAustin\tCamry\t+5", Code::Command),
-    (b"insert\t0\tAustin\tCamry", Code::Fields),
-    (b"insert\t1\tAustin\tWaco", Code::Fields),
-    (b"insert\t1\tAustin\tCamry\t+5\t", Code::Fields),
-    (b"insert\t0\tAustin\tWaco\t1", Code::Id),
-    (b"insert\t0\tAustin\tCamry\t+5", Code::Id),
-    (b"insert\t0\tWaco\tCamry\t+5", Code::Id),
-    (b"insert\t1\tWaco\tCamry\t+5", Code::Node),
-    (b"insert\t1\tAustin\tWaco\t+5", Code::Node),
-    (b"Change\t1\tAustin\tCamry\t1\x01", Code::Text),
-    (b"change\t1\tAustin\tCam\x01ry", Code::Text),
-    (b"change\t1\x01\tAustin\tCamry\t1", Code::Text),
-    (b"change\t1\tAus\xfftin\tCamry\t1", Code::Text),
-    (b"change\t1\tAustin\tCamry\t\x7f", Code::Text),
-    (b"Change\t1\tAustin\tCamry", Code::Command),
-    (b"Change\t0\tAustin\tCamry\t1", Code::Command),
-    (b"Change\t1\tWaco\tCamry\t1", Code::Command),
-    (b"Change\t1\tAustin\tCamry\t+5", Code::Command),
-    (b"change\t0\tAustin\tCamry", Code::Fields),
-    (b"change\t1\tAustin\tWaco", Code::Fields),
-    (b"change\t1\tAustin\tCamry\t+5\t", Code::Fields),
-    (b"change\t0\tAustin\tWaco\t1", Code::Id),
-    (b"change\t0\tAustin\tCamry\t+5", Code::Id),
-    (b"change\t0\tWaco\tCamry\tx", Code::Id),
-    (b"change\t1\tWaco\tCamry\t+5", Code::Node),
-    (b"change\t1\tAustin\tWaco\t+5", Code::Node),
-    (b"Withdraw\t1\x01", Code::Text),
-    (b"withdraw\t1\t\x01", Code::Text),
-    (b"Withdraw", Code::Command),
-    (b"Withdraw\t0", Code::Command),
-    (b"withdraw\t0\tx", Code::Fields),
-    (b"withdraw\tx\t1", Code::Fields),
-    (b"Terms\tAustin\tCamry\x01", Code::Text),
-    (b"terms\tAustin\x01", Code::Text),
-    (b"terms\tAustin\tCam\x7fry", Code::Text),
-    (b"Terms\tAustin", Code::Command),
-    (b"Terms\tWaco\tCamry", Code::Command),
-    (b"terms\tWaco", Code::Fields),
-    (b"terms\tAustin\tWaco\t", Code::Fields),
-    (b"Rows\t1\x01", Code::Text),
-    (b"rows\t1\t\x01", Code::Text),
-    (b"rows\t\xff", Code::Text),
-    (b"Rows", Code::Command),
-    (b"Rows\t0", Code::Command),
-    (b"rows\t0\tx", Code::Fields),
-    (b"rows\tx\t1", Code::Fields),
-    (b"\xff", Code::Text),
-    (b"count\r\tAustin\tCamry", Code::Text),
-    (b"\t", Code::Command),
+/// Lines over the schema of repairs, by the code for which each of them is refused.
+const REFUSED: [(Code, &[u8]); 6] = [
+    (
+        Code::Text,
+        b"insert\t1\tAustin\tCam\x01ry\t1\n\
+            insert\t1\tAus\xfftin\tCamry\t1\n\
+            insert\t1\tAustin\tCamry\t1\x7f\n\
+            insert\t1\tAustin\tCamry\t1\r\r\n\
+            change\t1\tAustin\tCamry\t1\x01\n\
+            change\t1\tAustin\tCamry\xc3\t1\n\
+            change\x7f\t1\tAustin\tCamry\t1\n\
+            withdraw\t1\x01\n\
+            withdraw\t\xff\n\
+            withdraw\t1\x7f\n\
+            terms\tAustin\tCam\x01\n\
+            terms\tAus\xfftin\tCamry\n\
+            terms\tAustin\tCamry\x7f\n\
+            terms\r\tAustin\tCamry\n\
+            rows\t1\x01\n\
+            rows\t\xc3\n\
+            rows\t\x7f\n\
+            Insert\t1\tAustin\tCamry\t1\x01\n\
+            insert\t1\tAustin\tCam\x01ry\n\
+            insert\t1\x01\tAustin\tCamry\t1\n\
+            insert\t1\tAustin\tCamry\t\x7f\n\
+            Change\t1\tAustin\tCamry\t1\x01\n\
+            change\t1\tAustin\tCam\x01ry\n\
+            change\t1\x01\tAustin\tCamry\t1\n\
+            change\t1\tAus\xfftin\tCamry\t1\n\
+            change\t1\tAustin\tCamry\t\x7f\n\
+            Withdraw\t1\x01\n\
+            withdraw\t1\t\x01\n\
+            Terms\tAustin\tCamry\x01\n\
+            terms\tAustin\x01\n\
+            terms\tAustin\tCam\x7fry\n\
+            Rows\t1\x01\n\
+            rows\t1\t\x01\n\
+            rows\t\xff\n\
+            \xff\n\
+            count\r\tAustin\tCamry\n",
+    ),
+    (
+        Code::Command,
+        b"Insert\t1\tAustin\tCamry\t1\n\
+            inserts\t1\tAustin\tCamry\t1\n\
+            inser\t1\tAustin\tCamry\t1\n\
+            Change\t1\tAustin\tCamry\t1\n\
+            changes\t1\tAustin\tCamry\t1\n\
+            chang\t1\tAustin\tCamry\t1\n\
+            Withdraw\t1\n\
+            withdraws\t1\n\
+            withdra\t1\n\
+            Terms\tAustin\tCamry\n\
+            term\tAustin\tCamry\n\
+            terms \tAustin\tCamry\n\
+            Rows\t1\n\
+            row\t1\n\
+            \x20rows\t1\n\
+            Insert\t1\tAustin\tCamry\n\
+            Insert\t0\tAustin\tCamry\t1\n\
+            Insert\t1\tWaco\tCamry\t1\n\
+            Insert\t1\tAustin\tCamry\t+5\n\
+            Change\t1\tAustin\tCamry\n\
+            Change\t0\tAustin\tCamry\t1\n\
+            Change\t1\tWaco\tCamry\t1\n\
+            Change\t1\tAustin\tCamry\t+5\n\
+            Withdraw\n\
+            Withdraw\t0\n\
+            Terms\tAustin\n\
+            Terms\tWaco\tCamry\n\
+            Rows\n\
+            Rows\t0\n\
+            \t\n",
+    ),
+    (
+        Code::Fields,
+        b"insert\n\
+            insert\t1\tAustin\tCamry\n\
+            insert\t1\tAustin\tCamry\t1\t\n\
+            change\n\
+            change\t1\tAustin\tCamry\n\
+            change\t1\tAustin\tCamry\t1\t1\n\
+            withdraw\n\
+            withdraw\t1\t\n\
+            terms\n\
+            terms\tAustin\n\
+            terms\tAustin\tCamry\t\n\
+            rows\n\
+            rows\t1\t1\n\
+            insert\t0\tAustin\tCamry\n\
+            insert\t1\tAustin\tWaco\n\
+            insert\t1\tAustin\tCamry\t+5\t\n\
+            change\t0\tAustin\tCamry\n\
+            change\t1\tAustin\tWaco\n\
+            change\t1\tAustin\tCamry\t+5\t\n\
+            withdraw\t0\tx\n\
+            withdraw\tx\t1\n\
+            terms\tWaco\n\
+            terms\tAustin\tWaco\t\n\
+            rows\t0\tx\n\
+            rows\tx\t1\n",
+    ),
+    (
+        Code::Id,
+        b"insert\t0\tAustin\tCamry\t1\n\
+            insert\t\tAustin\tCamry\t1\n\
+            insert\t01\tAustin\tCamry\t1\n\
+            insert\t+1\tAustin\tCamry\t1\n\
+            insert\t-1\tAustin\tCamry\t1\n\
+            insert\t9223372036854775808\tAustin\tCamry\t1\n\
+            insert\t18446744073709551617\tAustin\tCamry\t1\n\
+            change\t0\tAustin\tCamry\t1\n\
+            change\t 1\tAustin\tCamry\t1\n\
+            change\t00\tAustin\tCamry\t1\n\
+            change\t9223372036854775808\tAustin\tCamry\t1\n\
+            withdraw\t0\n\
+            withdraw\t\n\
+            withdraw\t01\n\
+            withdraw\t-1\n\
+            withdraw\t1 \n\
+            withdraw\t9223372036854775808\n\
+            rows\t0\n\
+            rows\t\n\
+            rows\t01\n\
+            rows\t+1\n\
+            rows\tone\n\
+            rows\t9223372036854775808\n\
+            insert\t0\tAustin\tWaco\t1\n\
+            insert\t0\tAustin\tCamry\t+5\n\
+            insert\t0\tWaco\tCamry\t+5\n\
+            change\t0\tAustin\tWaco\t1\n\
+            change\t0\tAustin\tCamry\t+5\n\
+            change\t0\tWaco\tCamry\tx\n",
+    ),
+    (
+        Code::Node,
+        b"insert\t1\tWaco\tCamry\t1\n\
+            insert\t1\tAustin\tCorolla\t1\n\
+            insert\t1\tCamry\tAustin\t1\n\
+            insert\t1\t\tCamry\t1\n\
+            insert\t1\taustin\tCamry\t1\n\
+            change\t1\tWaco\tCamry\t1\n\
+            change\t1\tAustin\tWaco\t1\n\
+            change\t1\tAustin\t\t1\n\
+            change\t1\tAustin \tCamry\t1\n\
+            terms\tWaco\tCamry\n\
+            terms\tAustin\tWaco\n\
+            terms\tCamry\tAustin\n\
+            terms\t\tCamry\n\
+            terms\tAustin\t\n\
+            terms\taustin\tCamry\n\
+            insert\t1\tWaco\tCamry\t+5\n\
+            insert\t1\tAustin\tWaco\t+5\n\
+            change\t1\tWaco\tCamry\t+5\n\
+            change\t1\tAustin\tWaco\t+5\n",
+    ),
+    (
+        Code::Value,
+        b"insert\t1\tLA\tCivic\t1000000000001\n\
+            insert\t1\tLA\tCivic\t-1000000000001\n\
+            insert\t1\tLA\tCivic\t18446744073709551617\n\
+            insert\t1\tLA\tCivic\t+5\n\
+            insert\t1\tLA\tCivic\t05\n\
+            insert\t1\tLA\tCivic\t-0\n\
+            insert\t1\tLA\tCivic\t\n\
+            insert\t1\tLA\tCivic\t-\n\
+            change\t1\tAustin\tCamry\t+5\n\
+            change\t1\tAustin\tCamry\t1000000000001\n\
+            change\t1\tAustin\tCamry\t-1000000000001\n\
+            change\t1\tAustin\tCamry\t-01\n\
+            change\t1\tAustin\tCamry\t1.0\n\
+            change\t1\tAustin\tCamry\t\n",
+    ),
 ];
 
 /// The same of words that ask for one number.
-const REFUSED_QUESTIONS: [(&[u8], Code); 107] = [
-    (b"view\tnone", Code::Name),
-    (b"view\tState", Code::Name),
-    (b"view\t", Code::Name),
-    (b"view\tstate\t1", Code::Fields),
-    (b"view", Code::Fields),
-    (b"View\tnone", Code::Command),
-    (b"count\tAustin\tCam\x01", Code::Text),
-    (b"count\tAus\xfftin\tCamry", Code::Text),
-    (b"Count\tAustin\tCamry", Code::Command),
-    (b"count \tAustin\tCamry", Code::Command),
-    (b"count", Code::Fields),
-    (b"count\tAustin", Code::Fields),
-    (b"count\tAustin\tCamry\t", Code::Fields),
-    (b"count\tWaco\tCamry", Code::Node),
-    (b"count\tAustin\tWaco", Code::Node),
-    (b"count\tCamry\tAustin", Code::Node),
-    (b"count\t\tCamry", Code::Node),
-    (b"Count\tAustin\tCamry\x01", Code::Text),
-    (b"Count\tAustin", Code::Command),
-    (b"Count\tWaco\tCamry", Code::Command),
-    (b"count\tWaco", Code::Fields),
-    (b"sum\tRepair\tAustin\tCam\x01", Code::Text),
-    (b"sum\tRepair\tAus\xfftin\tCamry", Code::Text),
-    (b"Sum\tRepair\tAustin\tCamry", Code::Command),
-    (b"sum \tRepair\tAustin\tCamry", Code::Command),
-    (b"sum", Code::Fields),
-    (b"sum\tRepair\tAustin", Code::Fields),
-    (b"sum\tRepair\tAustin\tCamry\t", Code::Fields),
-    (b"sum\tRepair\tWaco\tCamry", Code::Node),
-    (b"sum\tRepair\tAustin\tWaco", Code::Node),
-    (b"sum\tRepair\tCamry\tAustin", Code::Node),
-    (b"sum\tRepair\t\tCamry", Code::Node),
-    (b"sum\tPrice\tAustin\tCamry", Code::Measure),
-    (b"sum\t\tAustin\tCamry", Code::Measure),
-    (b"sum\trepair\tAustin\tCamry", Code::Measure),
-    (b"sum\tRepair \tAustin\tCamry", Code::Measure),
-    (b"sum\tPrice\tWaco\tCamry", Code::Node),
-    (b"sum\t\tAustin\t", Code::Node),
-    (b"sum\tPrice\tAustin", Code::Fields),
-    (b"Sum\tRepair\tAustin\tCamry\x01", Code::Text),
-    (b"Sum\tRepair\tAustin", Code::Command),
-    (b"Sum\tRepair\tWaco\tCamry", Code::Command),
-    (b"sum\tRepair\tWaco", Code::Fields),
-    (b"avg\tRepair\tAustin\tCam\x01", Code::Text),
-    (b"avg\tRepair\tAus\xfftin\tCamry", Code::Text),
-    (b"Avg\tRepair\tAustin\tCamry", Code::Command),
-    (b"avg \tRepair\tAustin\tCamry", Code::Command),
-    (b"avg", Code::Fields),
-    (b"avg\tRepair\tAustin", Code::Fields),
-    (b"avg\tRepair\tAustin\tCamry\t", Code::Fields),
-    (b"avg\tRepair\tWaco\tCamry", Code::Node),
-    (b"avg\tRepair\tAustin\tWaco", Code::Node),
-    (b"avg\tRepair\tCamry\tAustin", Code::Node),
-    (b"avg\tRepair\t\tCamry", Code::Node),
-    (b"avg\tPrice\tAustin\tCamry", Code::Measure),
-    (b"avg\t\tAustin\tCamry", Code::Measure),
-    (b"avg\trepair\tAustin\tCamry", Code::Measure),
-    (b"avg\tRepair \tAustin\tCamry", Code::Measure),
-    (b"avg\tPrice\tWaco\tCamry", Code::Node),
-    (b"avg\t\tAustin\t", Code::Node),
-    (b"avg\tPrice\tAustin", Code::Fields),
-    (b"Avg\tRepair\tAustin\tCamry\x01", Code::Text),
-    (b"Avg\tRepair\tAustin", Code::Command),
-    (b"Avg\tRepair\tWaco\tCamry", Code::Command),
-    (b"avg\tRepair\tWaco", Code::Fields),
-    (b"pool\tRepair\tAustin\tCam\x01", Code::Text),
-    (b"pool\tRepair\tAus\xfftin\tCamry", Code::Text),
-    (b"Pool\tRepair\tAustin\tCamry", Code::Command),
-    (b"pool \tRepair\tAustin\tCamry", Code::Command),
-    (b"pool", Code::Fields),
-    (b"pool\tRepair\tAustin", Code::Fields),
-    (b"pool\tRepair\tAustin\tCamry\t", Code::Fields),
-    (b"pool\tRepair\tWaco\tCamry", Code::Node),
-    (b"pool\tRepair\tAustin\tWaco", Code::Node),
-    (b"pool\tRepair\tCamry\tAustin", Code::Node),
-    (b"pool\tRepair\t\tCamry", Code::Node),
-    (b"pool\tPrice\tAustin\tCamry", Code::Measure),
-    (b"pool\t\tAustin\tCamry", Code::Measure),
-    (b"pool\trepair\tAustin\tCamry", Code::Measure),
-    (b"pool\tRepair \tAustin\tCamry", Code::Measure),
-    (b"pool\tPrice\tWaco\tCamry", Code::Node),
-    (b"pool\t\tAustin\t", Code::Node),
-    (b"pool\tPrice\tAustin", Code::Fields),
-    (b"pool\tRepair\tAustin\tCamry", Code::Measure),
-    (b"Pool\tRepair\tAustin\tCamry\x01", Code::Text),
-    (b"Pool\tRepair\tAustin", Code::Command),
-    (b"Pool\tRepair\tWaco\tCamry", Code::Command),
-    (b"pool\tRepair\tWaco", Code::Fields),
-    (b"worlds\tAustin\tCam\x01", Code::Text),
-    (b"worlds\tAus\xfftin\tCamry", Code::Text),
-    (b"worlds\tAustin\tCamry\x7f", Code::Text),
-    (b"Worlds\tAustin\tCamry", Code::Command),
-    (b"world\tAustin\tCamry", Code::Command),
-    (b"worlds \tAustin\tCamry", Code::Command),
-    (b"worlds", Code::Fields),
-    (b"worlds\tAustin", Code::Fields),
-    (b"worlds\tAustin\tCamry\t", Code::Fields),
-    (b"worlds\tWaco\tCamry", Code::Node),
-    (b"worlds\tAustin\tWaco", Code::Node),
-    (b"worlds\tCamry\tAustin", Code::Node),
-    (b"worlds\t\tCamry", Code::Node),
-    (b"Worlds\tAustin\tCamry\x01", Code::Text),
-    (b"worlds\tAustin\x01", Code::Text),
-    (b"Worlds\tAustin", Code::Command),
-    (b"Worlds\tWaco\tCamry", Code::Command),
-    (b"worlds\tWaco", Code::Fields),
-    (b"worlds\tAustin\tWaco\t", Code::Fields),
+const REFUSED_QUESTIONS: [(Code, &[u8]); 6] = [
+    (
+        Code::Name,
+        b"view\tnone\n\
+            view\tState\n\
+            view\t\n",
+    ),
+    (
+        Code::Fields,
+        b"view\tstate\t1\n\
+            view\n\
+            count\n\
+            count\tAustin\n\
+            count\tAustin\tCamry\t\n\
+            count\tWaco\n\
+            sum\n\
+            sum\tRepair\tAustin\n\
+            sum\tRepair\tAustin\tCamry\t\n\
+            sum\tPrice\tAustin\n\
+            sum\tRepair\tWaco\n\
+            avg\n\
+            avg\tRepair\tAustin\n\
+            avg\tRepair\tAustin\tCamry\t\n\
+            avg\tPrice\tAustin\n\
+            avg\tRepair\tWaco\n\
+            pool\n\
+            pool\tRepair\tAustin\n\
+            pool\tRepair\tAustin\tCamry\t\n\
+            pool\tPrice\tAustin\n\
+            pool\tRepair\tWaco\n\
+            worlds\n\
+            worlds\tAustin\n\
+            worlds\tAustin\tCamry\t\n\
+            worlds\tWaco\n\
+            worlds\tAustin\tWaco\t\n",
+    ),
+    (
+        Code::Command,
+        b"View\tnone\n\
+            Count\tAustin\tCamry\n\
+            count \tAustin\tCamry\n\
+            Count\tAustin\n\
+            Count\tWaco\tCamry\n\
+            Sum\tRepair\tAustin\tCamry\n\
+            sum \tRepair\tAustin\tCamry\n\
+            Sum\tRepair\tAustin\n\
+            Sum\tRepair\tWaco\tCamry\n\
+            Avg\tRepair\tAustin\tCamry\n\
+            avg \tRepair\tAustin\tCamry\n\
+            Avg\tRepair\tAustin\n\
+            Avg\tRepair\tWaco\tCamry\n\
+            Pool\tRepair\tAustin\tCamry\n\
+            pool \tRepair\tAustin\tCamry\n\
+            Pool\tRepair\tAustin\n\
+            Pool\tRepair\tWaco\tCamry\n\
+            Worlds\tAustin\tCamry\n\
+            world\tAustin\tCamry\n\
+            worlds \tAustin\tCamry\n\
+            Worlds\tAustin\n\
+            Worlds\tWaco\tCamry\n",
+    ),
+    (
+        Code::Text,
+        b"count\tAustin\tCam\x01\n\
+            count\tAus\xfftin\tCamry\n\
+            Count\tAustin\tCamry\x01\n\
+            sum\tRepair\tAustin\tCam\x01\n\
+            sum\tRepair\tAus\xfftin\tCamry\n\
+            Sum\tRepair\tAustin\tCamry\x01\n\
+            avg\tRepair\tAustin\tCam\x01\n\
+            avg\tRepair\tAus\xfftin\tCamry\n\
+            Avg\tRepair\tAustin\tCamry\x01\n\
+            pool\tRepair\tAustin\tCam\x01\n\
+            pool\tRepair\tAus\xfftin\tCamry\n\
+            Pool\tRepair\tAustin\tCamry\x01\n\
+            worlds\tAustin\tCam\x01\n\
+            worlds\tAus\xfftin\tCamry\n\
+            worlds\tAustin\tCamry\x7f\n\
+            Worlds\tAustin\tCamry\x01\n\
+            worlds\tAustin\x01\n",
+    ),
+    (
+        Code::Node,
+        b"count\tWaco\tCamry\n\
+            count\tAustin\tWaco\n\
+            count\tCamry\tAustin\n\
+            count\t\tCamry\n\
+            sum\tRepair\tWaco\tCamry\n\
+            sum\tRepair\tAustin\tWaco\n\
+            sum\tRepair\tCamry\tAustin\n\
+            sum\tRepair\t\tCamry\n\
+            sum\tPrice\tWaco\tCamry\n\
+            sum\t\tAustin\t\n\
+            avg\tRepair\tWaco\tCamry\n\
+            avg\tRepair\tAustin\tWaco\n\
+            avg\tRepair\tCamry\tAustin\n\
+            avg\tRepair\t\tCamry\n\
+            avg\tPrice\tWaco\tCamry\n\
+            avg\t\tAustin\t\n\
+            pool\tRepair\tWaco\tCamry\n\
+            pool\tRepair\tAustin\tWaco\n\
+            pool\tRepair\tCamry\tAustin\n\
+            pool\tRepair\t\tCamry\n\
+            pool\tPrice\tWaco\tCamry\n\
+            pool\t\tAustin\t\n\
+            worlds\tWaco\tCamry\n\
+            worlds\tAustin\tWaco\n\
+            worlds\tCamry\tAustin\n\
+            worlds\t\tCamry\n",
+    ),
+    (
+        Code::Measure,
+        b"sum\tPrice\tAustin\tCamry\n\
+            sum\t\tAustin\tCamry\n\
+            sum\trepair\tAustin\tCamry\n\
+            sum\tRepair \tAustin\tCamry\n\
+            avg\tPrice\tAustin\tCamry\n\
+            avg\t\tAustin\tCamry\n\
+            avg\trepair\tAustin\tCamry\n\
+            avg\tRepair \tAustin\tCamry\n\
+            pool\tPrice\tAustin\tCamry\n\
+            pool\t\tAustin\tCamry\n\
+            pool\trepair\tAustin\tCamry\n\
+            pool\tRepair \tAustin\tCamry\n\
+            pool\tRepair\tAustin\tCamry\n",
+    ),
 ];
 
-/// Whether a line of the schema of repairs is refused for a code.
-fn is_refused(alloc: Global, line: &[u8], code: Code) -> Result<bool, AllocError> {
-    let mut input = Vec::from_slice(alloc, REPAIRS.as_bytes())?;
-    input.extend_from_slice(line)?;
-    input.push(b'\n')?;
-    let mut reply = String::from_str(alloc, "error\t")?;
-    reply.push_str(code.word())?;
-    reply.push('\n')?;
-    let ran = run(alloc, &["try"], &input, &WHOLE)?;
-    Ok(ran.is(Ending::Finished { refused: 1 }, &reply))
+/// The reply to each of these lines, all refused for one code.
+fn replies_to(alloc: Global, lines: &[u8], code: Code) -> Result<String, AllocError> {
+    let mut replies = String::new(alloc);
+    for byte in lines {
+        if *byte == b'\n' {
+            replies.push_str("error\t")?;
+            replies.push_str(code.word())?;
+            replies.push('\n')?;
+        }
+    }
+    Ok(replies)
 }
 
-/// Whether each line is refused for its code.
-fn are_refused(alloc: Global, lines: &[(&[u8], Code)]) -> bool {
-    lines
-        .iter()
-        .all(|(line, code)| is_refused(alloc, line, *code) == Ok(true))
+/// The schema of repairs, and lines behind it.
+fn input_of(alloc: Global, lines: &[u8]) -> Result<Vec<u8>, AllocError> {
+    let mut input = Vec::from_slice(alloc, REPAIRS.as_bytes())?;
+    input.extend_from_slice(lines)?;
+    Ok(input)
+}
+
+/// Whether each of these lines, behind which there is an LF, is refused for one code.
+fn are_refused_for(alloc: Global, code: Code, lines: &[u8]) -> Result<bool, AllocError> {
+    let input = input_of(alloc, lines)?;
+    let replies = replies_to(alloc, lines, code)?;
+    let refused = lines.iter().filter(|byte| **byte == b'\n').count() as u64;
+    let ran = run(alloc, &["try"], &input, &WHOLE)?;
+    Ok(ran.is(Ending::Finished { refused }, &replies))
+}
+
+/// Whether the lines of each code are refused for it.
+fn are_refused(alloc: Global, groups: &[(Code, &[u8])]) -> bool {
+    groups.iter().all(|(code, lines)| are_refused_for(alloc, *code, lines) == Ok(true))
 }
 
 #[test]
@@ -342,7 +393,7 @@ const FILLED: [Filled; 33] = [
     (b"worlds\tAustin", b'a', b"", Code::Fields),
 ];
 
-/// The line with so many bytes in all.
+/// The line with so many bytes in all, and an LF behind it.
 fn filled(alloc: Global, row: &Filled, len: usize) -> Result<Vec<u8>, AllocError> {
     let (front, byte, back, _) = *row;
     let middle = len.saturating_sub(front.len()).saturating_sub(back.len());
@@ -351,6 +402,7 @@ fn filled(alloc: Global, row: &Filled, len: usize) -> Result<Vec<u8>, AllocError
         line.push(byte)?;
     }
     line.extend_from_slice(back)?;
+    line.push(b'\n')?;
     Ok(line)
 }
 
@@ -359,7 +411,7 @@ fn is_refused_filled(alloc: Global, row: &Filled) -> Result<bool, AllocError> {
     let code = row.3;
     let longest = filled(alloc, row, MAX_LINE)?;
     let longer = filled(alloc, row, MAX_LINE + 1)?;
-    Ok(is_refused(alloc, &longest, code)? && is_refused(alloc, &longer, Code::Long)?)
+    Ok(are_refused_for(alloc, code, &longest)? && are_refused_for(alloc, Code::Long, &longer)?)
 }
 
 fn are_refused_filled(alloc: Global, rows: &[Filled]) -> bool {

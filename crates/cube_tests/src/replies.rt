@@ -28,7 +28,7 @@ pub const FOUR_REPAIRS: &str =
 /// Each is new, and no other fact lies otherwise for it.
 const FOUR_OKS: &str = "ok\t1\nok\t1\nok\t1\nok\t1\n";
 
-const CASES: [Case; 17] = [
+const CASES: [Case; 18] = [
     (
         REPAIRS,
         "insert\t1\tAustin\tCamry\t100\ninsert\t2\tAustin\tCamry\t300\ninsert\t3\tDallas\tCamry\t50\ninsert\t4\tTX\tCamry\t600\nrows\t4\n",
@@ -54,6 +54,13 @@ const CASES: [Case; 17] = [
         "insert\t1\tAustin\tCamry\t100\ninsert\t2\tAustin\tCamry\t300\ninsert\t3\tDallas\tCamry\t50\ninsert\t4\tTX\tCamry\t600\nview\tstate\nview\tnone\n",
         "ok\t1\nok\t1\nok\t1\nok\t1\nview\t1\tTX\tSedan\t2\t1\t3\t450\t3\t3\t1800\nerror\tname\n",
         Ending::Finished { refused: 1 },
+    ),
+    // Three facts of one region lie alike, and are spread anew by one more city; the view serves the first question alone.
+    (
+        REPAIRS,
+        "insert\t1\tAustin\tCamry\t100\ninsert\t2\tAustin\tCamry\t300\ninsert\t3\tDallas\tCamry\t50\ninsert\t4\tTX\tCamry\t600\ninsert\t5\tTX\tCamry\t100\ninsert\t6\tTX\tCamry\t-90\ninsert\t7\tHouston\tCamry\t7\nterms\tAll\tSedan\nterms\tAustin\tCamry\nterms\tCA\tAll\nview\tstate\n",
+        "ok\t1\nok\t1\nok\t1\nok\t1\nok\t1\nok\t1\nok\t4\nterms\t2\t1\t4\t457\t4\t12\t2440\nterms\t2\t1\t2\t400\t4\t6\t1220\nterms\t0\nview\t1\tTX\tSedan\t2\t1\t4\t457\t4\t12\t2440\n",
+        Ending::Finished { refused: 0 },
     ),
     // The first dimension is slowest, and an entry goes with its last fact.
     (

@@ -1,6 +1,6 @@
 //! Faults of the keeper, and of the sink where something is kept.
-use crate::runs::{ALL, Ending, Outside, REPAIRS, WHOLE, run_kept};
-use crate::stored::{CITIES, keeper_of};
+use crate::runs::{ALL, Ending, Outside, REPAIRS, WHOLE};
+use crate::stored::{CITIES, run_stored, without_facts};
 use cube_base::Memory;
 use fact_keeper::MemKeeper;
 use std::alloc::Global;
@@ -123,14 +123,16 @@ fn ends_so(
     row: &Fault,
 ) -> Result<bool, Memory> {
     let (keep_fails, write_step, write_fails, end, written, batches, ids) = *row;
-    let mut keeper = keeper_of(alloc, schema, &[], &[], &[keep_fails])?;
     let outside = Outside {
         write_step,
         write_fails,
         ..WHOLE
     };
-    let ran = run_kept(alloc, &[word, "s"], input.as_bytes(), &outside, &mut keeper)?;
-    Ok(ran.is(end, written) && has_kept(&keeper, batches, ids))
+    let content = without_facts(schema);
+    let kept = run_stored(alloc, word, content, keep_fails, input.as_bytes(), &outside)?;
+    let is_right = kept.ran.is(end, written) && has_kept(&kept.keeper, batches, ids);
+    drop(kept);
+    Ok(is_right)
 }
 
 /// Whether a command does so at each of them.

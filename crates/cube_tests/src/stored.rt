@@ -1,4 +1,5 @@
 //! Contents of stores, written out as tables.
+use crate::runs::{Outside, Ran, run_kept};
 use cube_base::{Bytes, Ids, Memory};
 use fact_keeper::{
     ColNums, KeptFact, KeptFacts, KeptRows, KeptRowsList, MemKeeper, NodeNums, Stored,
@@ -102,6 +103,42 @@ pub fn keeper_of(
     };
     let fails = Ids::from(Vec::from_slice(alloc, fails)?);
     Ok(MemKeeper::new(alloc, content, fails))
+}
+
+/// The text of a schema, with facts and rows that are kept over it.
+pub type Content<'a> = (&'a str, &'a [FactRow], &'a [SpreadRow]);
+
+/// The text of a schema alone.
+pub fn without_facts(schema: &str) -> Content<'_> {
+    (schema, &[], &[])
+}
+
+/// How a run went, and the store that it left.
+#[derive(Drop)]
+pub struct KeptRun {
+    pub ran: Ran,
+    pub keeper: MemKeeper,
+}
+
+/// Runs a command over an input and a store of this content, whose call of a number fails, and none where that is 0.
+pub fn run_stored(
+    alloc: Global,
+    word: &str,
+    content: Content<'_>,
+    fails: u64,
+    input: &[u8],
+    outside: &Outside,
+) -> Result<KeptRun, Memory> {
+    let (schema, facts, spreads) = content;
+    let mut keeper = keeper_of(alloc, schema, facts, spreads, &[fails])?;
+    match run_kept(alloc, &[word, "s"], input, outside, &mut keeper) {
+        Ok(ran) => Ok(KeptRun { ran, keeper }),
+        Err(fault) => {
+            // Dropped by a call, which is proved once: in place it would be proved on each way out.
+            drop(keeper);
+            Err(fault.into())
+        }
+    }
 }
 
 /// Whether a fact is that of a row.

@@ -4,7 +4,7 @@ use crate::replies::FOUR_REPAIRS;
 use crate::runs::{Ending, REPAIRS, WHOLE, joined, run, run_kept, run_over};
 use crate::stored::{
     CITIES, FACTS, FactRow, REPAIR_FACTS, REPAIR_SPREADS, SPREADS, SpreadRow, holds_just,
-    is_spread, keeper_of,
+    is_spread, keeper_of, run_stored, without_facts,
 };
 use cube_base::{Code, Memory};
 use cube_cli::End;
@@ -44,17 +44,23 @@ const MADE: [(&str, &str); 3] = [
 /// Whether the text of a schema is kept by one batch, and answered.
 fn is_made(alloc: Global, row: &(&str, &str)) -> Result<bool, Memory> {
     let (input, text) = *row;
-    let mut keeper = keeper_of(alloc, "", &[], &[], &[])?;
-    let ran = run_kept(alloc, &["init", "s"], input.as_bytes(), &WHOLE, &mut keeper)?;
-    let is_kept = match keeper.journal() {
+    let kept = run_stored(
+        alloc,
+        "init",
+        without_facts(""),
+        0,
+        input.as_bytes(),
+        &WHOLE,
+    )?;
+    let has_schema = match kept.keeper.journal() {
         [batch] => keeps_schema(batch, text),
         _ => false,
     };
-    Ok(
-        is_kept
-            && ran.is(Ending::Finished { refused: 0 }, "ok\t0\n")
-            && keeper.content().schema.as_slice() == text.as_bytes(),
-    )
+    let is_right = has_schema
+        && kept.ran.is(Ending::Finished { refused: 0 }, "ok\t0\n")
+        && kept.keeper.content().schema.as_slice() == text.as_bytes();
+    drop(kept);
+    Ok(is_right)
 }
 
 fn are_made(alloc: Global, rows: &[(&str, &str)]) -> bool {
@@ -159,10 +165,14 @@ const REFUSALS: [Refusal; 19] = [
 /// Whether a run is refused, and nothing written or kept.
 fn is_refused(alloc: Global, row: &Refusal) -> Result<bool, Memory> {
     let (word, schema, facts, spreads, input, end, is_unread) = *row;
-    let mut keeper = keeper_of(alloc, schema, facts, spreads, &[])?;
-    let ran = run_kept(alloc, &[word, "s"], input.as_bytes(), &WHOLE, &mut keeper)?;
+    let content = (schema, facts, spreads);
+    let kept = run_stored(alloc, word, content, 0, input.as_bytes(), &WHOLE)?;
     let left = if is_unread { input.len() } else { 0 };
-    Ok(ran.is(end, "") && ran.left == left && keeper.journal().is_empty())
+    let is_right = kept.ran.is(end, "")
+        && kept.ran.left == left
+        && kept.keeper.journal().is_empty();
+    drop(kept);
+    Ok(is_right)
 }
 
 fn are_refused(alloc: Global, rows: &[Refusal]) -> bool {
@@ -289,13 +299,13 @@ const SCRIPTED: [Scripted; 2] = [
 /// Whether a script over a new store replies as one without a store, and keeps what its edits make.
 fn is_run(alloc: Global, row: &Scripted) -> Result<bool, Memory> {
     let (schema, script, replies, refused, batches, facts, spreads) = *row;
-    let mut keeper = keeper_of(alloc, schema, &[], &[], &[])?;
-    let ran = run_kept(alloc, &["run", "s"], script.as_bytes(), &WHOLE, &mut keeper)?;
-    Ok(
-        ran.is(Ending::Finished { refused }, replies)
-            && has_batches(&keeper, batches)
-            && holds_just(keeper.content(), facts, spreads),
-    )
+    let content = without_facts(schema);
+    let kept = run_stored(alloc, "run", content, 0, script.as_bytes(), &WHOLE)?;
+    let is_right = kept.ran.is(Ending::Finished { refused }, replies)
+        && has_batches(&kept.keeper, batches)
+        && holds_just(kept.keeper.content(), facts, spreads);
+    drop(kept);
+    Ok(is_right)
 }
 
 fn are_run(alloc: Global, rows: &[Scripted]) -> bool {
@@ -355,7 +365,9 @@ fn are_answered(alloc: Global, keeper: &mut MemKeeper, calls: &[Call]) -> Result
 /// Whether a new store is loaded again and again.
 fn is_loaded_again(alloc: Global) -> Result<bool, Memory> {
     let mut keeper = keeper_of(alloc, CITIES, &[], &[], &[])?;
-    are_answered(alloc, &mut keeper, &CALLS)
+    let answered = are_answered(alloc, &mut keeper, &CALLS);
+    drop(keeper);
+    answered
 }
 
 #[test]
@@ -511,7 +523,9 @@ fn is_told(alloc: Global, keeper: &mut MemKeeper, text: &str) -> Result<bool, Me
 fn is_found(alloc: Global, row: &Damage) -> Result<bool, Memory> {
     let (schema, facts, spreads, text) = *row;
     let mut keeper = keeper_of(alloc, schema, facts, spreads, &[])?;
-    is_told(alloc, &mut keeper, text)
+    let found = is_told(alloc, &mut keeper, text);
+    drop(keeper);
+    found
 }
 
 /// Three facts of 2^20 cells each, of which no rows are kept.
@@ -521,7 +535,9 @@ const LARGE: [FactRow; 3] = [(1, &[0, 1], &[]), (2, &[0, 1], &[]), (3, &[0, 1], 
 fn are_too_many(alloc: Global) -> Result<bool, Memory> {
     let schema = large_schema(alloc)?;
     let mut keeper = keeper_of(alloc, schema.as_str(), &LARGE, &[], &[])?;
-    is_told(alloc, &mut keeper, "cube: bad store: 3145728 rows")
+    let told = is_told(alloc, &mut keeper, "cube: bad store: 3145728 rows");
+    drop(keeper);
+    told
 }
 
 /// The schema of the two cities behind a comment.
@@ -544,9 +560,10 @@ const SOUND: [Sound; 2] = [
 /// Whether a store is sound.
 fn is_sound(alloc: Global, row: &Sound) -> Result<bool, Memory> {
     let (schema, facts, spreads, line) = *row;
-    let mut keeper = keeper_of(alloc, schema, facts, spreads, &[])?;
-    let ran = run_kept(alloc, &["check", "s"], b"", &WHOLE, &mut keeper)?;
-    Ok(ran.is(Ending::Finished { refused: 0 }, line))
+    let kept = run_stored(alloc, "check", (schema, facts, spreads), 0, b"", &WHOLE)?;
+    let is_right = kept.ran.is(Ending::Finished { refused: 0 }, line);
+    drop(kept);
+    Ok(is_right)
 }
 
 fn are_sound(alloc: Global, rows: &[Sound]) -> bool {
@@ -666,12 +683,19 @@ fn ended_with(end: &End, row: &Differing) -> bool {
     }
 }
 
+/// Whether the audit of a store ends with rows that differ so.
+fn is_ended_with(alloc: Global, keeper: &mut MemKeeper, row: &Differing) -> Result<bool, Memory> {
+    let (end, _, _) = run_over(alloc, &["check", "s"], b"", &WHOLE, keeper)?;
+    Ok(ended_with(&end, row))
+}
+
 /// Whether the audit finds that the rows differ so.
 fn differ_so(alloc: Global, row: &Differing) -> Result<bool, Memory> {
     let (schema, facts, spreads, _, _, _) = *row;
     let mut keeper = keeper_of(alloc, schema, facts, spreads, &[])?;
-    let (end, _, _) = run_over(alloc, &["check", "s"], b"", &WHOLE, &mut keeper)?;
-    Ok(ended_with(&end, row))
+    let differs = is_ended_with(alloc, &mut keeper, row);
+    drop(keeper);
+    differs
 }
 
 fn differ_each(alloc: Global, rows: &[Differing]) -> bool {

@@ -1,6 +1,6 @@
 //! Scripts that come in pieces: what is done of them where a call fails, and how much of an input is taken.
-use crate::runs::{Ending, Outside, REPAIRS, WHOLE, ending_of, run_from, run_kept, source_of};
-use crate::stored::keeper_of;
+use crate::runs::{Ending, Outside, REPAIRS, WHOLE, ending_of, run_from, source_of};
+use crate::stored::{keeper_of, run_stored, without_facts};
 use cube_base::{Failed, Ids, MemSink, Memory, Source};
 use cube_cli::cube;
 use fact_keeper::MemKeeper;
@@ -46,21 +46,24 @@ const FAILS: [Failing; 11] = [
 /// Whether the run ends so where one call fails.
 fn fails_so(alloc: Global, row: &Failing) -> Result<bool, Memory> {
     let (keep_fails, read_fails, write_fails, end, written, ids) = *row;
-    let mut keeper = keeper_of(alloc, REPAIRS, &[], &[], &[keep_fails])?;
     let outside = Outside {
         read_step: 1,
         read_fails,
         write_step: 5,
         write_fails,
     };
-    let ran = run_kept(
+    let content = without_facts(REPAIRS);
+    let kept = run_stored(
         alloc,
-        &["run", "s"],
+        "run",
+        content,
+        keep_fails,
         SCRIPT.as_bytes(),
         &outside,
-        &mut keeper,
     )?;
-    Ok(ran.is(end, written) && has_ids(&keeper, ids))
+    let is_right = kept.ran.is(end, written) && has_ids(&kept.keeper, ids);
+    drop(kept);
+    Ok(is_right)
 }
 
 /// Whether the facts of these ids are kept.
@@ -84,20 +87,16 @@ fn answers_before(alloc: Global) -> Result<bool, Memory> {
     for _ in 0..200_000 {
         script.push_str("#\n")?;
     }
-    let mut keeper = keeper_of(alloc, REPAIRS, &[], &[], &[])?;
     let outside = Outside {
         write_fails: 1,
         ..WHOLE
     };
-    let ran = run_kept(
-        alloc,
-        &["run", "s"],
-        script.as_bytes(),
-        &outside,
-        &mut keeper,
-    )?;
-    let taken = script.len().saturating_sub(ran.left);
-    Ok(ran.is(Ending::WriteFault { done: 1 }, "") && taken <= 65_562)
+    let content = without_facts(REPAIRS);
+    let kept = run_stored(alloc, "run", content, 0, script.as_bytes(), &outside)?;
+    let taken = script.len().saturating_sub(kept.ran.left);
+    let is_right = kept.ran.is(Ending::WriteFault { done: 1 }, "") && taken <= 65_562;
+    drop(kept);
+    Ok(is_right)
 }
 
 #[test]
@@ -112,13 +111,25 @@ const ENDLESS: [(usize, Ending); 2] = [
 ];
 
 /// Whether the run of a comment of so many bytes ends so, and writes nothing.
-fn ends_long(alloc: Global, row: &(usize, Ending)) -> Result<bool, Memory> {
-    let (bytes, end) = *row;
+fn ends_long_over(
+    alloc: Global,
+    keeper: &mut MemKeeper,
+    bytes: usize,
+    end: Ending,
+) -> Result<bool, Memory> {
     let mut source = source_of(alloc, b"#", 1, 0)?;
     source.more = bytes.saturating_sub(1);
-    let mut keeper = keeper_of(alloc, REPAIRS, &[], &[], &[])?;
-    let (ended, sink, _) = run_from(alloc, &["run", "s"], &mut source, &WHOLE, &mut keeper)?;
+    let (ended, sink, _) = run_from(alloc, &["run", "s"], &mut source, &WHOLE, keeper)?;
     Ok(ending_of(&ended) == end && sink.bytes().is_empty())
+}
+
+/// Whether it does so over a store of repairs.
+fn ends_long(alloc: Global, row: &(usize, Ending)) -> Result<bool, Memory> {
+    let (bytes, end) = *row;
+    let mut keeper = keeper_of(alloc, REPAIRS, &[], &[], &[])?;
+    let ended = ends_long_over(alloc, &mut keeper, bytes, end);
+    drop(keeper);
+    ended
 }
 
 fn end_long(alloc: Global, rows: &[(usize, Ending)]) -> bool {
