@@ -33,12 +33,6 @@ def row(task, before, after, times):
     print(f"| {task:52} | {clock:9.1f} | {processor:9.1f} |")
 
 
-def calls(task, before, after, times):
-    """Prints the microseconds of each of so many calls that a run makes beyond one before."""
-    clock, processor = (1000 * (b - a) / times for a, b in zip(least(before, None), least(after, None)))
-    print(f"| {f'{task}, in microseconds':52} | {clock:9.2f} | {processor:9.2f} |")
-
-
 def peak(words, reply):
     """The most bytes that a run holds at once. The run must print the reply."""
     run = subprocess.Popen([PROGRAM, *map(str, words)], stdin=subprocess.DEVNULL, stdout=subprocess.PIPE, text=True)
@@ -53,14 +47,6 @@ def memory(order, puts):
     """Prints how many bytes a fact of a list takes, by what a run without facts holds and one with so many."""
     each = (peak((order, puts, 0), left(order, puts, 0)) - peak((order, 0, 0), (0, 0))) / puts
     print(f"| {f'bytes a fact of {puts}, ids {order}':52} | {each:9.1f} | {'':9} |")
-
-
-def compare(what, word, count, numbers):
-    """Runs a task that compares: each of so many answers must be equal."""
-    printed = subprocess.run([PROGRAM, word, *map(str, numbers)], check=True, capture_output=True, text=True, input="").stdout
-    if printed.split()[0] != str(count):
-        sys.exit(f"bench: {word} finds {printed.split()[0]} of {count} equal")
-    print(f"| {f'{count} {what}: all equal':52} | {'':9} | {'':9} |")
 
 
 def cells(shape):
@@ -133,32 +119,6 @@ def groups(what, dens):
         row(f"group{how} 1 over {len(dens)} numbers, {what}", ((word, 1), done, text), ((word, 4), done, text), 3)
 
 
-def schema(leaves):
-    """The text of a schema whose dimensions have so many leaves each, with names of thirty bytes."""
-    lines = ["cube\t1", "policy\tcount", "number\tAmount"]
-    for dim, size in enumerate(leaves):
-        lines += [f"dimension\tdimension {dim}", "node\t0\tAll"]
-        lines += [f"node\t1\tsome name of a leaf {leaf:010}" for leaf in range(size)]
-    return "\n".join([*lines, "end", ""])
-
-
-def texts():
-    text = schema([65_535] * 3)
-    seen = 3, len(text)
-    row("read a schema of 3 x 65536 nodes", (("schemas", 1), seen, text), (("schemas", 4), seen, text), 3)
-    names = ["some name of a leaf {:010}".format(n % 64) for n in range(100_000)]
-    lines = [f"insert\t{n + 1}\t{name}\t{name}\t{n + 1}0000000" for n, name in enumerate(names)]
-    text = schema([64, 64]) + "\n".join([*lines, ""])
-    seen = len(lines), 0
-    bytes_each = sum(map(len, lines)) // len(lines)
-    row(f"read {len(lines)} inserts of {bytes_each} bytes", (("lines", 1), seen, text), (("lines", 11), seen, text), 10)
-    text = schema([256, 256])
-    reply = "rows\t65536\t65536" + "".join(
-        f"\tsome name of a leaf {a:010}\tsome name of a leaf {b:010}\t1" for a in range(256) for b in range(256)) + "\n"
-    seen = 65_536, len(reply)
-    row("write a reply of 65536 rows", (("replies", 1), seen, text), (("replies", 11), seen, text), 10)
-
-
 def main():
     print(f"| {'task':52} | {'clock':>9} | {'processor':>9} |")
     print(f"|{'-' * 54}|----------:|----------:|")
@@ -171,20 +131,12 @@ def main():
             facts(order, puts, puts // 2)
     for order in "ascending", "shuffled":
         memory(order, 1_000_000)
-    compare("steps, and allocations anew", "compare-steps", 10_000, (10_000, 16, 16))
-    compare("covers, and walks through all facts", "compare-covers", 10_000, (1_000, 10_000, 2, 3, 2, 4))
-    compare("edits with a view, and without one", "compare-views", 10_000, (10_000, 2, 3))
-    calls("step among 2^20 cells, some 30000 rows", ("steps", 19_000, 1024, 1024), ("steps", 21_000, 1024, 1024), 2_000)
-    calls("cover among 100000 regions of 4 dimensions", ("covers", 100_000, 0, 64, 64, 64, 64), ("covers", 100_000, 100_000, 64, 64, 64, 64), 100_000)
-    for views in 0, 1, 2:
-        calls(f"put of a fact, {views} views", ("puts", 20_000, views, 128, 128), ("puts", 120_000, views, 128, 128), 100_000)
     smooth = divisors({2: 12, 3: 8, 5: 5, 7: 4, 11: 3, 13: 2, 17: 2, 19: 1, 23: 1, 29: 1, 31: 1}, 2**60)
     groups("ascending", range(1, 10_001))
     groups("in no order", [1 + place * 7_001 % 10_007 for place in range(10_000)])
     for count in 10_000, 25_000, 50_000, 100_000:
         fractions("in one fraction", smooth[:count], True)
         fractions("too wide for one", range(1, count + 1), False)
-    texts()
 
 
 if __name__ == "__main__":

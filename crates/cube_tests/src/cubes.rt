@@ -129,7 +129,9 @@ fn does_and_answers(
 /// One function alone owns the cube.
 fn are_done_and_answered(alloc: Global, steps: &[Step], answers: &[Answer]) -> Result<bool, Fail> {
     let mut cube = Cube::new(alloc, schema_of(alloc, REPAIRS)?, BySum)?;
-    does_and_answers(&mut cube, steps, answers)
+    let answered = does_and_answers(&mut cube, steps, answers);
+    drop(cube);
+    answered
 }
 
 #[test]

@@ -1,6 +1,4 @@
 //! Walks through cells, and allocations over them.
-ghost use Rattle.std.specs.Prelude.{IfOk};
-ghost use Rattle.cube_model.specs.Cells.{AreRows};
 ghost use Rattle.library_bench.specs.Light.{AreLight};
 
 use crate::spaces::{everything, space_of};
@@ -14,7 +12,7 @@ use std::alloc::Global;
 
 /// Walks all cells of a space so many times: the number of the cells, and the sum of their codes.
 pub fn walk(alloc: Global, rounds: u32, sizes: &[String]) -> Result<(u64, u64)> {
-    let space = space_of(alloc, sizes, 0)?;
+    let space = space_of(alloc, sizes)?;
     let mut walked = (0, 0);
     for _ in 0..rounds {
         walked = walk_once(&space)?;
@@ -40,7 +38,7 @@ pub fn spread<P: WeightPolicy>(
     rounds: u32,
     sizes: &[String],
 ) -> Result<(u64, u64)> {
-    let space = space_of(alloc, sizes, 0)?;
+    let space = space_of(alloc, sizes)?;
     let mut spread = (0, 0);
     for _ in 0..rounds {
         let rows = spread_once(alloc, policy, &space)?;
@@ -50,9 +48,7 @@ pub fn spread<P: WeightPolicy>(
 }
 
 /// Allocates a fact over all cells of a space, no cell having facts.
-pub fn spread_once<P: WeightPolicy>(alloc: Global, policy: &P, space: &Space) -> Result<Alloc>
-    ensures { IfOk result (λ a. AreRows space.now a.rows) }
-{
+fn spread_once<P: WeightPolicy>(alloc: Global, policy: &P, space: &Space) -> Result<Alloc> {
     spread_over(alloc, policy, space, &StatIndex::new(alloc))
 }
 
@@ -64,7 +60,6 @@ fn spread_over<P: WeightPolicy>(
     stats: &StatIndex,
 ) -> Result<Alloc>
     requires { AreLight stats.now }
-    ensures { IfOk result (λ a. AreRows space.now a.rows) }
 {
     let region = everything(space)?;
     if space.cell_count(region) > MAX_CELLS {

@@ -1,4 +1,4 @@
-//! Spaces whose dimensions have all their leaves under the root, or in groups.
+//! Spaces whose dimensions have all their leaves under the root.
 ghost use Rattle.std.specs.Prelude.{◌≡◌, true, IfOk};
 ghost use Rattle.region_algebra.specs.Space.{is_region};
 
@@ -9,14 +9,11 @@ use dim_tree::Dim;
 use region_algebra::Space;
 use std::alloc::Global;
 
-/// How many leaves a group has.
-pub const GROUP: u32 = 8;
-
-/// The space over dimensions of so many nodes each, all under the root and with so many leaves under each.
-pub fn space_of(alloc: Global, sizes: &[String], leaves: u32) -> Result<Space> {
+/// The space over dimensions of so many leaves each.
+pub fn space_of(alloc: Global, sizes: &[String]) -> Result<Space> {
     let mut dims = Vec::new(alloc);
     for size in sizes {
-        dims.push(dim_of(alloc, size.parse()?, leaves)?)?;
+        dims.push(dim_of(alloc, size.parse()?)?)?;
     }
     Space::new(alloc, dims).ok().context("no space")
 }
@@ -30,15 +27,12 @@ pub fn everything(space: &Space) -> Result<Region>
     space.region(&roots[..dims]).context("no region")
 }
 
-/// A dimension of a root, so many nodes under it, and so many leaves under each of these.
-fn dim_of(alloc: Global, nodes: u32, leaves: u32) -> Result<Dim> {
+/// A dimension of a root and so many leaves under it.
+fn dim_of(alloc: Global, leaves: u32) -> Result<Dim> {
     let mut lines = Vec::new(alloc);
     push_line(alloc, &mut lines, 0)?;
-    for _ in 0..nodes {
+    for _ in 0..leaves {
         push_line(alloc, &mut lines, 1)?;
-        for _ in 0..leaves {
-            push_line(alloc, &mut lines, 2)?;
-        }
     }
     Dim::build(alloc, &lines).ok().context("no dimension")
 }
@@ -51,6 +45,6 @@ fn push_line(alloc: Global, lines: &mut Vec<NodeLine>, depth: u8) -> Result<()> 
     Ok(())
 }
 
-pub fn name_of(alloc: Global, text: &str) -> Result<Name> {
+fn name_of(alloc: Global, text: &str) -> Result<Name> {
     Name::new(alloc, text).ok().flatten().context("no name")
 }

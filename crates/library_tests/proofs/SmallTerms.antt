@@ -1,10 +1,9 @@
--- Terms whose numerators are far below WIDE fit wherever they are added, merged or subtracted.
+-- To terms whose numerators are far below WIDE a share fits.
 use Rattle.std.proofs.Common.{ℕ, zero, suc, ◌+◌, ◌*◌, ◌^◌, ◌<◌, ◌≤◌, Bool, true, false, [], ◌∷◌, get_or, ◌==◌, if◌then◌else◌, ℤ, pos, ◌+ℤ◌, ◌*ℤ◌, nat_abs, ◌∙◌, arith}
 use Rattle.std.proofs.lemmas.Int.{ints}
 use Rattle.cube_model.specs.Answer.{numerator_of}
 use Rattle.cube_model.specs.Limits.{WIDE}
 use Rattle.group_sum.specs.Terms.{TermList, Fits, AddsShare}
-use Rattle.group_sum.specs.Merge.{FitsMerge, FitsDifference}
 use Rattle.library_tests.specs.Small.{AreSmall}
 
 -- a sum with a value added, or with nothing
@@ -29,20 +28,3 @@ module _ (times : ℕ) (old : TermList) (small : AreSmall times old) (den : ℕ)
 
     pub small_more : AreSmall (times + 1) new
     small_more = record { columns = adds.columns ∙ small.columns; counts = λ d. grind (arith, adds.counts d, small.counts d); sums = sums_more }
-
--- small terms merge
-pub fits_merge : (m n : ℕ) (old other : TermList) → m ≤ 16 → n ≤ 16 → AreSmall m old → AreSmall n other → FitsMerge old other
-fits_merge m n old other few_m few_n small_old small_other = record {
-  counts = λ d. omega (arith, small_old.counts d, small_other.counts d);
-  sums = λ d k lt.
-      let first : k < 1 = omega (arith, small_old.columns) in
-      omega (arith, ints, small_old.sums d k first, small_other.sums d k first);
-}
-
--- and have differences
-pub fits_difference : (m n : ℕ) (whole part : TermList) → m ≤ 16 → n ≤ 16 → AreSmall m whole → AreSmall n part → FitsDifference whole part
-fits_difference m n whole part few_m few_n small_whole small_part = record {
-  sums = λ d k lt.
-      let first : k < 1 = omega (arith, small_whole.columns) in
-      omega (arith, ints, small_whole.sums d k first, small_part.sums d k first);
-}

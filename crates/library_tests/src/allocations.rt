@@ -1,8 +1,10 @@
 //! How facts are spread over the cells of their regions.
-ghost use Rattle.std.specs.Prelude.{IfOk};
-ghost use Rattle.cube_model.specs.Cells.{AreRows};
+ghost use Rattle.std.specs.Prelude.{◌≤◌, IfOk, length};
+ghost use Rattle.cube_model.specs.Cells.{AreRows, cells_of};
+ghost use Rattle.cube_model.specs.Limits.{MAX_CELLS};
+ghost use Rattle.region_algebra.specs.Space.{IsRegion};
 
-use crate::fixtures::{Node, space_of};
+use crate::fixtures::{PLACES, space_of};
 use alloc_rows::{Alloc, allocate};
 use cell_weight::{ByCount, BySum, StatIndex, Uniform, WeightPolicy};
 use cube_base::Cols;
@@ -10,16 +12,6 @@ use cube_model::{Fact, MAX_CELLS};
 use region_algebra::Space;
 use std::alloc::Global;
 use std::test::Fail;
-
-/// A root with two nodes, of one leaf and of two.
-const PLACES: [Node; 6] = [
-    (0, "All", 0),
-    (1, "NV", 1),
-    (2, "Reno", 2),
-    (1, "TX", 3),
-    (2, "Austin", 4),
-    (2, "Dallas", 5),
-];
 
 /// A node with the cells over which a fact there is spread evenly.
 type Row = (u32, &'static [(u64, u64)]);
@@ -32,7 +24,23 @@ const SPREAD: [Row; 4] = [
     (1, &[(0, 1)]),
 ];
 
-/// The allocation of a fact at a node of a space of one dimension, where no precise fact lies.
+/// A fact without values at a node of a space of one dimension.
+fn fact_at(space: &Space, node: u32) -> Result<Fact, Fail>
+    ensures region { IfOk result (λ fact. IsRegion space.now fact.region) }
+    ensures cells { IfOk result (λ fact. length (cells_of space.now fact.region) ≤ MAX_CELLS) }
+{
+    let region = space.region(&[node]).ok_or("no region")?;
+    if space.cell_count(region) > MAX_CELLS {
+        return Err("many cells".into());
+    }
+    Ok(Fact {
+        id: 1,
+        region,
+        cols: Cols::new(&[]).ok_or("no columns")?,
+    })
+}
+
+/// The allocation of a fact at a node, where no precise fact lies.
 pub fn spread_alone<P: WeightPolicy>(
     alloc: Global,
     space: &Space,
@@ -41,18 +49,8 @@ pub fn spread_alone<P: WeightPolicy>(
 ) -> Result<Alloc, Fail>
     ensures { IfOk result (λ a. AreRows space.now a.rows) }
 {
-    let region = space.region(&[node]).ok_or("no region")?;
-    if space.cell_count(region) > MAX_CELLS {
-        return Err("many cells".into());
-    }
-    let cols = Cols::new(&[]).ok_or("no columns")?;
-    let fact = Fact {
-        id: 1,
-        region,
-        cols,
-    };
-    let stats = StatIndex::new(alloc);
-    Ok(allocate(alloc, space, policy, &stats, &fact)?)
+    let fact = fact_at(space, node)?;
+    Ok(allocate(alloc, space, policy, &StatIndex::new(alloc), &fact)?)
 }
 
 /// Whether a fact is spread evenly by a policy.

@@ -1,41 +1,48 @@
-//! Names, dimensions and spaces, which the tests are about or stand on.
-ghost use Rattle.std.specs.Prelude.{◌≡◌, IfOk};
-
+//! Spaces that the tests stand on.
 use cube_base::Name;
-use cube_model::NumberedLine;
+use cube_model::NodeLine;
 use dim_tree::Dim;
 use region_algebra::Space;
 use schema_text::{Schema, read_schema};
 use std::alloc::Global;
 use std::test::Fail;
 
-/// A node by its depth, its name and its number.
-pub type Node = (u8, &'static str, u32);
+/// A node by its depth and its name.
+pub type Node = (u8, &'static str);
 
-pub fn name_of(alloc: Global, text: &str) -> Result<Name, Fail>
-    ensures { IfOk result (λ name. name ≡ text.now) }
-{
-    Ok(Name::new(alloc, text)?.ok_or("no name")?)
-}
+/// Two states, of three cities and of two.
+pub const CITIES: [Node; 8] = [
+    (0, "All"),
+    (1, "TX"),
+    (2, "Austin"),
+    (2, "Dallas"),
+    (2, "Houston"),
+    (1, "CA"),
+    (2, "LA"),
+    (2, "SF"),
+];
 
-/// The lines of some nodes.
-pub fn lines_of(alloc: Global, nodes: &[Node]) -> Result<Vec<NumberedLine>, Fail> {
-    let mut lines = Vec::new(alloc);
-    for (depth, name, number) in nodes {
-        lines.push(NumberedLine {
-            depth: *depth,
-            name: name_of(alloc, name)?,
-            number: *number,
-        })?;
-    }
-    Ok(lines)
-}
+/// Two kinds of cars, of two models each. Behind the cities, a cell's code is four times the place of the city, and the place of
+/// the model.
+pub const CARS: [Node; 7] = [
+    (0, "All"),
+    (1, "Sedan"),
+    (2, "Camry"),
+    (2, "Civic"),
+    (1, "Truck"),
+    (2, "F150"),
+    (2, "Sierra"),
+];
 
-/// The dimension of some nodes.
-pub fn dim_of(alloc: Global, nodes: &[Node]) -> Result<Dim, Fail> {
-    let lines = lines_of(alloc, nodes)?;
-    Ok(Dim::build_numbered(alloc, &lines)?)
-}
+/// A root with two nodes, of one leaf and of two.
+pub const PLACES: [Node; 6] = [
+    (0, "All"),
+    (1, "NV"),
+    (2, "Reno"),
+    (1, "TX"),
+    (2, "Austin"),
+    (2, "Dallas"),
+];
 
 /// The space over dimensions of these nodes.
 pub fn space_of(alloc: Global, dims: &[&[Node]]) -> Result<Space, Fail> {
@@ -44,6 +51,18 @@ pub fn space_of(alloc: Global, dims: &[&[Node]]) -> Result<Space, Fail> {
         built.push(dim_of(alloc, nodes)?)?;
     }
     Ok(Space::new(alloc, built).ok().ok_or("no space")?)
+}
+
+fn dim_of(alloc: Global, nodes: &[Node]) -> Result<Dim, Fail> {
+    let mut lines = Vec::new(alloc);
+    for (depth, text) in nodes {
+        let name = Name::new(alloc, text)?.ok_or("no name")?;
+        lines.push(NodeLine {
+            depth: *depth,
+            name,
+        })?;
+    }
+    Ok(Dim::build(alloc, &lines).ok().ok_or("no dimension")?)
 }
 
 /// The schema of a text.

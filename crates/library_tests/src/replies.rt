@@ -8,7 +8,7 @@ use cell_weight::Uniform;
 use cube_base::{Code, Pairs};
 use group_sum::Terms;
 use schema_text::Schema;
-use script_text::{Reply, append_reply, write_reply};
+use script_text::{Reply, write_reply};
 use std::alloc::Global;
 use std::test::Fail;
 
@@ -28,27 +28,11 @@ fn rows_reply(alloc: Global, schema: &Schema) -> Result<Reply, Fail>
 }
 
 /// Whether this text is written of a reply.
-fn is_written_alone(alloc: Global, schema: &Schema, reply: &Reply, text: &str) -> Result<bool, Fail>
+fn is_written(alloc: Global, schema: &Schema, reply: &Reply, text: &str) -> Result<bool, Fail>
     requires { NamesCells schema.now.dims reply.now }
 {
     let written = write_reply(alloc, schema, reply)?;
     Ok(written.as_slice() == text.as_bytes())
-}
-
-/// Whether this text is appended of a reply.
-fn is_appended(alloc: Global, schema: &Schema, reply: &Reply, text: &str) -> Result<bool, Fail>
-    requires { NamesCells schema.now.dims reply.now }
-{
-    let mut appended = Vec::new(alloc);
-    append_reply(&mut appended, schema, reply)?;
-    Ok(appended.as_slice() == text.as_bytes())
-}
-
-/// Whether a reply has this text, either way.
-fn is_written(alloc: Global, schema: &Schema, reply: &Reply, text: &str) -> Result<bool, Fail>
-    requires { NamesCells schema.now.dims reply.now }
-{
-    Ok(is_written_alone(alloc, schema, reply, text)? && is_appended(alloc, schema, reply, text)?)
 }
 
 /// Whether replies of one field are written.

@@ -1,7 +1,5 @@
-//! Terms added, merged and taken away.
-#![tactic(auto, using(crate::proofs::SmallTerms::fits_merge, crate::proofs::SmallTerms::fits_difference))]
-
-ghost use Rattle.std.specs.Prelude.{◌≡◌, ◌<◌, ◌≤◌, [], ◌∷◌, All, IfOk, length};
+//! Terms to which shares are added.
+ghost use Rattle.std.specs.Prelude.{◌≡◌, ◌≤◌, [], ◌∷◌, IfOk, length};
 ghost use Rattle.library_tests.specs.Small.{AreSmall};
 
 use cube_base::Cols;
@@ -12,19 +10,21 @@ use std::test::Fail;
 /// A denominator and a value, of weight 1.
 type Share = (u64, i32);
 
-/// The shares of two lists of terms, and those of both merged.
-type Row = ([Share; 3], [Share; 3], [Share; 6]);
+/// A denominator, with the count and the sum there.
+type Sum = (u64, i128, i128);
 
-const MERGED: [Row; 2] = [
+/// Shares, and what they come to.
+type Row = (&'static [Share], &'static [Sum]);
+
+const ADDED: [Row; 3] = [
+    (&[(1, 100), (1, 300), (3, 600)], &[(1, 2, 400), (3, 1, 600)]),
     (
-        [(1, 100), (1, 300), (3, 600)],
-        [(3, 600), (2, -7), (1, 50)],
-        [(1, 450), (1, 0), (2, -7), (3, 1200), (1, 0), (3, 0)],
+        &[(1, 450), (1, 0), (2, -7), (3, 1200), (1, 0), (3, 0)],
+        &[(1, 3, 450), (2, 1, -7), (3, 2, 1200)],
     ),
     (
-        [(5, 50), (1, -10), (1, -10)],
-        [(3, 30), (7, 70), (6, 0)],
-        [(1, -20), (1, 0), (7, 70), (6, 0), (5, 50), (3, 30)],
+        &[(1, -20), (1, 0), (7, 70), (6, 0), (5, 50), (3, 30)],
+        &[(1, 2, -20), (3, 1, 30), (5, 1, 50), (6, 1, 0), (7, 1, 70)],
     ),
 ];
 
@@ -37,7 +37,7 @@ fn column(value: i32) -> Result<Cols, Fail>
 /// The terms of some shares.
 fn terms_of(alloc: Global, shares: &[Share]) -> Result<Terms, Fail>
     requires { length shares.now ≤ 8 }
-    ensures { IfOk result (AreSmall 8) }
+    ensures { IfOk result (λ terms. terms.columns ≡ 2) }
 {
     let mut terms = Terms::empty(alloc, 2);
     for (den, value) in shares {
@@ -49,29 +49,23 @@ fn terms_of(alloc: Global, shares: &[Share]) -> Result<Terms, Fail>
     Ok(terms)
 }
 
-/// Whether two lists of terms are printed alike.
-fn print_alike(alloc: Global, left: &Terms, right: &Terms) -> Result<bool, Fail> {
-    Ok(format!(in alloc; "{left:?}")? == format!(in alloc; "{right:?}")?)
+/// Whether terms over two columns are these sums.
+fn are_sums(terms: &Terms, sums: &[Sum]) -> bool {
+    if terms.columns() != 2 || terms.len() != sums.len() as u64 {
+        return false;
+    }
+    for i in 0..terms.len() {
+        if (terms.den_at(i), terms.num_at(i, 0), terms.num_at(i, 1)) != sums[i as usize] {
+            return false;
+        }
+    }
+    true
 }
 
-/// Whether both lists of a row are merged to the third.
-fn merges(alloc: Global, row: &Row) -> Result<bool, Fail> {
-    let (first, second, both) = row;
-    let mut merged = terms_of(alloc, first)?;
-    merged.add(&terms_of(alloc, second)?)?;
-    print_alike(alloc, &merged, &terms_of(alloc, both)?)
-}
-
-/// Whether the third list gives the first again without the second.
-fn takes_back(alloc: Global, row: &Row) -> Result<bool, Fail> {
-    let (first, second, both) = row;
-    let left = terms_of(alloc, both)?.sub(&terms_of(alloc, second)?)?;
-    print_alike(alloc, &left, &terms_of(alloc, first)?)
-}
-
-fn are_merged(alloc: Global, rows: &[Row]) -> Result<bool, Fail> {
-    for row in rows {
-        if !merges(alloc, row)? || !takes_back(alloc, row)? {
+/// Whether the shares of each row come to its sums.
+fn are_added(alloc: Global, rows: &[Row]) -> Result<bool, Fail> {
+    for (shares, sums) in rows {
+        if shares.len() > 8 || !are_sums(&terms_of(alloc, shares)?, sums) {
             return Ok(false);
         }
     }
@@ -79,7 +73,7 @@ fn are_merged(alloc: Global, rows: &[Row]) -> Result<bool, Fail> {
 }
 
 #[test]
-fn terms_are_merged_and_taken_away(rt: HostRuntime) -> Result<(), Fail> {
-    assert!(rt; are_merged(rt.alloc(), &MERGED)?);
+fn shares_are_added(rt: HostRuntime) -> Result<(), Fail> {
+    assert!(rt; are_added(rt.alloc(), &ADDED)?);
     Ok(())
 }

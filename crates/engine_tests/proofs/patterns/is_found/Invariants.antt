@@ -1,5 +1,0 @@
-use Rattle.engine_tests.proofs.patterns.is_found.Given as goal
-
--- the steps are counted by the ledger of the blank
-abbrev pub ghosts-ids_by_patterns : goal.ghosts-ids_by_patterns
-ghosts-ids_by_patterns a = record { name = a.blank.name; parts = 1 }
