@@ -1,7 +1,9 @@
 -- Lists that are made of a list for each of some items, one behind the other.
-use Rattle.std.proofs.Common.{◌≡◌, ℕ, Bool, List, [], ◌∷◌, refl, ap, ◌∙◌, arith}
+use Rattle.std.proofs.Common.{◌≡◌, ℕ, ◌+◌, ◌<◌, Bool, List, [], ◌∷◌, ◌++◌, get_or, length, take, refl, ap, ◌∙◌, append-nil, arith}
 use Rattle.std.specs.Prelude.{All, ◌||◌}
 use Rattle.std.specs.List.{flat_map, list_any, sum_by}
+use Rattle.std.proofs.lemmas.Grind.{flat_map-append}
+use Rattle.std.proofs.lemmas.List.{take_more}
 use Rattle.std.proofs.lemmas.List.Elements.{All-append, All-head, All-nil, All-tail}
 use Rattle.std.proofs.lemmas.List.Folds.{list_any-append}
 use Rattle.std.proofs.lemmas.List.Sums.{sum_by-append, sum_by-cons}
@@ -25,3 +27,8 @@ All-flat P h (x ∷ xs) each = All-append P (h x) (flat_map h xs) (All-head (λ 
 pub any-alike : {X : Type 0} (p q : X → Bool) (xs : List X) → ((x : X) → p x ≡ q x) → list_any p xs ≡ list_any q xs
 any-alike p q [] each = refl
 any-alike p q (x ∷ xs) each = ap (λ b. b || list_any p xs) (each x) ∙ ap (λ b. q x || b) (any-alike p q xs each)
+
+-- the lists of one item more
+pub flat-more : {X Y : Type 0} (h : X → List Y) (xs : List X) (i : ℕ) (d : X) → i < length xs → flat_map h (take (i + 1) xs) ≡ flat_map h (take i xs) ++ h (get_or xs i d)
+flat-more h xs i d within =
+    ap (flat_map h) (take_more xs i d within) ∙ flat_map-append h (take i xs) (get_or xs i d ∷ []) ∙ ap (λ ys. flat_map h (take i xs) ++ ys) (append-nil (h (get_or xs i d)))

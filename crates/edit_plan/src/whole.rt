@@ -1,5 +1,5 @@
 //! New facts, planned all at once.
-ghost use Rattle.std.specs.Prelude.{◌≡◌, ◌++◌, ◌∷◌, ◌≤◌, [], true, None, Some, IfErr, IfOk, OnOk, length, option_map};
+ghost use Rattle.std.specs.Prelude.{◌≡◌, ◌++◌, ◌∷◌, ◌≤◌, [], true, None, Some, IfErr, IfOk, Ok, OnOk, length, option_map};
 ghost use Rattle.std.specs.Option.{option_copied};
 ghost use Rattle.cube_model.specs.Allocation.{allocation, row_count};
 ghost use Rattle.cube_model.specs.Ascending.{ascends_from};
@@ -10,6 +10,7 @@ ghost use Rattle.region_algebra.specs.Space.{IsRegion, code_of};
 ghost use Rattle.staged_map.specs.Staged.{value_at};
 ghost use Rattle.edit_plan.specs.Plan.{AreAllFor, IsPlanFor, facts_after};
 ghost use Rattle.edit_plan.specs.State.{policy_in};
+ghost use Rattle.edit_plan.specs.declared.plan_change.PlanChange.TheVariants as plan_change;
 ghost use Rattle.edit_plan.specs.Whole.{IsAllFaultOf, difference_with, facts_with, ids_otherwise, lay_so, new_kept, refreshed_by, rows_otherwise, rows_with};
 
 use crate::plan_change::PlanChange;
@@ -47,18 +48,24 @@ pub fn plan_all<P: WeightPolicy + Drop>(
     // What a state says of its facts.
     let _ = state.facts();
     let all = state.kept_with(facts.as_slice())?;
-    let Refreshed { ids, rows } = state.refreshed_among(alloc, &all)?;
-    let facts = state.new_among(alloc, &all)?;
-    let batch = Batch {
-        schema: None,
-        gone: Ids::new(alloc),
-        facts,
-        rows,
-    };
+    let made = state.kept_of_all(alloc, &all);
+    Ok(plan_of_all(alloc, all, made)?)
+}
+
+/// The plan that puts all facts, of which these ids are refreshed and this is changed in a store, if that was made.
+fn plan_of_all(
+    alloc: Global,
+    all: FactsKept,
+    made: Result<(Ids, Batch), Memory>,
+) -> Result<Plan, Memory>
+    ensures change { IfOk result (λ plan. plan.change ≡ plan_change.All all) }
+    ensures made { IfOk result (λ plan. made ≡ Ok (plan.refreshed, plan.batch)) }
+{
+    let (refreshed, batch) = made?;
     Ok(Plan {
         alloc,
         change: PlanChange::All { all },
-        refreshed: ids,
+        refreshed,
         batch,
     })
 }
@@ -107,6 +114,28 @@ impl<P: WeightPolicy + Drop> State<P> {
             views,
             facts,
         )
+    }
+
+    /// Of all facts the ids of those that are new or lie otherwise than before, and what they change in a store.
+    fn kept_of_all(&self, alloc: Global, all: &FactsKept) -> Result<(Ids, Batch), Memory>
+        requires { AreAllFor P.weigh self.now all.now }
+        ensures ids { IfOk result (λ made. made.0 ≡ ids_otherwise (policy_in P.weigh self.now) self.now.dims self.now.facts all.now.facts.facts all.now.facts.facts) }
+        ensures batch { IfOk result (λ made. made.1 ≡ record {
+          schema = None;
+          gone = [];
+          facts = new_kept self.now.facts all.now.facts.facts;
+          rows = rows_otherwise (policy_in P.weigh self.now) self.now.dims self.now.facts all.now.facts.facts all.now.facts.facts;
+        }) }
+    {
+        let Refreshed { ids, rows } = self.refreshed_among(alloc, all)?;
+        let facts = self.new_among(alloc, all)?;
+        let batch = Batch {
+            schema: None,
+            gone: Ids::new(alloc),
+            facts,
+            rows,
+        };
+        Ok((ids, batch))
     }
 
     /// Of all facts those that are new or lie otherwise than before, in order.
