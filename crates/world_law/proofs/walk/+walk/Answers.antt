@@ -1,9 +1,19 @@
-use Rattle.std.proofs.Common.{get_or, pos, rules, arith, ap, length}
+use Rattle.std.proofs.Common.{◌≡◌, ℕ, List, [], ◌∷◌, get_or, ℤ, pos, rules, arith, ap, length}
 use Rattle.std.specs.Int.{w64}
 use mir.Val.{SFits}
 use Rattle.std.proofs.lemmas.Int.{to_z-of_z}
+use Rattle.world_law.specs.Choices.{Choice, HasRoom}
+use Rattle.world_law.specs.declared.walk.Found.{Found}
 use Rattle.world_law.proofs.Choices.{adds_all, adds_next, adds_none, room_first, room_next, sum_next, weight_next}
 use Rattle.world_law.proofs.walk.+walk.Goals as goal
+
+-- where no choice is left, there is room for one world
+room-none : (choices : List Choice) (weight : ℕ) (sum : ℤ) (found : Found) → length choices ≡ 0 → HasRoom choices weight sum found → HasRoom [] weight sum found
+room-none [] weight sum found none room = room
+room-none (c ∷ cs) weight sum found none room = absurd (omega (arith, none))
+
+pub with_world-requires : goal.with_world-requires
+with_world-requires t c = rw (to_z-of_z w64 c.args.sum c.ranges.sum) (room-none c.args.choices.now c.args.weight c.args.sum c.args.found c.in_default.ensures.cases c.requires)
 
 -- no row yet
 pub loop-n-init : goal.loop-n-init
