@@ -1,5 +1,5 @@
 -- What a pass over a column keeps, fraction by fraction.
-use Rattle.std.proofs.Common.{◌≡◌, ℕ, suc, ◌+◌, ◌*◌, ◌^◌, ◌<◌, ◌≤◌, true, List, [], ◌∷◌, length, Some, None, sym, ap, ◌∙◌, inl, inr, arith, ℤ, pos, ◌+ℤ◌, ◌-ℤ◌, drop}
+use Rattle.std.proofs.Common.{◌≡◌, ℕ, suc, ◌+◌, ◌*◌, ◌/◌, ◌^◌, ◌<◌, ◌≤◌, true, List, [], ◌∷◌, length, Some, None, sym, ap, ◌∙◌, inl, inr, arith, ℤ, pos, ◌+ℤ◌, ◌-ℤ◌, drop}
 use Rattle.std.specs.Prelude.{nat_abs, All}
 use lib.IntN.{+ℤ_assoc}
 use Rattle.std.proofs.lemmas.List.{drop_all, length-map}
@@ -7,6 +7,8 @@ use Rattle.std.proofs.lemmas.List.Elements.{All-nil, All-cons, All-drop}
 use Rattle.std.proofs.lemmas.Bool.{cases_lt}
 use Rattle.std.proofs.lemmas.Bool.Decides.{nat_tests}
 use Rattle.std.proofs.lemmas.Int.{ints}
+use Rattle.std.proofs.lemmas.List.Sums.{sum_by-cons}
+use Rattle.std.proofs.Math.Nat.{mul_comm}
 use Rattle.cube_model.specs.declared.term.Term.{Term}
 use Rattle.cube_model.specs.Answer.{total_by}
 use Rattle.cube_model.specs.Limits.{WIDE}
@@ -14,12 +16,12 @@ use Rattle.group_sum.specs.Terms.{TermList, AreTerms, are_terms_from}
 use Rattle.group_sum.proofs.Ascending.{first_is}
 use Rattle.exact_fraction.specs.Number.{lcm, within}
 use Rattle.exact_fraction.specs.Fraction.{UNIT, Fraction, term_fraction, column_fractions, common_den, sum_over, abs_over, floor_of, ceiling_of}
-use Rattle.exact_fraction.specs.Signed.{fraction_of, MOST_PART}
+use Rattle.exact_fraction.specs.Signed.{AddsToSums, AreSignedSums, fraction_of, signed, MOST_PART}
 use Rattle.exact_fraction.specs.declared.fraction.SignedFraction.{SignedFraction}
 use Rattle.exact_fraction.specs.declared.column.SignedSums.{SignedSums}
 use Rattle.exact_fraction.specs.declared.fraction.Bounds.{Bounds}
 use Rattle.exact_fraction.proofs.Columns.{column_of}
-use Rattle.exact_fraction.proofs.Signs.{floor_small, ceiling_small}
+use Rattle.exact_fraction.proofs.Signs.{floor_small, ceiling_small, nat_abs-signed, signed-times}
 use Rattle.exact_fraction.proofs.Divisors.{cofactor_some, lcm_some, le-lcm, lcm_assoc, lcm-one, one-lcm}
 
 -- no denominator is 0
@@ -103,6 +105,34 @@ pub record HasSums (multiple : ℕ) (fs : List Fraction) (sums : SignedSums) (re
   pub sum : pos sums.above -ℤ pos sums.below +ℤ sum_over multiple rest ≡ sum_over multiple fs
   pub size : sums.above + sums.below + abs_over multiple rest ≡ abs_over multiple fs
   pub narrow : sums.above + sums.below ≤ WIDE
+
+-- with one more fraction
+module _ (multiple : ℕ) (fs : List Fraction) (sums : SignedSums) (p : SignedFraction) (rest : List Fraction) (has : HasSums multiple fs sums (fraction_of p ∷ rest)) (share : ℕ) (share_is : multiple / p.den * p.size ≡ share) where
+  sum_left : pos sums.above -ℤ pos sums.below +ℤ (signed p.negative share +ℤ sum_over multiple rest) ≡ sum_over multiple fs
+  sum_left = ap (λ z. pos sums.above -ℤ pos sums.below +ℤ (z +ℤ sum_over multiple rest)) (sym (signed-times p.negative p.size (multiple / p.den) ∙ ap (signed p.negative) share_is)) ∙ has.sum
+
+  size_left : sums.above + sums.below + (share + abs_over multiple rest) ≡ abs_over multiple fs
+  size_left =
+      let one : nat_abs (signed p.negative p.size) * (multiple / p.den) ≡ share = ap (λ n. n * (multiple / p.den)) (nat_abs-signed p.negative p.size) ∙ mul_comm p.size (multiple / p.den) ∙ share_is in
+      ap (λ n. sums.above + sums.below + (n + abs_over multiple rest)) (sym one)
+      ∙ ap (λ n. sums.above + sums.below + n) (sym (sum_by-cons (λ (f : Fraction). nat_abs f.num * (multiple / f.den)) (fraction_of p) rest)) ∙ has.size
+
+  pub sums_next : (next : SignedSums) → AddsToSums sums p.negative share next → HasSums multiple fs next rest
+  sums_next next adds = record {
+    sum = ap (λ z. z +ℤ sum_over multiple rest) adds.sum ∙ +ℤ_assoc (pos sums.above -ℤ pos sums.below) (signed p.negative share) (sum_over multiple rest) ∙ sum_left;
+    size = omega (arith, adds.size, size_left);
+    narrow = adds.within;
+  }
+
+  -- or where they pass WIDE
+  pub sums_wide : WIDE < sums.above + sums.below + share → WIDE < abs_over multiple fs
+  sums_wide wide = omega (arith, size_left)
+
+-- past the last fraction the sums are those of all
+pub sums_all : (multiple : ℕ) (fs : List Fraction) (sums : SignedSums) (rest : List Fraction) → HasSums multiple fs sums rest → rest ≡ [] → AreSignedSums multiple fs sums
+sums_all multiple fs sums rest has empty =
+    let all = rw empty at has in
+    record { sum = omega (arith, ints, all.sum); size = omega (arith, all.size); within = has.narrow }
 
 -- the bounds so far, with those of the fractions from here on, are the bounds of all; and they are small
 pub record HasBounds (fs : List Fraction) (i : ℕ) (bounds : Bounds) (rest : List Fraction) : Type 0 where

@@ -2,8 +2,25 @@ use Rattle.std.proofs.Common.{rules, arith}
 use Rattle.std.specs.Int.{w128}
 use mir.Val.{SFits}
 use Rattle.std.proofs.lemmas.Int.{to_z-of_z}
-use Rattle.exact_fraction.proofs.Dividing.{narrow_divisors, hi_size, wide_told}
+use Rattle.exact_fraction.proofs.Dividing.{narrow_divisors, hi_size, lo_size, wide_told}
 use Rattle.exact_fraction.proofs.quotients.wide_quotient.Goals as goal
+
+pub divided-below-requires-clause-narrow : goal.divided-below-requires-clause-narrow
+divided-below-requires-clause-narrow c =
+    let fits_least : SFits w128 c.args.count.lo = search rules in
+    let fits_most : SFits w128 c.args.count.hi = search rules in
+    let least = simp to_z-of_z at c.unsigned_abs-least.ensures.value in
+    let most = simp to_z-of_z at c.unsigned_abs-most.ensures.value in
+    rw c.from.ensures (narrow_divisors c.args.scale c.args.sum c.args.count _ _ least most (omega arith) c.requires.divide)
+
+pub divided-below-requires-clause-size : goal.divided-below-requires-clause-size
+divided-below-requires-clause-size c =
+    let fits_least : SFits w128 c.args.count.lo = search rules in
+    let fits_most : SFits w128 c.args.count.hi = search rules in
+    let fits : SFits w128 c.args.sum.lo = search rules in
+    let least = simp to_z-of_z at c.unsigned_abs-least.ensures.value in
+    let most = simp to_z-of_z at c.unsigned_abs-most.ensures.value in
+    simp to_z-of_z (lo_size c.args.scale c.args.sum c.args.count _ _ least most (omega arith) c.requires.divide)
 
 pub divided-above-requires-clause-narrow : goal.divided-above-requires-clause-narrow
 divided-above-requires-clause-narrow c =
