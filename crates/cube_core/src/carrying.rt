@@ -29,7 +29,10 @@ pub(crate) fn carry_out<P: WeightPolicy + Drop, K: Keeper>(
     ensures same_content { OnErr result (K.content keeper.new ≡ K.content keeper.old) }
     ensures same_journal { OnErr result (K.journal keeper.new ≡ K.journal keeper.old) }
 {
-    keeper.commit(plan.batch())?;
+    if let Err(fault) = keeper.commit(plan.batch()) {
+        drop(plan);
+        return Err(fault);
+    }
     let refreshed = plan.take_refreshed();
     state.install(plan);
     Ok(refreshed)

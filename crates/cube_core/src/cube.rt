@@ -84,7 +84,13 @@ impl<P: WeightPolicy + Drop> Cube<P> {
     {
         let space = schema.space().copy()?;
         let shape = schema.shape().copy()?;
-        let state = State::new(alloc, space, shape, policy, schema.views())?;
+        let state = match State::new(alloc, space, shape, policy, schema.views()) {
+            Ok(state) => state,
+            Err(fault) => {
+                drop(schema);
+                return Err(fault);
+            }
+        };
         Ok(Cube {
             alloc,
             schema,
@@ -109,7 +115,13 @@ impl<P: WeightPolicy + Drop> Cube<P> {
     {
         let space = schema.space().copy()?;
         let shape = schema.shape().copy()?;
-        let state = load_state(alloc, space, shape, policy, schema.views(), stored)?;
+        let state = match load_state(alloc, space, shape, policy, schema.views(), stored) {
+            Ok(state) => state,
+            Err(fault) => {
+                drop(schema);
+                return Err(fault);
+            }
+        };
         Ok(Cube {
             alloc,
             schema,

@@ -107,11 +107,18 @@ fn growth_to<P: WeightPolicy + Drop + Copy>(
     ensures fault { IfErr result (IsRespreadFault P.weigh state.now schema.dims) }
 {
     let text = write_schema(alloc, &schema)?;
-    let later = state_over(alloc, state, schema.space())?;
+    let later = match state_over(alloc, state, schema.space()) {
+        Ok(later) => later,
+        Err(fault) => {
+            drop(schema);
+            return Err(fault);
+        }
+    };
     let Moved { ids, rows } = match moved_between(alloc, state, &later) {
         Ok(moved) => moved,
         Err(fault) => {
             drop(later);
+            drop(schema);
             return Err(EditFault::from(fault));
         }
     };
