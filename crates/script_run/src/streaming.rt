@@ -68,7 +68,9 @@ pub fn run_stream<P: WeightPolicy + Drop + Copy, S: Source, K: Sink, Q: Keeper>(
         mut lines,
     } = input;
     let mut run = ScriptRun::new(alloc, cube, keeps);
-    do_input(&mut run, &mut pieces, &mut lines, source, out, keeper)
+    let ended = do_input(&mut run, &mut pieces, &mut lines, source, out, keeper);
+    drop(run);
+    ended
 }
 
 /// Does the lines piece by piece to the end of the input, and says how many are refused.

@@ -8,8 +8,8 @@ use Rattle.script_run.proofs.HeldLines.{length-whole_lines}
 use Rattle.script_run.proofs.PieceTurns.{stream_start}
 use Rattle.script_run.proofs.streaming.run_stream.Goals as goal
 
-pub do_input-requires-clause-few : goal.do_input-requires-clause-few
-do_input-requires-clause-few g c = omega (arith, c.requires.short, ap (λ w. w.done) c.new-run.ensures, length-whole_lines c.args.input.lines.lines)
+pub do_input-ended-requires-clause-few : goal.do_input-ended-requires-clause-few
+do_input-ended-requires-clause-few g c = omega (arith, c.requires.short, ap (λ w. w.done) c.new-run.ensures, length-whole_lines c.args.input.lines.lines)
 
 pub returns-clause-ends : goal.returns-clause-ends
 returns-clause-ends g c = λ text are.
@@ -21,9 +21,9 @@ returns-clause-ends g c = λ text are.
     let made = c.new-run.ensures in
     let none = subst (HasDone {P = g.row.P.Denot} weigh schema first [] start.taken start.taken) (sym made) (none_done {P = g.row.P.Denot} weigh start.taken c.args.cube c.args.keeps) in
     let input = c.args.input in
-    c.do_input.ensures.ends _ text input.pieces.room start
+    c.do_input-ended.ensures.ends _ text input.pieces.room start
     (stream_start {P = g.row.P.Denot} g.P.WeightPolicy.weigh (record { weigh = weigh; schema = schema; first = first; keeps = c.args.keeps }) text start input.pieces input.lines.lines c.new-run.result
     (ap (λ w. g.P.WeightPolicy.weigh w.cube.policy) (sym made)) (ap (λ w. w.keeps) (sym made)) c.requires.ended are none (ap (λ w. w.gathered) made))
 
 pub returns-clause-count : goal.returns-clause-count
-returns-clause-count g c = λ keeps. c.do_input.ensures.count (ap (λ w. w.keeps) c.new-run.ensures ∙ keeps)
+returns-clause-count g c = λ keeps. c.do_input-ended.ensures.count (ap (λ w. w.keeps) c.new-run.ensures ∙ keeps)
