@@ -28,11 +28,18 @@ pub fn import_file<P: WeightPolicy + Drop, K: Sink, Q: Keeper>(
     ensures { EndsImporting (policy_in (P.weigh cube.policy) cube.schema) cube.schema cube.facts file.now (sink_seen K.taken K.faults out.old out.new) (keeper_seen Q.content Q.journal Q.faults keeper.old keeper.new) result }
 {
     let Ok(seq) = read_facts(alloc, cube.schema(), file) else {
+        drop(cube);
         return End::Memory { done: 0 };
     };
     match cube.import(&seq, keeper) {
-        Ok(receipt) => tell_imported(alloc, &seq, &receipt, out),
-        Err(fault) => end_of_import(fault),
+        Ok(receipt) => {
+            drop(cube);
+            tell_imported(alloc, &seq, &receipt, out)
+        }
+        Err(fault) => {
+            drop(cube);
+            end_of_import(fault)
+        }
     }
 }
 

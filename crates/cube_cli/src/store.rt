@@ -156,6 +156,7 @@ fn run_over<P: WeightPolicy + Drop + Copy, S: Source, K: Sink, Q: Keeper>(
     ensures few { TookFew (source_seen S.left S.faults source.old source.new) result }
 {
     let Ok(input) = LineInput::new(alloc) else {
+        drop(cube);
         return End::Memory { done: 0 };
     };
     end_of_run(run_stream(alloc, cube, input, true, source, out, keeper))
@@ -176,6 +177,9 @@ fn import_over<P: WeightPolicy + Drop + Copy, S: Source, K: Sink, Q: Keeper>(
 {
     match take_input(alloc, source, MAX_INPUT) {
         Ok(input) => import_file(alloc, cube, &input, out, keeper),
-        Err(stop) => end_of_stop(stop),
+        Err(stop) => {
+            drop(cube);
+            end_of_stop(stop)
+        }
     }
 }

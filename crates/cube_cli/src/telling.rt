@@ -76,7 +76,11 @@ fn tell_under<P: WeightPolicy + Drop, K: Sink>(
     ensures over { HoldsSchema schema content.now → WeighsAs (P.weigh policy) schema → TellingOver telling content.now (sink_seen K.taken K.faults out.old out.new) result }
 {
     match Cube::from_stored(alloc, schema, content, policy) {
-        Ok(cube) => write_text(out, text_of(alloc, telling, &cube), 0),
+        Ok(cube) => {
+            let text = text_of(alloc, telling, &cube);
+            drop(cube);
+            write_text(out, text, 0)
+        }
         Err(fault) => end_of_load(fault),
     }
 }

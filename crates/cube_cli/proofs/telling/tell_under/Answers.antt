@@ -13,7 +13,7 @@ returns-in-Ok-clause-ends g c =
     let sink : SinkSeen = sink_seen g.K.Sink.taken g.K.Sink.faults c.args.out.now c.write_text.new.out in
     let cube = c.in-Ok.cube in
     let text = text_told c.args.telling (policy_in (g.P.WeightPolicy.weigh cube.policy) cube.schema) cube.schema cube.facts in
-    ends_text text sink c.write_text.result (c.write_text.ensures text c.text_of.ensures)
+    ends_text text sink c.write_text.result (c.write_text.ensures text c.text_of-text.ensures)
 
 pub returns-in-Ok-clause-over : goal.returns-in-Ok-clause-over
 returns-in-Ok-clause-over g c = λ holds alike.
@@ -25,7 +25,7 @@ returns-in-Ok-clause-over g c = λ holds alike.
     loaded_cube {P = g.row.P.Denot} weigh c.args.schema c.args.policy content cube c.in-Ok.ensures.schema c.in-Ok.ensures.policy c.in-Ok.ensures.facts c.in-Ok.ensures.sound holds alike in
     let text = text_told c.args.telling (policy_in (weigh cube.policy) cube.schema) cube.schema cube.facts in
     over_text c.args.telling cube.schema content sink is.holds.schema_is is.sound c.write_text.result
-    (subst (λ t. TellsText t 0 sink c.write_text.result) (text_same {P = g.row.P.Denot} weigh c.args.telling cube content is) (c.write_text.ensures text c.text_of.ensures))
+    (subst (λ t. TellsText t 0 sink c.write_text.result) (text_same {P = g.row.P.Denot} weigh c.args.telling cube content is) (c.write_text.ensures text c.text_of-text.ensures))
 
 pub returns-in-Err-clause-ends : goal.returns-in-Err-clause-ends
 returns-in-Err-clause-ends g c =
