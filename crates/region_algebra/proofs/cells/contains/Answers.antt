@@ -3,8 +3,15 @@ use Rattle.std.proofs.lemmas.Bool.Decides.{nat_tests}
 use Rattle.cube_model.specs.Cells.{is_among}
 use Rattle.region_algebra.specs.Space.{cell_total}
 use Rattle.region_algebra.proofs.Tuples.{inside-here, is_among-turn, outside-here, step-at}
-use Rattle.region_algebra.proofs.Turns.{cells-at_end, cell_total-some, here}
+use Rattle.region_algebra.proofs.Turns.{cells-at_end, cell_total-some, here, is_region-length}
 use Rattle.region_algebra.proofs.cells.contains.Goals as goal
+
+pub node-requires : goal.node-requires
+node-requires c = omega (arith, is_region-length c.args.dims.now c.args.r c.requires.region, c.loop-d-test.true)
+
+pub leaf_range-first-requires : goal.leaf_range-first-requires
+leaf_range-first-requires c =
+    (here c.args.dims.now c.args.r c.loop-d.d (c.loop-d.d + 1) c.index-dims-d.result c.node.result c.requires.region c.loop-d-test.true refl c.index-dims-d.is c.node.ensures).within
 
 pub nonzero_div-rest : goal.nonzero_div-rest
 nonzero_div-rest c = (step-at cell_total cell_total-some c.args.dims.now c.args.steps.now c.loop-d.d c.requires.steps c.loop-d-test.true).1

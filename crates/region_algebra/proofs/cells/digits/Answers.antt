@@ -3,12 +3,19 @@ use Rattle.std.specs.List.{range_with_len}
 use Rattle.cube_model.specs.Cells.{leaf_places}
 use Rattle.cube_model.specs.Tree.{leaves}
 use Rattle.region_algebra.proofs.InsideDigits.{digit_fits, told_digit, told_done, told_start, told_whole}
-use Rattle.region_algebra.proofs.Turns.{here}
+use Rattle.region_algebra.proofs.Turns.{here, is_region-length}
 use Rattle.region_algebra.proofs.cells.digits.Goals as goal
 use Rattle.region_algebra.proofs.cells.digits.Goals.{then-is_asked, else-is_asked}
 
 pub loop-d-init : goal.loop-d-init
 loop-d-init c = record { room = refl; told = told_start c.args.dims.now c.args.r _ }
+
+pub node-requires : goal.node-requires
+node-requires c = omega (arith, is_region-length c.args.dims.now c.args.r c.requires.region, c.loop-d-test.true)
+
+pub leaf_range-first-requires : goal.leaf_range-first-requires
+leaf_range-first-requires c =
+    (here c.args.dims.now c.args.r c.loop-d.d (c.loop-d.d + 1) c.index-dims-d.result c.node.result c.requires.region c.loop-d-test.true refl c.index-dims-d.is c.node.ensures).within
 
 pub overflow_mul-digit : goal.overflow_mul-digit
 overflow_mul-digit c =
