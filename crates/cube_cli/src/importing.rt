@@ -28,6 +28,7 @@ pub fn import_file<P: WeightPolicy + Drop, K: Sink, Q: Keeper>(
     ensures { EndsImporting (policy_in (P.weigh cube.policy) cube.schema) cube.schema cube.facts file.now (sink_seen K.taken K.faults out.old out.new) (keeper_seen Q.content Q.journal Q.faults keeper.old keeper.new) result }
 {
     let Ok(seq) = read_facts(alloc, cube.schema(), file) else {
+        // Dropped by a call, which is proved once: in place it would be proved on each way out.
         drop(cube);
         return End::Memory { done: 0 };
     };

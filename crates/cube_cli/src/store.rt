@@ -156,6 +156,7 @@ fn run_over<P: WeightPolicy + Drop + Copy, S: Source, K: Sink, Q: Keeper>(
     ensures few { TookFew (source_seen S.left S.faults source.old source.new) result }
 {
     let Ok(input) = LineInput::new(alloc) else {
+        // Dropped by a call, which is proved once: in place it would be proved on each way out.
         drop(cube);
         return End::Memory { done: 0 };
     };

@@ -78,6 +78,7 @@ fn tell_under<P: WeightPolicy + Drop, K: Sink>(
     match Cube::from_stored(alloc, schema, content, policy) {
         Ok(cube) => {
             let text = text_of(alloc, telling, &cube);
+            // Dropped by a call, which is proved once: in place it would be proved on each way out.
             drop(cube);
             write_text(out, text, 0)
         }

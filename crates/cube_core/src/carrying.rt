@@ -30,6 +30,7 @@ pub(crate) fn carry_out<P: WeightPolicy + Drop, K: Keeper>(
     ensures same_journal { OnErr result (K.journal keeper.new ≡ K.journal keeper.old) }
 {
     if let Err(fault) = keeper.commit(plan.batch()) {
+        // Dropped by a call, which is proved once: in place it would be proved on each way out.
         drop(plan);
         return Err(fault);
     }

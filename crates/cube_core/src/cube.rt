@@ -87,6 +87,7 @@ impl<P: WeightPolicy + Drop> Cube<P> {
         let state = match State::new(alloc, space, shape, policy, schema.views()) {
             Ok(state) => state,
             Err(fault) => {
+                // Dropped by a call, which is proved once: in place it would be proved on each way out.
                 drop(schema);
                 return Err(fault);
             }

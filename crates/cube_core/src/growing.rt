@@ -110,6 +110,7 @@ fn growth_to<P: WeightPolicy + Drop + Copy>(
     let later = match state_over(alloc, state, schema.space()) {
         Ok(later) => later,
         Err(fault) => {
+            // Dropped by a call, which is proved once: in place it would be proved on each way out.
             drop(schema);
             return Err(fault);
         }

@@ -202,9 +202,12 @@ impl<P: WeightPolicy + Drop> State<P> {
         let Plan {
             alloc: _,
             change,
-            refreshed: _,
-            batch: _,
+            refreshed,
+            batch,
         } = plan;
+        // Dropped by a call, which is proved once: in place it would be proved on each way out.
+        drop(refreshed);
+        drop(batch);
         match change {
             PlanChange::Edit { edit, sets, rows } => self.set(edit, sets, rows),
             PlanChange::All { all } => self.replace(all),
@@ -243,11 +246,11 @@ impl<P: WeightPolicy + Drop> State<P> {
             views,
             rows,
         } = all;
-        self.facts = facts;
-        self.stats = stats;
-        self.index = index;
-        self.groups = groups;
-        self.views = views;
+        drop(std::mem::replace(&mut self.facts, facts));
+        drop(std::mem::replace(&mut self.stats, stats));
+        drop(std::mem::replace(&mut self.index, index));
+        drop(std::mem::replace(&mut self.groups, groups));
+        drop(std::mem::replace(&mut self.views, views));
         self.rows = rows;
     }
 }
