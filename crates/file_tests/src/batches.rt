@@ -69,6 +69,24 @@ fn are_kept_so(rt: &HostRuntime, keeper: &mut SqlKeeper<'_>, steps: &[Step]) -> 
     Ok(true)
 }
 
+/// Whether a keeper loads the content of a case from a file, and so commits the batches of the steps.
+fn loads_and_keeps(
+    rt: &HostRuntime,
+    keeper: &mut SqlKeeper<'_>,
+    path: &str,
+    case: &Case,
+    steps: &[Step],
+) -> Result<bool, Memory> {
+    match keeper.load(rt.alloc(), path) {
+        Ok(content) => {
+            let is_held = is_of(&content, case);
+            drop(content);
+            Ok(is_held && are_kept_so(rt, keeper, steps)?)
+        }
+        Err(_) => Ok(false),
+    }
+}
+
 /// Whether a file has the content of a case. The batches of the steps are then committed to it, as they say.
 fn holds_and_keeps(
     rt: &HostRuntime,
@@ -77,10 +95,9 @@ fn holds_and_keeps(
     steps: &[Step],
 ) -> Result<bool, Memory> {
     let mut keeper = SqlKeeper::new(rt);
-    match keeper.load(rt.alloc(), path) {
-        Ok(content) => Ok(is_of(&content, case) && are_kept_so(rt, &mut keeper, steps)?),
-        Err(_) => Ok(false),
-    }
+    let kept = loads_and_keeps(rt, &mut keeper, path, case, steps);
+    drop(keeper);
+    kept
 }
 
 /// Whether a file has its content before and after the batches, each for a keeper of its own.

@@ -31,7 +31,15 @@ const DAMAGED: [&str; 20] = [
 /// Whether a load of the file at a path is a fault.
 fn is_fault(rt: &HostRuntime, path: &str) -> bool {
     let mut keeper = SqlKeeper::new(rt);
-    matches!(keeper.load(rt.alloc(), path), Err(KeepError::Failed))
+    let is_fault = match keeper.load(rt.alloc(), path) {
+        Ok(content) => {
+            drop(content);
+            false
+        }
+        Err(fault) => fault == KeepError::Failed,
+    };
+    drop(keeper);
+    is_fault
 }
 
 /// Whether a file that a script makes is refused as a fault. Its name is the number.
