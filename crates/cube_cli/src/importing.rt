@@ -35,10 +35,14 @@ pub fn import_file<P: WeightPolicy + Drop, K: Sink, Q: Keeper>(
     match cube.import(&seq, keeper) {
         Ok(receipt) => {
             drop(cube);
-            tell_imported(alloc, &seq, &receipt, out)
+            let end = tell_imported(alloc, &seq, &receipt, out);
+            drop(receipt);
+            drop(seq);
+            end
         }
         Err(fault) => {
             drop(cube);
+            drop(seq);
             end_of_import(fault)
         }
     }

@@ -36,7 +36,10 @@ pub fn init<S: Source, K: Sink, Q: Keeper>(
 {
     match keeper.load(alloc, name) {
         Ok(content) => {
-            if content.is_empty() {
+            let is_empty = content.is_empty();
+            // Dropped by a call, which is proved once: in place it would be proved on each way out.
+            drop(content);
+            if is_empty {
                 init_empty(alloc, source, out, keeper)
             } else {
                 End::HasCube
@@ -64,7 +67,12 @@ fn init_empty<S: Source, K: Sink, Q: Keeper>(
         Err(stop) => return end_of_stop(stop),
     };
     match read_schema_alone(alloc, &input) {
-        Ok(schema) => keep_schema(alloc, &schema, out, keeper),
+        Ok(schema) => {
+            let end = keep_schema(alloc, &schema, out, keeper);
+            // Dropped by a call, which is proved once: in place it would be proved on each way out.
+            drop(schema);
+            end
+        }
         Err(SchemaFault::Bad { line, code }) => End::Schema { line, code },
         Err(SchemaFault::Memory) => End::Memory { done: 0 },
     }
@@ -83,7 +91,10 @@ fn keep_schema<K: Sink, Q: Keeper>(
     let Ok(batch) = schema_batch(alloc, schema) else {
         return End::Memory { done: 0 };
     };
-    match keeper.commit(&batch) {
+    let kept = keeper.commit(&batch);
+    // Dropped by a call, which is proved once: in place it would be proved on each way out.
+    drop(batch);
+    match kept {
         Ok(()) => write_line(out, LINE, 0, 1),
         Err(KeepError::Failed) => End::KeepFault { done: 0 },
         Err(KeepError::Memory) => End::Memory { done: 0 },

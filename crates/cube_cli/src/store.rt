@@ -63,14 +63,20 @@ pub fn open_store<Q: Keeper>(
         Err(KeepError::Memory) => return Err(End::Memory { done: 0 }),
     };
     if content.is_empty() {
+        // Dropped by a call, which is proved once: in place it would be proved on each way out.
+        drop(content);
         return Err(End::NoCube);
     }
     match read_schema_alone(alloc, content.schema.as_slice()) {
         Ok(schema) => Ok((schema, content)),
         Err(SchemaFault::Bad { line, code }) => {
+            drop(content);
             Err(End::BadStore(Finding::Schema { line, code }))
         }
-        Err(SchemaFault::Memory) => Err(End::Memory { done: 0 }),
+        Err(SchemaFault::Memory) => {
+            drop(content);
+            Err(End::Memory { done: 0 })
+        }
     }
 }
 
@@ -116,7 +122,10 @@ fn do_under<P: WeightPolicy + Drop + Copy, S: Source, K: Sink, Q: Keeper>(
     ensures over { HoldsSchema schema content → WeighsAs (P.weigh policy) schema → TaskOver task content (seen_of S.left S.faults K.taken K.faults source.old source.new out.old out.new) (keeper_seen Q.content Q.journal Q.faults keeper.old keeper.new) result }
     ensures few { TookFew (source_seen S.left S.faults source.old source.new) result }
 {
-    match Cube::from_stored(alloc, schema, &content, policy) {
+    let loaded = Cube::from_stored(alloc, schema, &content, policy);
+    // Dropped by a call, which is proved once: in place it would be proved on each way out.
+    drop(content);
+    match loaded {
         Ok(cube) => do_cube(alloc, task, cube, source, out, keeper),
         Err(fault) => end_of_load(fault),
     }

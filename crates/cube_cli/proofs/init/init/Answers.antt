@@ -13,7 +13,7 @@ returns-then-is_empty-clause-says g c =
     let later : Told = told_of g.Q.Keeper.content g.Q.Keeper.journal c.init_empty.new.keeper in
     let faults = g.Q.Keeper.faults in
     init_loaded seen c.init_empty.result c.in-Ok.content told loaded later (faults c.args.keeper.now) (faults c.load.new.self) (faults c.init_empty.new.keeper) c.in-Ok.ensures.given
-    (c.is_empty.ensures.0 c.if-is_empty.true) (same_told told loaded c.in-Ok.ensures.content c.in-Ok.ensures.journal) c.in-Ok.ensures.count c.init_empty.ensures.ends c.init_empty.ensures.over
+    (c.is_empty-is_empty.ensures.0 c.if-is_empty.true) (same_told told loaded c.in-Ok.ensures.content c.in-Ok.ensures.journal) c.in-Ok.ensures.count c.init_empty.ensures.ends c.init_empty.ensures.over
 
 pub returns-then-is_empty-clause-complete : goal.returns-then-is_empty-clause-complete
 returns-then-is_empty-clause-complete g c =

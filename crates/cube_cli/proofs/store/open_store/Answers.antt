@@ -57,8 +57,8 @@ returns-in-Err-Bad-clause-not_opened g c =
           (λ none. absurd (cc (c.is_empty.ensures.1 none, c.if-is_empty.false)), subst (λ r. FindsBy r content found) (sym refused) refl),
     )
 
-pub returns-clause-not_opened : goal.returns-clause-not_opened
-returns-clause-not_opened g c =
+pub returns-in-Err-Memory-read_schema_alone-clause-not_opened : goal.returns-in-Err-Memory-read_schema_alone-clause-not_opened
+returns-in-Err-Memory-read_schema_alone-clause-not_opened g c =
     let before : Told = told_of g.Q.Keeper.content g.Q.Keeper.journal c.args.keeper.now in
     let after : Told = told_of g.Q.Keeper.content g.Q.Keeper.journal c.load.new.self in
     ((same_told before after c.in-Ok.ensures.content c.in-Ok.ensures.journal, c.in-Ok.ensures.count, refl), of_any before.content (λ content. OpeningOver content (Memory 0)) (λ content. tt))
