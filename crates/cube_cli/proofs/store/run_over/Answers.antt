@@ -1,4 +1,5 @@
-use Rattle.std.proofs.Common.{◌≡◌, [], true, refl, ap, subst}
+use Rattle.std.proofs.Common.{◌≡◌, [], true, refl, ap, subst, arith}
+use Rattle.std.proofs.KnownBytes.{Consumes-nil}
 use Rattle.line_cutter.specs.Input.{INPUT_LIMIT}
 use Rattle.line_cutter.specs.Pieces.{Held, pieces_of}
 use Rattle.line_cutter.specs.Reading.{Reading}
@@ -6,7 +7,7 @@ use Rattle.script_run.specs.Run.{state_of}
 use Rattle.script_run.specs.Seen.{KeeperSeen, keeper_seen}
 use Rattle.script_run.specs.Stream.{EndsStream, Ground}
 use Rattle.cube_cli.specs.Seen.{Seen, seen_of}
-use Rattle.cube_cli.proofs.Running.{all_seen, ends_stream, few_stream, over_cube, over_stream}
+use Rattle.cube_cli.proofs.Running.{all_seen, ends_stream, few_stream, over_cube, over_stream, wanted_first}
 use Rattle.cube_cli.proofs.store.run_over.Given.{Over}
 use Rattle.cube_cli.proofs.store.run_over.Goals as goal
 
@@ -37,3 +38,16 @@ returns-clause-over g c = λ content is.
 
 pub returns-clause-few : goal.returns-clause-few
 returns-clause-few g c = rw c.end_of_run.ensures (few_stream (seen g c) (keeper g c) (on g c) c.run_stream.result (streamed g c))
+
+-- memory was wanting before anything was done
+pub returns-in_default-clause-ends : goal.returns-in_default-clause-ends
+returns-in_default-clause-ends g c = record { outside = record { read = refl; write = refl }; keep = refl }
+
+pub returns-in_default-clause-over : goal.returns-in_default-clause-over
+returns-in_default-clause-over g c = λ content is.
+    let seen : Seen = seen_of g.S.Source.left g.S.Source.faults g.K.Sink.taken g.K.Sink.faults c.args.source.now c.args.source.now c.args.out.now c.args.out.now in
+    let keeper : KeeperSeen = keeper_seen g.Q.Keeper.content g.Q.Keeper.journal g.Q.Keeper.faults c.args.keeper.now c.args.keeper.now in
+    wanted_first content seen keeper refl refl
+
+pub returns-in_default-clause-few : goal.returns-in_default-clause-few
+returns-in_default-clause-few g c = record { input = []; bytes = Consumes-nil (g.S.Source.left c.args.source.now); few = omega arith }
