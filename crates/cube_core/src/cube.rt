@@ -82,12 +82,25 @@ impl<P: WeightPolicy + Drop> Cube<P> {
         ensures policy { IfOk result (λ cube. cube.policy ≡ policy) }
         ensures facts { IfOk result (λ cube. cube.facts ≡ []) }
     {
-        let space = schema.space().copy()?;
-        let shape = schema.shape().copy()?;
+        let space = match schema.space().copy() {
+            Ok(space) => space,
+            Err(fault) => {
+                // Dropped by a call, which is proved once: in place it would be proved on each way out.
+                drop(schema);
+                return Err(fault);
+            }
+        };
+        let shape = match schema.shape().copy() {
+            Ok(shape) => shape,
+            Err(fault) => {
+                drop(space);
+                drop(schema);
+                return Err(fault);
+            }
+        };
         let state = match State::new(alloc, space, shape, policy, schema.views()) {
             Ok(state) => state,
             Err(fault) => {
-                // Dropped by a call, which is proved once: in place it would be proved on each way out.
                 drop(schema);
                 return Err(fault);
             }
@@ -114,8 +127,22 @@ impl<P: WeightPolicy + Drop> Cube<P> {
         ensures sound { OnOk result (IsSound (policy_in (P.weigh policy) schema) (shape_of schema) schema.dims stored.now) }
         ensures fault { IfErr result (IsLoadFault (policy_in (P.weigh policy) schema) (shape_of schema) schema.dims stored.now) }
     {
-        let space = schema.space().copy()?;
-        let shape = schema.shape().copy()?;
+        let space = match schema.space().copy() {
+            Ok(space) => space,
+            Err(fault) => {
+                // Dropped by a call, which is proved once: in place it would be proved on each way out.
+                drop(schema);
+                return Err(LoadFault::from(fault));
+            }
+        };
+        let shape = match schema.shape().copy() {
+            Ok(shape) => shape,
+            Err(fault) => {
+                drop(space);
+                drop(schema);
+                return Err(LoadFault::from(fault));
+            }
+        };
         let state = match load_state(alloc, space, shape, policy, schema.views(), stored) {
             Ok(state) => state,
             Err(fault) => {

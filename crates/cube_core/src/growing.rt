@@ -106,11 +106,17 @@ fn growth_to<P: WeightPolicy + Drop + Copy>(
     ensures accepted { OnOk result (facts_refusal (policy_in P.weigh state.now) schema.dims state.now.facts ≡ None) }
     ensures fault { IfErr result (IsRespreadFault P.weigh state.now schema.dims) }
 {
-    let text = write_schema(alloc, &schema)?;
+    let text = match write_schema(alloc, &schema) {
+        Ok(text) => text,
+        Err(fault) => {
+            // Dropped by a call, which is proved once: in place it would be proved on each way out.
+            drop(schema);
+            return Err(EditFault::from(fault));
+        }
+    };
     let later = match state_over(alloc, state, schema.space()) {
         Ok(later) => later,
         Err(fault) => {
-            // Dropped by a call, which is proved once: in place it would be proved on each way out.
             drop(schema);
             return Err(fault);
         }
