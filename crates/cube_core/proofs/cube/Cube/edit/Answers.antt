@@ -1,5 +1,5 @@
 -- The batch of the plan is what the edit changes in the cube.
-use Rattle.std.proofs.Common.{ap, ◌∙◌}
+use Rattle.std.proofs.Common.{[], ◌∷◌, ◌++◌, ap, ◌∙◌}
 use Rattle.std.specs.Prelude.{option_map}
 use Rattle.fact_keeper.specs.Batch.{apply_batch}
 use Rattle.cube_core.specs.Cube.{edited}
@@ -11,6 +11,11 @@ pub returns-clause-content : goal.returns-clause-content
 returns-clause-content g c =
     let changes = difference-told g.P.WeightPolicy.weigh c.self.inside.schema c.self.inside.state c.self.invariant c.args.self.now c.self.view_is c.args.edit.now c.in_ok-plan.plan.batch c.in_ok-plan.ensures.batch in
     c.in_ok-refreshed.ensures.content ∙ ap (λ b. option_map (apply_batch b) (g.K.Keeper.content c.args.keeper.now)) changes
+
+pub returns-clause-journal : goal.returns-clause-journal
+returns-clause-journal g c =
+    let changes = difference-told g.P.WeightPolicy.weigh c.self.inside.schema c.self.inside.state c.self.invariant c.args.self.now c.self.view_is c.args.edit.now c.in_ok-plan.plan.batch c.in_ok-plan.ensures.batch in
+    c.in_ok-refreshed.ensures.journal ∙ ap (λ b. option_map (λ batches. batches ++ b ∷ []) (g.K.Keeper.journal c.args.keeper.now)) changes
 
 pub returns-clause-facts : goal.returns-clause-facts
 returns-clause-facts g c =
