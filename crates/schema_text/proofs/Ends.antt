@@ -1,5 +1,5 @@
 -- The line `end`.
-use Rattle.std.proofs.Common.{◌≡◌, ℕ, ◌+◌, ◌≤◌, Bool, true, false, List, [], ◌∷◌, length, refl, ap, ◌∙◌, arith, Option, Some}
+use Rattle.std.proofs.Common.{◌≡◌, ℕ, ◌+◌, ◌≤◌, Bool, true, false, List, [], ◌∷◌, length, refl, ap, ◌∙◌, arith, Option, Some, None}
 use Rattle.std.specs.Prelude.{if◌then◌else◌, codes, is_none, nat_le, not}
 use Rattle.std.specs.List.{list_all}
 use Rattle.std.specs.Option.{option_or}
@@ -15,7 +15,10 @@ use Rattle.std.proofs.lemmas.Slice.Eq.{bytes_eq-Decides}
 use Rattle.cube_base.specs.declared.code.Code.{Code}
 use Rattle.cube_base.specs.declared.code.Code.TheVariants as code
 use Rattle.text_lines.specs.Text.{fields_of}
-use Rattle.schema_text.specs.Draft.{end_fault}
+use Rattle.schema_text.specs.declared.fault.LineFault.{LineFault}
+use Rattle.schema_text.specs.declared.fault.LineFault.TheVariants.{Refused, Memory}
+use Rattle.schema_text.specs.Draft.{end_fault, ended_fault, front_fault}
+use Rattle.schema_text.specs.Fault.{IsCause}
 use Rattle.text_lines.specs.LineText.{field_at, is_clean, is_long, without_cr}
 use Rattle.schema_text.specs.SchemaText.{Draft, dims_of, ended, fields_fault, is_end, line_fault, may_follow, policy_among, word_named}
 
@@ -59,3 +62,14 @@ pub line_fault-end : (draft : Draft) (line : List ℕ) → is_end line ≡ true 
 line_fault-end draft line is =
     let same : without_cr line ≡ codes "end" = (bytes_eq-Decides (without_cr line) (codes "end")).0 is in
     ap (λ l. judged draft l (without_cr line)) (short line same) ∙ ap (judged draft false) same ∙ judged-end draft
+
+-- where it may stand, the dimension that ends is judged first
+pub IsCause-ends : (draft : Draft) (fault : LineFault) → may_follow draft.last End ≡ true → IsCause (ended_fault draft.nodes) fault → IsCause (front_fault draft) fault
+IsCause-ends draft Memory follows cause = tt
+IsCause-ends draft (Refused reason) follows cause = first (may_follow draft.last End) (list_all is_numbered (ended draft.nodes)) (is_none (policy_among draft.measures draft.policy)) follows cause
+  where
+    first : (f k l : Bool) → f ≡ true → (if k then None else Some code.Number) ≡ Some reason
+        → (if f then (if not k then Some code.Number else (if l then Some code.Policy else None)) else Some code.Order) ≡ Some reason
+    first false k l follows e = cc
+    first true true l follows e = cc
+    first true false l follows e = e

@@ -1,3 +1,4 @@
+pub mod DimensionLines
 pub mod DimsAgain
 pub mod DraftSteps
 pub mod Drafts

@@ -1,6 +1,6 @@
 -- The views of a schema, read one after another.
-use Rattle.std.proofs.Common.{◌≡◌, ℕ, ◌+◌, ◌<◌, ◌≤◌, Bool, true, false, List, [], ◌∷◌, ◌++◌, length, map, drop, refl, sym, ap, ◌∙◌, arith, Some, None, append_assoc, append-nil, length-append, length-drop}
-use Rattle.std.specs.Prelude.{All, ◌||◌, if◌then◌else◌, is_none, nat_le, not, unwrap_or}
+use Rattle.std.proofs.Common.{◌≡◌, ℕ, ◌+◌, ◌<◌, ◌≤◌, Bool, true, false, List, [], ◌∷◌, ◌++◌, length, map, drop, refl, sym, ap, ◌∙◌, arith, Some, None, Ok, Err, Result, append_assoc, append-nil, length-append, length-drop}
+use Rattle.std.specs.Prelude.{All, ◌||◌, IfErr, OnOk, if◌then◌else◌, is_none, nat_le, not, unwrap_or}
 use Rattle.std.specs.List.{list_all, list_any}
 use Rattle.std.specs.Str.{bytes_eq}
 use Rattle.std.proofs.lemmas.Bool.{or_parts}
@@ -14,7 +14,7 @@ use Rattle.text_lines.specs.LineText.{field_at}
 use Rattle.region_algebra.specs.declared.view_def.ViewDef.{ViewDef}
 use Rattle.schema_text.specs.declared.fault.LineFault.{LineFault}
 use Rattle.schema_text.specs.declared.fault.LineFault.TheVariants.{Refused, Memory}
-use Rattle.schema_text.specs.Draft.{ended_fault, view_fault, view_fields_fault}
+use Rattle.schema_text.specs.Draft.{ended_fault, room_fault, view_fault, view_fields_fault}
 use Rattle.schema_text.specs.Fault.{IsCause}
 use Rattle.schema_text.specs.Schema.{AreViews, MAX_VIEWS}
 use Rattle.schema_text.specs.SchemaText.{depth_fields, depth_in, depths_in, ended, has_wrong_depths, is_among_names, is_wrong_name}
@@ -106,3 +106,24 @@ module _ (views : List ViewDef) (nodes : Dimension) (fields : List (List ℕ)) w
       next false true k r right e = cc
       next false false true r right e = cc
       next false false false r right e = e
+
+  -- else the views that are there refuse it, or nothing does
+  module _ (right : view_fields_fault views fields ≡ None) (ends : ended_fault nodes ≡ None) where
+    same : (n d k r : Bool) → (if n then Some code.Name else (if d then Some code.Number else None)) ≡ None → (if k then None else Some code.Number) ≡ None
+        → (if n then Some code.Name else (if d || not k then Some code.Number else (if r then Some code.Limit else None))) ≡ (if r then Some code.Limit else None)
+    same true d k r right ends = cc
+    same false true k r right ends = cc
+    same false false true r right ends = refl
+    same false false false r right ends = cc
+
+    by_room : view_fault views nodes fields ≡ room_fault views
+    by_room = same (is_wrong_name (field_at fields 1) (map (λ v. v.name) views)) (has_wrong_depths (depth_fields fields)) (list_all is_numbered (ended nodes)) (nat_le MAX_VIEWS (length views)) right ends
+
+    pub OnOk-room : {T : Type 0} (result : Result T LineFault) → OnOk result (room_fault views ≡ None) → OnOk result (view_fault views nodes fields ≡ None)
+    OnOk-room (Ok taken) accepted = by_room ∙ accepted
+    OnOk-room (Err fault) accepted = tt
+
+    pub IfErr-room : {T : Type 0} (result : Result T LineFault) → IfErr result (IsCause (room_fault views)) → IfErr result (IsCause (view_fault views nodes fields))
+    IfErr-room (Ok taken) cause = tt
+    IfErr-room (Err Memory) cause = tt
+    IfErr-room (Err (Refused reason)) cause = by_room ∙ cause

@@ -1,5 +1,5 @@
 -- Writing the lines of a schema one after another.
-use Rattle.std.proofs.Common.{◌≡◌, ℕ, zero, suc, ◌+◌, Bool, true, false, List, [], ◌∷◌, ◌++◌, length, take, drop, refl, sym, ap, ◌∙◌, arith, eqb, eq-eqb, Option, Some, None, append_assoc, append-nil, add-one}
+use Rattle.std.proofs.Common.{◌≡◌, ℕ, zero, suc, ◌+◌, ◌<◌, Bool, true, false, List, [], ◌∷◌, ◌++◌, length, get_or, take, drop, refl, sym, ap, ◌∙◌, arith, eqb, eq-eqb, Option, Some, None, append_assoc, append-nil, add-one}
 use Rattle.std.specs.Prelude.{◌&&◌, ◌==◌, codes, if◌then◌else◌, nat_lt, not, slice_get}
 use Rattle.std.specs.Option.{option_map}
 use Rattle.std.specs.List.{flat_map, list_all, list_any}
@@ -20,10 +20,13 @@ appended old between new known text all before added joined =
     added ∙ ap (λ l. l ++ text) before ∙ append_assoc old known text ∙ ap (λ l. old ++ l) (sym joined)
 
 -- the texts of the first elements, and of one more
-pub texts-more : {X : Type 0} (text : X → List ℕ) (xs : List X) (i : ℕ) (x : X) → slice_get xs i ≡ Some x → flat_map text (take (i + 1) xs) ≡ flat_map text (take i xs) ++ text x
-texts-more text xs i x at =
-    let next = take_more xs i x (slice_get_within xs i x at) ∙ ap (λ y. take i xs ++ y ∷ []) (get_or_from_slice_get xs i x x at) in
+pub texts-next : {X : Type 0} (text : X → List ℕ) (xs : List X) (i : ℕ) (x : X) → i < length xs → get_or xs i x ≡ x → flat_map text (take (i + 1) xs) ≡ flat_map text (take i xs) ++ text x
+texts-next text xs i x within at =
+    let next = take_more xs i x within ∙ ap (λ y. take i xs ++ y ∷ []) at in
     ap (flat_map text) next ∙ flat_map-append text (take i xs) (x ∷ []) ∙ ap (λ l. flat_map text (take i xs) ++ l) (append-nil (text x))
+
+pub texts-more : {X : Type 0} (text : X → List ℕ) (xs : List X) (i : ℕ) (x : X) → slice_get xs i ≡ Some x → flat_map text (take (i + 1) xs) ≡ flat_map text (take i xs) ++ text x
+texts-more text xs i x at = texts-next text xs i x (slice_get_within xs i x at) (get_or_from_slice_get xs i x x at)
 
 -- the line of a node, piece by piece
 node_pieces : (old word depth name number : List ℕ) → (((old ++ word) ++ 9 ∷ depth) ++ 9 ∷ name) ++ number ++ 10 ∷ [] ≡ old ++ (word ++ ((9 ∷ depth) ++ ((9 ∷ name) ++ number)) ++ 10 ∷ [])
