@@ -30,3 +30,7 @@ returns-clause-journal g c =
     let changes =
     batch-told g.P.WeightPolicy.weigh c.self.inside.schema c.self.inside.state c.self.invariant c.args.self.now c.self.view_is c.args.grow.now c.in_ok-schema.schema c.in_ok-schema.ensures.schema c.in_ok-growth.growth.batch c.in_ok-growth.ensures.batch in
     c.in_default.ensures.appended ∙ ap (λ b. option_map (λ batches. batches ++ b ∷ []) (g.K.Keeper.journal c.args.keeper.now)) changes
+
+pub returns-clause-accepted : goal.returns-clause-accepted
+returns-clause-accepted g c =
+    none-judged g.P.WeightPolicy.weigh c.self.inside.schema c.self.inside.state c.self.invariant c.args.self.now c.self.view_is c.args.grow.now c.in_ok-schema.schema c.in_ok-schema.ensures.schema c.in_ok-schema.ensures.accepted c.in_ok-growth.ensures.accepted
