@@ -1,6 +1,6 @@
 -- Room made for what an edit sets leaves a state what it is, and what is staged is what the edit makes of it.
 use Rattle.std.proofs.Common.{◌≡◌, ℕ, true, List, refl, ap, sym, ◌∙◌, subst}
-use Rattle.std.specs.Prelude.{IfSome, ◌==◌, Option, Some, None}
+use Rattle.std.specs.Prelude.{IfSome, ◌==◌, Option, Some, None, slice_get}
 use Rattle.std.specs.Option.{option_to_list}
 use Rattle.cube_model.specs.declared.edit.Fact.{Fact}
 use Rattle.cube_model.specs.declared.statistic.CellStat.{CellStat}
@@ -18,9 +18,11 @@ use Rattle.fact_groups.proofs.Groups.{first-holds}
 use Rattle.fact_records.specs.Shape.{IsShape, width_of_all}
 use Rattle.fact_records.specs.Valid.{AreValid, IsValid}
 use Rattle.view_store.specs.declared.change.ViewChange.{ViewChange}
-use Rattle.view_store.specs.Changes.{FitsViews, given, taken}
+use Rattle.view_store.specs.Changes.{FitsViews, IsSameView, given, taken}
+use Rattle.view_store.specs.Changes.{HaveSameContent as HaveSameViews}
 use Rattle.view_store.specs.Changes.{IsStagedFor as AreStagedFor}
 use Rattle.view_store.specs.Facts.{FollowBy}
+use Rattle.view_store.specs.Views.{ViewMap, ViewMaps}
 use Rattle.edit_plan.specs.declared.moves.Moves.{Moves}
 use Rattle.edit_plan.specs.declared.regrouped.Regrouped.{Regrouped}
 use Rattle.edit_plan.specs.Moves.{AreMoves, indexed_as}
@@ -45,6 +47,14 @@ pub record IsStaged (edit_moves : Moves) (regrouped : Regrouped) (changes : List
   pub groups : sets.groups ≡ regrouped.groups
   pub groups_placed : have_places new.groups sets.groups ≡ true
   pub views : AreStagedFor dims changes new.views sets.views
+
+-- Views that are not touched have the content that they had.
+pub views-untouched : (views : ViewMaps) → HaveSameViews views views
+views-untouched views = record { columns = refl; views = record { count = refl; each = λ v. either (slice_get views.views v) } }
+  where
+    either : (found : Option ViewMap) → IfSome found (λ before. IfSome found (IsSameView before))
+    either None = tt
+    either (Some view) = record { columns = refl; depths = refl; values = λ _. refl; places = λ _ has. has }
 
 module _ {P : Type 0} (weigh : P → CellStat → ℕ) (state seen : StateValue P) (same : seen ≡ state) (kept : IsState (policy_in weigh seen) seen.shape seen.dims seen.cuts seen.facts seen.kept) where
   -- the state stays one

@@ -54,8 +54,17 @@ pub fn plan<P: WeightPolicy + Drop, L: Ledger>(
     ensures steps { steps.new ≤ steps.old + step_bound P.weigh state.old edit.now }
 {
     let moves = state.judged(edit)?;
-    let regrouped = state.regroup_few(&moves, steps)?;
-    Ok(plan_of(alloc, state, &moves, regrouped, steps)?)
+    let regrouped = match state.regroup_few(&moves, steps) {
+        Ok(regrouped) => regrouped,
+        Err(fault) => {
+            // Dropped by a call, which is proved once: in place it would be proved on each way out.
+            drop(moves);
+            return Err(fault);
+        }
+    };
+    let plan = plan_of(alloc, state, &moves, regrouped, steps);
+    drop(moves);
+    Ok(plan?)
 }
 
 /// The plan of an edit that nothing refuses.
@@ -78,8 +87,22 @@ fn plan_of<P: WeightPolicy + Drop, L: Ledger>(
     ensures steps { steps.new ≤ steps.old + covering_pairs (policy_in P.weigh state.old) state.old.dims moves.now.edit state.old.facts }
 {
     let rows = regrouped.rows;
-    let (refreshed, batch) = state.kept_changes(alloc, moves, &regrouped, steps)?;
-    let sets = state.stage_all(moves, regrouped)?;
+    let (refreshed, batch) = match state.kept_changes(alloc, moves, &regrouped, steps) {
+        Ok(changes) => changes,
+        Err(fault) => {
+            // Dropped by a call, which is proved once: in place it would be proved on each way out.
+            drop(regrouped);
+            return Err(fault);
+        }
+    };
+    let sets = match state.stage_all(moves, regrouped) {
+        Ok(sets) => sets,
+        Err(fault) => {
+            drop(refreshed);
+            drop(batch);
+            return Err(fault);
+        }
+    };
     Ok(Plan {
         alloc,
         change: PlanChange::Edit {

@@ -61,7 +61,14 @@ fn plan_of_all(
     ensures change { IfOk result (λ plan. plan.change ≡ plan_change.All all) }
     ensures made { IfOk result (λ plan. made ≡ Ok (plan.refreshed, plan.batch)) }
 {
-    let (refreshed, batch) = made?;
+    let (refreshed, batch) = match made {
+        Ok(changes) => changes,
+        Err(fault) => {
+            // Dropped by a call, which is proved once: in place it would be proved on each way out.
+            drop(all);
+            return Err(fault);
+        }
+    };
     Ok(Plan {
         alloc,
         change: PlanChange::All { all },

@@ -2,7 +2,7 @@
 use Rattle.std.proofs.Common.{◌≡◌, refl, subst, true}
 use Rattle.staged_map.specs.Staged.{have_places}
 use Rattle.facts_kept.proofs.SameViews.{cuts-same}
-use Rattle.edit_plan.proofs.Rooming.{content-kept, fits-seen, lost-region, sets-staged, state-kept}
+use Rattle.edit_plan.proofs.Rooming.{content-kept, fits-seen, lost-region, sets-staged, state-kept, views-untouched}
 use Rattle.edit_plan.proofs.state.State.stage.Goals as goal
 
 pub stage_facts-requires-clause-lost : goal.stage_facts-requires-clause-lost
@@ -10,6 +10,23 @@ stage_facts-requires-clause-lost g c = lost-region g.P.WeightPolicy.weigh _ _ c.
 
 pub stage-requires-clause-changes : goal.stage-requires-clause-changes
 stage-requires-clause-changes g c = fits-seen g.P.WeightPolicy.weigh _ _ c.self.view_is c.self.invariant c.args.changes.now c.requires.fit
+
+pub returns-in_err-reserve-clause-same : goal.returns-in_err-reserve-clause-same
+returns-in_err-reserve-clause-same g c = content-kept g.P.WeightPolicy.weigh _ _ c.self.view_is c.self.invariant _ _ _ refl c.in_err-reserve.ensures.same_facts
+
+pub invariant_of-self-in_err-stats : goal.invariant_of-self-in_err-stats
+invariant_of-self-in_err-stats g c =
+    state-kept g.P.WeightPolicy.weigh _ _ c.self.view_is c.self.invariant _ _ _ refl c.in_ok-reserve.ensures.same_facts
+    (record {
+      stats = c.in_err-stats.ensures.same_stats;
+      index = c.in_err-stats.ensures.same_index.values;
+      groups = c.in_ok-reserve.ensures.same_groups;
+      views = views-untouched c.self.inside.views;
+      rows = refl;
+    })
+
+pub returns-in_err-stats-clause-same : goal.returns-in_err-stats-clause-same
+returns-in_err-stats-clause-same g c = content-kept g.P.WeightPolicy.weigh _ _ c.self.view_is c.self.invariant _ _ _ refl c.in_ok-reserve.ensures.same_facts
 
 pub invariant_of-self-in_err-views : goal.invariant_of-self-in_err-views
 invariant_of-self-in_err-views g c =
