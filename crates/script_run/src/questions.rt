@@ -39,18 +39,30 @@ pub fn answer<P: WeightPolicy + Drop>(
 {
     match said {
         Line::Nothing | Line::Edit(_) | Line::Grow(_) => Ok(None),
-        Line::Count(region) => Ok(Some(count_reply(&cube.answer(*region)?))),
+        Line::Count(region) => {
+            let terms = cube.answer(*region)?;
+            let reply = count_reply(&terms);
+            // Dropped by a call, which is proved once: in place it would be proved on each way out.
+            drop(terms);
+            Ok(Some(reply))
+        }
         Line::Sum { measure, region } => {
             let terms = cube.answer(*region)?;
-            Ok(Some(sum_reply(cube.schema(), *measure, &terms)))
+            let reply = sum_reply(cube.schema(), *measure, &terms);
+            drop(terms);
+            Ok(Some(reply))
         }
         Line::Avg { measure, region } => {
             let terms = cube.answer(*region)?;
-            Ok(Some(average_reply(cube.schema(), *measure, &terms)))
+            let reply = average_reply(cube.schema(), *measure, &terms);
+            drop(terms);
+            Ok(Some(reply))
         }
         Line::Pool { measure, region } => {
             let terms = cube.answer(*region)?;
-            Ok(Some(pool_reply(alloc, cube.schema(), *measure, &terms)?))
+            let reply = pool_reply(alloc, cube.schema(), *measure, &terms);
+            drop(terms);
+            Ok(Some(reply?))
         }
         Line::Terms(region) => Ok(Some(Reply::Terms(cube.answer(*region)?))),
         Line::Rows(id) => Ok(Some(rows_reply(alloc, cube.rows(*id))?)),

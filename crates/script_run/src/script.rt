@@ -111,8 +111,14 @@ fn do_said<P: WeightPolicy + Drop + Copy, Q: Keeper>(
     ensures stays_open { IsTrue (Q.is_open keeper.new) }
 {
     match said {
-        Line::Edit(edit) => Ok(Some(do_edit(cube, edit, keeper)?)),
-        Line::Grow(grow) => Ok(Some(do_growth(cube, grow, keeper)?)),
+        Line::Edit(edit) => match do_edit(cube, edit, keeper) {
+            Ok(reply) => Ok(Some(reply)),
+            Err(stop) => Err(stop),
+        },
+        Line::Grow(grow) => match do_growth(cube, grow, keeper) {
+            Ok(reply) => Ok(Some(reply)),
+            Err(stop) => Err(stop),
+        },
         other => Ok(answer(alloc, cube, other)?),
     }
 }
