@@ -40,26 +40,34 @@ pub fn answer<P: WeightPolicy + Drop>(
     match said {
         Line::Nothing | Line::Edit(_) | Line::Grow(_) => Ok(None),
         Line::Count(region) => {
-            let terms = cube.answer(*region)?;
+            let Ok(terms) = cube.answer(*region) else {
+                return Err(Memory);
+            };
             let reply = count_reply(&terms);
             // Dropped by a call, which is proved once: in place it would be proved on each way out.
             drop(terms);
             Ok(Some(reply))
         }
         Line::Sum { measure, region } => {
-            let terms = cube.answer(*region)?;
+            let Ok(terms) = cube.answer(*region) else {
+                return Err(Memory);
+            };
             let reply = sum_reply(cube.schema(), *measure, &terms);
             drop(terms);
             Ok(Some(reply))
         }
         Line::Avg { measure, region } => {
-            let terms = cube.answer(*region)?;
+            let Ok(terms) = cube.answer(*region) else {
+                return Err(Memory);
+            };
             let reply = average_reply(cube.schema(), *measure, &terms);
             drop(terms);
             Ok(Some(reply))
         }
         Line::Pool { measure, region } => {
-            let terms = cube.answer(*region)?;
+            let Ok(terms) = cube.answer(*region) else {
+                return Err(Memory);
+            };
             let reply = pool_reply(alloc, cube.schema(), *measure, &terms);
             drop(terms);
             Ok(Some(reply?))

@@ -98,10 +98,18 @@ impl<P: WeightPolicy + Drop + Copy> ScriptRun<P> {
         };
         // At once, since the calls below have large locals, which are cleared when they begin.
         if let Err(code) = &read {
-            return self.refuse(*code, out);
+            let refused = self.refuse(*code, out);
+            // Dropped by a call, which is proved once: in place it would be proved on each way out.
+            drop(read);
+            return refused;
         }
-        self.make_ready(&read, out)?;
-        self.do_read(&read, out, keeper)
+        if let Err(off) = self.make_ready(&read, out) {
+            drop(read);
+            return Err(off);
+        }
+        let done = self.do_read(&read, out, keeper);
+        drop(read);
+        done
     }
 
     /// Writes the gathered replies, and says how many lines are refused.
@@ -177,7 +185,12 @@ impl<P: WeightPolicy + Drop + Copy> ScriptRun<P> {
         ensures stays_open { IsTrue (Q.is_open keeper.new) }
     {
         match self.do_on_cube(read, keeper) {
-            Ok(reply) => self.answer(&reply, out),
+            Ok(reply) => {
+                let answered = self.answer(&reply, out);
+                // Dropped by a call, which is proved once: in place it would be proved on each way out.
+                drop(reply);
+                answered
+            }
             Err(LineStop::KeepFault) => Err(self.keep_fault(out)),
             Err(LineStop::Memory) => Err(self.give_up(out, 0)),
         }

@@ -1,7 +1,6 @@
 -- What a line does is what its being made ready for and its doing do, or it breaks off before.
 use Rattle.std.proofs.Common.{◌+◌, ◌++◌, ◌∷◌, [], refl, ap, ◌∙◌, subst, inr, arith}
 use Rattle.std.specs.Prelude.{IfErr, OnOk}
-use Rattle.std.proofs.lemmas.Result.{err_from_is_err_and}
 use Rattle.script_text.specs.ScriptLine.{line_of}
 use Rattle.script_run.specs.Kept.{HasKept, KeptAt}
 use Rattle.script_run.specs.Run.{run}
@@ -27,50 +26,47 @@ returns-in_default-clause-cause g c = told_or_not _ (gave_up-no_keep _ _ _ _ c.g
 
 pub returns-in-Err-clause-kept : goal.returns-in-Err-clause-kept
 returns-in-Err-clause-kept g c = λ schema first lines start before keeps done kept.
-    c.refuse.ensures.kept schema first lines start c.args.line.now before _ done (c.in-Ok.ensures.read ∙ c.in-Err.is) kept
+    c.refuse-refused.ensures.kept schema first lines start c.args.line.now before _ done (c.in-Ok.ensures.read ∙ c.in-Err.is) kept
 
 pub returns-in-Err-clause-stopped : goal.returns-in-Err-clause-stopped
 returns-in-Err-clause-stopped g c = λ schema first lines start before keeps done kept.
-    c.refuse.ensures.stopped schema first lines start c.args.line.now before _ done (c.in-Ok.ensures.read ∙ c.in-Err.is) kept
+    c.refuse-refused.ensures.stopped schema first lines start c.args.line.now before _ done (c.in-Ok.ensures.read ∙ c.in-Err.is) kept
 
-pub returns-in_err-make_ready-clause-broken : goal.returns-in_err-make_ready-clause-broken
-returns-in_err-make_ready-clause-broken g c = λ schema first lines start done.
-    let exit = err_from_is_err_and c.from_residual.result c.from_residual.ensures.1 in
-    rw (exit.1, exit.2) (breaks_off-before _ schema first lines c.args.line.now _ _ (c.in_err-make_ready.ensures.broken schema first lines start done))
+pub returns-in-Err-make_ready-clause-broken : goal.returns-in-Err-make_ready-clause-broken
+returns-in-Err-make_ready-clause-broken g c = λ schema first lines start done.
+    breaks_off-before _ schema first lines c.args.line.now _ _ (c.in-Err-make_ready.ensures.broken schema first lines start done)
 
-pub returns-in_err-make_ready-clause-stopped : goal.returns-in_err-make_ready-clause-stopped
-returns-in_err-make_ready-clause-stopped g c = λ schema first lines start before keeps done kept.
-    let exit = err_from_is_err_and c.from_residual.result c.from_residual.ensures.1 in
-    rw (exit.1, exit.2) (line_not_done _ schema first lines c.args.line.now start _ before _ _ c.args.self.now c.args.self.now.done _ done kept refl refl (inr c.in_err-make_ready.ensures.stop))
+pub returns-in-Err-make_ready-clause-stopped : goal.returns-in-Err-make_ready-clause-stopped
+returns-in-Err-make_ready-clause-stopped g c = λ schema first lines start before keeps done kept.
+    line_not_done _ schema first lines c.args.line.now start _ before _ _ c.args.self.now c.args.self.now.done _ done kept refl refl (inr c.in-Err-make_ready.ensures.stop)
 
-pub returns-in_err-make_ready-clause-cause : goal.returns-in_err-make_ready-clause-cause
-returns-in_err-make_ready-clause-cause g c =
-    let exit = err_from_is_err_and c.from_residual.result c.from_residual.ensures.1 in
-    rw (exit.1, exit.2) (told_or_not _ c.in_err-make_ready.ensures.stop.no_keep)
+pub returns-in-Err-make_ready-clause-cause : goal.returns-in-Err-make_ready-clause-cause
+returns-in-Err-make_ready-clause-cause g c =
+    told_or_not _ c.in-Err-make_ready.ensures.stop.no_keep
 
 pub returns-clause-done : goal.returns-clause-done
 returns-clause-done g c = λ schema first lines start done.
     let weigh = g.P.WeightPolicy.weigh in
     let line = c.args.line.now in
     let ready = c.make_ready.new.self in
-    let is_read = ap (λ w. line_of w.cube.schema line) c.in_ok-make_ready.ensures.same ∙ c.in-Ok.ensures.read in
+    let is_read = ap (λ w. line_of w.cube.schema line) c.in_default-make_ready.ensures.same ∙ c.in-Ok.ensures.read in
     subst (λ p. HasDone {P = g.row.P.Denot} (weigh p) schema first lines start (g.K.Sink.taken c.make_ready.new.out) ready
-    → OnOk c.do_read.result (HasDone {P = g.row.P.Denot} (weigh p) schema first (lines ++ line ∷ []) start (g.K.Sink.taken c.do_read.new.out) c.do_read.new.self))
-    c.make_ready.ensures.policy (λ here. c.do_read.ensures.done schema first lines start line here is_read) (c.in_ok-make_ready.ensures.done schema first lines start done)
+    → OnOk c.do_read-done.result (HasDone {P = g.row.P.Denot} (weigh p) schema first (lines ++ line ∷ []) start (g.K.Sink.taken c.do_read-done.new.out) c.do_read-done.new.self))
+    c.make_ready.ensures.policy (λ here. c.do_read-done.ensures.done schema first lines start line here is_read) (c.in_default-make_ready.ensures.done schema first lines start done)
 
 pub returns-clause-broken : goal.returns-clause-broken
 returns-clause-broken g c = λ schema first lines start done.
     let weigh = g.P.WeightPolicy.weigh in
     let line = c.args.line.now in
     let ready = c.make_ready.new.self in
-    let is_read = ap (λ w. line_of w.cube.schema line) c.in_ok-make_ready.ensures.same ∙ c.in-Ok.ensures.read in
-    let sink = sink_seen g.K.Sink.taken g.K.Sink.faults c.make_ready.new.out c.do_read.new.out in
+    let is_read = ap (λ w. line_of w.cube.schema line) c.in_default-make_ready.ensures.same ∙ c.in-Ok.ensures.read in
+    let sink = sink_seen g.K.Sink.taken g.K.Sink.faults c.make_ready.new.out c.do_read-done.new.out in
     let here =
     subst (λ p. HasDone {P = g.row.P.Denot} (weigh p) schema first lines start (g.K.Sink.taken c.make_ready.new.out) ready
-    → IfErr c.do_read.result (BreaksOff (run (weigh p) schema first (lines ++ line ∷ [])).replies (seen_since sink start)))
-    c.make_ready.ensures.policy (λ here. c.do_read.ensures.broken schema first lines start line here is_read) (c.in_ok-make_ready.ensures.done schema first lines start done) in
-    subst (λ n. IfErr c.do_read.result (BreaksOff (run (weigh c.args.self.now.cube.policy) schema first (lines ++ line ∷ [])).replies (record { taken = start; taken_after = g.K.Sink.taken c.do_read.new.out; faults = n; faults_after = g.K.Sink.faults c.do_read.new.out })))
-    c.in_ok-make_ready.ensures.count here
+    → IfErr c.do_read-done.result (BreaksOff (run (weigh p) schema first (lines ++ line ∷ [])).replies (seen_since sink start)))
+    c.make_ready.ensures.policy (λ here. c.do_read-done.ensures.broken schema first lines start line here is_read) (c.in_default-make_ready.ensures.done schema first lines start done) in
+    subst (λ n. IfErr c.do_read-done.result (BreaksOff (run (weigh c.args.self.now.cube.policy) schema first (lines ++ line ∷ [])).replies (record { taken = start; taken_after = g.K.Sink.taken c.do_read-done.new.out; faults = n; faults_after = g.K.Sink.faults c.do_read-done.new.out })))
+    c.in_default-make_ready.ensures.count here
 
 pub returns-clause-kept : goal.returns-clause-kept
 returns-clause-kept g c = λ schema first lines start before keeps done kept.
@@ -78,12 +74,12 @@ returns-clause-kept g c = λ schema first lines start before keeps done kept.
     let line = c.args.line.now in
     let ready = c.make_ready.new.self in
     let told = told_of g.Q.Keeper.content g.Q.Keeper.journal c.args.keeper.now in
-    let told_after = told_of g.Q.Keeper.content g.Q.Keeper.journal c.do_read.new.keeper in
-    let is_read = ap (λ w. line_of w.cube.schema line) c.in_ok-make_ready.ensures.same ∙ c.in-Ok.ensures.read in
+    let told_after = told_of g.Q.Keeper.content g.Q.Keeper.journal c.do_read-done.new.keeper in
+    let is_read = ap (λ w. line_of w.cube.schema line) c.in_default-make_ready.ensures.same ∙ c.in-Ok.ensures.read in
     subst (λ p. HasDone {P = g.row.P.Denot} (weigh p) schema first lines start (g.K.Sink.taken c.make_ready.new.out) ready → HasKept (weigh p) schema first lines before told ready.gathered
-    → OnOk c.do_read.result (HasKept (weigh p) schema first (lines ++ line ∷ []) before told_after c.do_read.new.self.gathered))
-    c.make_ready.ensures.policy (λ here kept_here. c.do_read.ensures.kept schema first lines start line before (c.in_ok-make_ready.ensures.ready keeps) here is_read kept_here)
-    (c.in_ok-make_ready.ensures.done schema first lines start done) (has_kept-fewer _ schema first lines before told _ _ kept c.in_ok-make_ready.ensures.fewer)
+    → OnOk c.do_read-done.result (HasKept (weigh p) schema first (lines ++ line ∷ []) before told_after c.do_read-done.new.self.gathered))
+    c.make_ready.ensures.policy (λ here kept_here. c.do_read-done.ensures.kept schema first lines start line before (c.in_default-make_ready.ensures.ready keeps) here is_read kept_here)
+    (c.in_default-make_ready.ensures.done schema first lines start done) (has_kept-fewer _ schema first lines before told _ _ kept c.in_default-make_ready.ensures.fewer)
 
 pub returns-clause-stopped : goal.returns-clause-stopped
 returns-clause-stopped g c = λ schema first lines start before keeps done kept.
@@ -91,12 +87,12 @@ returns-clause-stopped g c = λ schema first lines start before keeps done kept.
     let line = c.args.line.now in
     let ready = c.make_ready.new.self in
     let told = told_of g.Q.Keeper.content g.Q.Keeper.journal c.args.keeper.now in
-    let told_after = told_of g.Q.Keeper.content g.Q.Keeper.journal c.do_read.new.keeper in
-    let is_read = ap (λ w. line_of w.cube.schema line) c.in_ok-make_ready.ensures.same ∙ c.in-Ok.ensures.read in
+    let told_after = told_of g.Q.Keeper.content g.Q.Keeper.journal c.do_read-done.new.keeper in
+    let is_read = ap (λ w. line_of w.cube.schema line) c.in_default-make_ready.ensures.same ∙ c.in-Ok.ensures.read in
     subst (λ p. HasDone {P = g.row.P.Denot} (weigh p) schema first lines start (g.K.Sink.taken c.make_ready.new.out) ready → HasKept (weigh p) schema first lines before told ready.gathered
-    → IfErr c.do_read.result (KeptAt (weigh p) schema first (lines ++ line ∷ []) before told_after))
-    c.make_ready.ensures.policy (λ here kept_here. c.do_read.ensures.stopped schema first lines start line before (c.in_ok-make_ready.ensures.ready keeps) here is_read kept_here)
-    (c.in_ok-make_ready.ensures.done schema first lines start done) (has_kept-fewer _ schema first lines before told _ _ kept c.in_ok-make_ready.ensures.fewer)
+    → IfErr c.do_read-done.result (KeptAt (weigh p) schema first (lines ++ line ∷ []) before told_after))
+    c.make_ready.ensures.policy (λ here kept_here. c.do_read-done.ensures.stopped schema first lines start line before (c.in_default-make_ready.ensures.ready keeps) here is_read kept_here)
+    (c.in_default-make_ready.ensures.done schema first lines start done) (has_kept-fewer _ schema first lines before told _ _ kept c.in_default-make_ready.ensures.fewer)
 
 pub returns-clause-other_cause : goal.returns-clause-other_cause
-returns-clause-other_cause g c = λ keeps. c.do_read.ensures.other_cause (c.in_ok-make_ready.ensures.ready keeps)
+returns-clause-other_cause g c = λ keeps. c.do_read-done.ensures.other_cause (c.in_default-make_ready.ensures.ready keeps)

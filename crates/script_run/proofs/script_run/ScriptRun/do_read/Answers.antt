@@ -19,38 +19,38 @@ returns-in-Ok-clause-done g c = λ schema first lines start line done is_read.
     let taken = g.K.Sink.taken c.args.out.now in
     let here = c.in-Ok.ensures.state in
     let gathered = subst (HasGathered (run weigh schema first lines).replies start taken) (sym (ap (λ w. w.gathered) here)) done.gathered in
-    on_ok_both c.answer.result
-    (λ more answered. line_done {P = g.row.P.Denot} weigh schema first lines line start taken _ c.args.self.now c.do_on_cube.new.self c.answer.new.self c.args.read.now c.in-Ok.reply done is_read c.in-Ok.ensures.reply here more answered)
-    (c.answer.ensures.gathered (run weigh schema first lines).replies start gathered) c.answer.ensures.answered
+    on_ok_both c.answer-answered.result
+    (λ more answered. line_done {P = g.row.P.Denot} weigh schema first lines line start taken _ c.args.self.now c.do_on_cube.new.self c.answer-answered.new.self c.args.read.now c.in-Ok.reply done is_read c.in-Ok.ensures.reply here more answered)
+    (c.answer-answered.ensures.gathered (run weigh schema first lines).replies start gathered) c.answer-answered.ensures.answered
 
 pub returns-in-Ok-clause-broken : goal.returns-in-Ok-clause-broken
 returns-in-Ok-clause-broken g c = λ schema first lines start line done is_read.
     let weigh = g.P.WeightPolicy.weigh c.args.self.now.cube.policy in
     let taken = g.K.Sink.taken c.args.out.now in
-    let sink = sink_seen g.K.Sink.taken g.K.Sink.faults c.args.out.now c.answer.new.out in
+    let sink = sink_seen g.K.Sink.taken g.K.Sink.faults c.args.out.now c.answer-answered.new.out in
     let here = c.in-Ok.ensures.state in
     let gathered = subst (HasGathered (run weigh schema first lines).replies start taken) (sym (ap (λ w. w.gathered) here)) done.gathered in
     let all = replies_here {P = g.row.P.Denot} weigh schema first lines line start taken c.args.self.now c.args.read.now c.do_on_cube.new.self.cube c.in-Ok.reply done is_read c.in-Ok.ensures.reply (ap (λ w. w.cube) here) in
-    subst (λ replies. IfErr c.answer.result (BreaksOff replies (seen_since sink start))) (sym all)
-    (c.answer.ensures.broken (run weigh schema first lines).replies start gathered (ap (λ w. w.done) here ∙ count_done weigh schema first lines start taken _ done))
+    subst (λ replies. IfErr c.answer-answered.result (BreaksOff replies (seen_since sink start))) (sym all)
+    (c.answer-answered.ensures.broken (run weigh schema first lines).replies start gathered (ap (λ w. w.done) here ∙ count_done weigh schema first lines start taken _ done))
 
 pub returns-in-Ok-clause-kept : goal.returns-in-Ok-clause-kept
 returns-in-Ok-clause-kept g c = λ schema first lines start line before ready done is_read kept.
     let weigh = g.P.WeightPolicy.weigh c.args.self.now.cube.policy in
     let size : length c.do_on_cube.new.self.gathered ≡ length c.args.self.now.gathered = ap (λ w. length w.gathered) c.in-Ok.ensures.state in
-    on_ok_weaker c.answer.result
-    (λ (le : length c.answer.new.self.gathered ≤ length c.do_on_cube.new.self.gathered + 1). line_kept {P = g.row.P.Denot} weigh schema first lines line start _ before c.args.self.now c.args.read.now _ _ c.answer.new.self.gathered ready done is_read kept c.in-Ok.ensures.kept (omega arith))
-    c.answer.ensures.one_more
+    on_ok_weaker c.answer-answered.result
+    (λ (le : length c.answer-answered.new.self.gathered ≤ length c.do_on_cube.new.self.gathered + 1). line_kept {P = g.row.P.Denot} weigh schema first lines line start _ before c.args.self.now c.args.read.now _ _ c.answer-answered.new.self.gathered ready done is_read kept c.in-Ok.ensures.kept (omega arith))
+    c.answer-answered.ensures.one_more
 
 pub returns-in-Ok-clause-stopped : goal.returns-in-Ok-clause-stopped
 returns-in-Ok-clause-stopped g c = λ schema first lines start line before ready done is_read kept.
     let weigh = g.P.WeightPolicy.weigh c.args.self.now.cube.policy in
-    let stop = subst (λ w. IfErr c.answer.result (IsGatheredStop (w.done + 1) (length w.gathered + 1))) c.in-Ok.ensures.state c.answer.ensures.stop in
-    IfErr-weaker c.answer.result (IsGatheredStop (c.args.self.now.done + 1) (length c.args.self.now.gathered + 1)) _
+    let stop = subst (λ w. IfErr c.answer-answered.result (IsGatheredStop (w.done + 1) (length w.gathered + 1))) c.in-Ok.ensures.state c.answer-answered.ensures.stop in
+    IfErr-weaker c.answer-answered.result (IsGatheredStop (c.args.self.now.done + 1) (length c.args.self.now.gathered + 1)) _
     (λ off here. line_stopped {P = g.row.P.Denot} weigh schema first lines line start _ before c.args.self.now c.args.read.now _ _ off ready done is_read kept c.in-Ok.ensures.kept here) stop
 
 pub returns-in-Ok-clause-cause : goal.returns-in-Ok-clause-cause
-returns-in-Ok-clause-cause g c = IfErr-weaker c.answer.result _ _ (λ off stop. told_or_not (is_keep off) stop.no_keep) c.answer.ensures.stop
+returns-in-Ok-clause-cause g c = IfErr-weaker c.answer-answered.result _ _ (λ off stop. told_or_not (is_keep off) stop.no_keep) c.answer-answered.ensures.stop
 
 pub returns-in-Err-KeepFault-clause-broken : goal.returns-in-Err-KeepFault-clause-broken
 returns-in-Err-KeepFault-clause-broken g c = λ schema first lines start line done is_read.
