@@ -168,7 +168,12 @@ fn do_edit_by<L: Ledger, P: WeightPolicy + Drop, Q: Keeper>(
 {
     let mut steps = Steps::<L>::new(blank);
     match cube.edit(edit, keeper, &mut steps) {
-        Ok(receipt) => Ok(Reply::Ok(receipt.refreshed.as_slice().len() as u64)),
+        Ok(receipt) => {
+            let refreshed = receipt.refreshed.as_slice().len() as u64;
+            // Dropped by a call, which is proved once: in place it would be proved on each way out.
+            drop(receipt);
+            Ok(Reply::Ok(refreshed))
+        }
         Err(fault) => reply_to(fault),
     }
 }

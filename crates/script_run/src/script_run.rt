@@ -216,7 +216,11 @@ impl<P: WeightPolicy + Drop + Copy> ScriptRun<P> {
         ensures counted { OnOk result (self.new.done ≡ self.old.done + 1) }
         ensures behind { IfErr result (IsBehind self.old.done (length self.old.gathered)) }
     {
-        self.answer(&Some(Reply::Error(code)), out)
+        let reply = Some(Reply::Error(code));
+        let answered = self.answer(&reply, out);
+        // Dropped by a call, which is proved once: in place it would be proved on each way out.
+        drop(reply);
+        answered
     }
 
     // Does a line that was read on the cube, and gives its reply.
