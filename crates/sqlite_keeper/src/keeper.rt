@@ -4,9 +4,8 @@ ghost use Rattle.cube_base.specs.Outside.{next_count};
 ghost use Rattle.fact_keeper.specs.Keeper.{CountsKeepFault};
 ghost use Rattle.fact_keeper.specs.declared.keeper.KeepError.TheVariants as keep_error;
 
-use crate::fault::Fault;
-use crate::file::StoreFile;
 use fact_keeper::{Batch, KeepError, Keeper, Stored};
+use sqlite_file::{Fault, StoreFile};
 use std::alloc::Global;
 use std::marker::Model;
 

@@ -1,12 +1,6 @@
-//! The keeper over a file: the content of a store in three tables, which sqlite3 reads.
+//! The keeper over a file: it opens the file of a store, keeps it open, and counts its faults.
 #![tactic(auto)]
 
-mod blob;
-mod fault;
-mod file;
 mod keeper;
-mod layout;
-mod reading;
-mod writing;
 
 pub use keeper::SqlKeeper;

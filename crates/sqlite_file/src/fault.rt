@@ -1,11 +1,14 @@
 //! Why a call on a store does nothing.
+ghost use Rattle.std.specs.Prelude.{◌≡◌};
+ghost use Rattle.sqlite_file.specs.declared.fault.Fault.TheVariants as fault_kind;
+
 use cube_base::Memory;
 use sqlite::{Error, ErrorCode};
 use std::alloc::{AllocError, AllocFailed};
 
-/// What stopped a call, before it is counted.
+/// What stopped a call on a store.
 #[derive(Clone, Copy, Debug, PartialEq, Eq)]
-pub(crate) enum Fault {
+pub enum Fault {
     /// The file, the system below it, or what the file holds.
     Outside,
     /// Want of memory.
@@ -13,6 +16,10 @@ pub(crate) enum Fault {
 }
 
 impl From<Error> for Fault {
+    ghost use Rattle.sqlite_file.specs.FaultOf.{fault_of_error};
+
+    ghost from_gives = { λ error fault. fault ≡ fault_of_error error };
+
     fn from(error: Error) -> Self {
         match error {
             Error::SqliteFailure(ErrorCode::OutOfMemory) => Fault::Memory,
@@ -22,18 +29,24 @@ impl From<Error> for Fault {
 }
 
 impl From<Memory> for Fault {
+    ghost from_gives = { λ _ fault. fault ≡ fault_kind.Memory };
+
     fn from(_: Memory) -> Self {
         Fault::Memory
     }
 }
 
 impl From<AllocError> for Fault {
+    ghost from_gives = { λ _ fault. fault ≡ fault_kind.Memory };
+
     fn from(_: AllocError) -> Self {
         Fault::Memory
     }
 }
 
 impl<T: Drop> From<AllocFailed<T>> for Fault {
+    ghost from_gives = { λ _ fault. fault ≡ fault_kind.Memory };
+
     fn from(_: AllocFailed<T>) -> Self {
         Fault::Memory
     }

@@ -1,0 +1,48 @@
+//! The file of a store, from its open to its close.
+use crate::fault::Fault;
+use crate::reading::read_content;
+use crate::writing::write_batch;
+use fact_keeper::{Batch, Stored};
+use sqlite::{Connection, File, FileStore};
+use std::alloc::Global;
+
+/// The file of a store, open, and locked until it is closed. A drop closes it.
+pub struct StoreFile {
+    conn: Connection<FileStore<File>>,
+}
+
+impl StoreFile {
+    /// Opens the file at a path, which is made where there is none. It makes no table.
+    ///
+    /// `Outside` comes where the file is not to be had, is held open elsewhere, or is no database; `Memory` at want of memory. Either
+    /// leaves it closed.
+    pub fn open(rt: &HostRuntime, path: &str) -> Result<Self, Fault> {
+        let conn = Connection::open(rt, path)?;
+        Ok(StoreFile { conn })
+    }
+
+    /// The content. A table that is missing is read as an empty one.
+    ///
+    /// `Outside` comes where a table is laid out in another way, where a row holds what no batch writes, or where the file cannot be
+    /// read; `Memory` at want of memory.
+    pub fn read(&mut self, alloc: Global) -> Result<Stored, Fault> {
+        read_content(alloc, &mut self.conn)
+    }
+
+    /// Writes a batch as one transaction, and makes the tables that are missing. Where it is not written whole, nothing of it is.
+    ///
+    /// `Outside` comes where an id or a denominator is 2^63 or more, where a table takes no such row, or where the file cannot be
+    /// written; `Memory` at want of memory.
+    pub fn write(&mut self, alloc: Global, batch: &Batch) -> Result<(), Fault> {
+        write_batch(alloc, &mut self.conn, batch)
+    }
+}
+
+// It is written out, so that no caller proves again how each part is dropped.
+impl Drop for StoreFile {
+    fn drop(self) {
+        let StoreFile { conn } = self;
+        // What the log holds is in the store, also where it cannot be copied into the file.
+        let _ = conn.close();
+    }
+}
