@@ -59,7 +59,12 @@ fn text_of<S: Alter>(conn: &mut Connection<S>, name: &str) -> Result<Option<Stri
 /// Whether a statement makes a table of these columns.
 fn makes_table(alloc: Global, text: &[u8], columns: &[Column]) -> Result<bool, Fault> {
     match parse(alloc, text) {
-        Ok(parsed) => Ok(is_of_table(&parsed.statement, columns)),
+        Ok(parsed) => {
+            let is_so = is_of_table(&parsed.statement, columns);
+            // Dropped by a call, which is proved once: in place each kind of statement would be unfolded.
+            drop(parsed);
+            Ok(is_so)
+        }
         Err(ParseError::OutOfMemory) => Err(Fault::Memory),
         Err(_) => Ok(false),
     }
