@@ -10,7 +10,7 @@ use Rattle.cube_model.specs.declared.statistic.CellStat.{CellStat}
 use Rattle.cube_model.specs.Allocation.{Policy, extended, row_count}
 use Rattle.cube_model.specs.Limits.{MAX_ROWS}
 use Rattle.cube_model.specs.Tree.{Dimension}
-use Rattle.edit_plan.specs.State.{HasFacts, StateValue, policy_in}
+use Rattle.cube_state.specs.State.{HasFacts, StateValue, policy_in}
 use Rattle.edit_plan.specs.Whole.{IsAllFaultOf, facts_with, rows_with}
 use Rattle.edit_plan.specs.declared.fault.PlanAllFault.{PlanAllFault}
 use Rattle.edit_plan.specs.declared.fault.PlanAllFault.TheVariants as plan_all_fault

@@ -7,8 +7,8 @@ use Rattle.cube_model.specs.declared.statistic.CellStat.{CellStat}
 use Rattle.cube_model.specs.Accepted.{first_refusal, has_many_rows}
 use Rattle.cube_model.specs.Allocation.{Policy, extended}
 use Rattle.cube_model.specs.Tree.{Dimension}
-use Rattle.edit_plan.specs.State.{StateValue}
-use Rattle.edit_plan.specs.State.{policy_in as state_policy_in}
+use Rattle.cube_state.specs.State.{StateValue}
+use Rattle.cube_state.specs.State.{policy_in as state_policy_in}
 use Rattle.fact_keeper.specs.declared.content.Batch.{Batch}
 use Rattle.fact_keeper.specs.declared.keeper.KeepError.{KeepError}
 use Rattle.fact_keeper.specs.declared.keeper.KeepError.TheVariants as keep_error

@@ -13,10 +13,10 @@ use Rattle.cube_model.specs.Difference.{is_same}
 use Rattle.cube_model.specs.Tree.{Dimension}
 use Rattle.cube_model.proofs.Ascending.{ascends_filter, ascends_map}
 use Rattle.edit_plan.specs.Plan.{kept_rows}
-use Rattle.edit_plan.specs.State.{StateValue, policy_in, rows_in}
+use Rattle.cube_state.specs.State.{StateValue, policy_in, rows_in}
 use Rattle.edit_plan.specs.Whole.{rows_among}
 use Rattle.edit_plan.proofs.AllRefreshed.{gathered-all, gathered-next, gathered-none, left-first}
-use Rattle.edit_plan.proofs.Looking.{allocation_of-found}
+use Rattle.cube_state.proofs.Looking.{allocation_of-found}
 use Rattle.edit_plan.proofs.RowsKept.{among-some, find-itself, whole}
 use Rattle.fact_groups.proofs.Ascending.{ascends-from_pairs}
 use Rattle.fact_keeper.specs.declared.content.KeptRows.{KeptRows}

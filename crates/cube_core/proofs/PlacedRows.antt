@@ -11,7 +11,7 @@ use Rattle.cube_model.specs.Cells.{AreRows}
 use Rattle.cube_model.specs.Limits.{MAX_CELLS, MAX_FACTS, MAX_VALUE}
 use Rattle.cube_model.specs.Tree.{Dimension}
 use Rattle.alloc_rows.specs.Alloc.{IsAllocation}
-use Rattle.edit_plan.proofs.Looking.{allocation_of-found}
+use Rattle.cube_state.proofs.Looking.{allocation_of-found}
 use Rattle.fact_groups.proofs.Ascending.{pairs-first, pairs-rest}
 use Rattle.fact_records.specs.FactList.{IsAscending}
 use Rattle.fact_records.specs.Shape.{width_of_all}

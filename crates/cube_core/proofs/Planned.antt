@@ -6,9 +6,9 @@ use Rattle.cube_model.specs.declared.edit.Edit.{Edit}
 use Rattle.cube_model.specs.declared.statistic.CellStat.{CellStat}
 use Rattle.cube_model.specs.Facts.{after}
 use Rattle.edit_plan.specs.Plan.{IsPlanFor, PlanValue, edit_in, facts_after, withdrawn_in}
-use Rattle.edit_plan.specs.State.{HasFacts, HaveSameContent, StateValue, withdrawn}
+use Rattle.cube_state.specs.State.{HasFacts, HaveSameContent, StateValue, withdrawn}
 use Rattle.edit_plan.specs.declared.plan_change.PlanChange.{PlanChange}
-use Rattle.edit_plan.proofs.Installing.{facts-after_edit}
+use Rattle.edit_plan.proofs.FactsLeft.{facts-after_edit}
 use Rattle.schema_text.specs.Schema.{SchemaValue}
 use Rattle.cube_core.specs.Cube.{edited}
 use Rattle.cube_core.proofs.Stating.{cube_of}

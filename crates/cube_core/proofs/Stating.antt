@@ -10,8 +10,8 @@ use Rattle.fact_keeper.specs.declared.content.Batch.{Batch}
 use Rattle.fact_records.specs.Shape.{ShapeValue, policy_over, width_of_all}
 use Rattle.fact_records.specs.Valid.{AreValid}
 use Rattle.edit_plan.specs.Plan.{difference}
-use Rattle.edit_plan.specs.State.{StateValue}
-use Rattle.edit_plan.specs.State.{policy_in as state_policy_in, terms_in as state_terms_in}
+use Rattle.cube_state.specs.State.{StateValue}
+use Rattle.cube_state.specs.State.{policy_in as state_policy_in, terms_in as state_terms_in}
 use Rattle.edit_plan.specs.Whole.{difference_with}
 use Rattle.schema_text.specs.Schema.{SchemaValue, policy_in, shape_of}
 use Rattle.cube_core.specs.Cube.{AreFactsOf, CubeValue, IsStateOf, answer_in, difference_in}

@@ -12,8 +12,8 @@ use Rattle.cell_weight.specs.Stats.{IsStat}
 use Rattle.exact_fraction.specs.Moderate.{IsModerate}
 use Rattle.fact_records.specs.Accepted.{cols_refusal}
 use Rattle.fact_records.specs.Outcomes.{AllAddUp}
-use Rattle.edit_plan.specs.State.{StateValue}
-use Rattle.edit_plan.specs.State.{terms_in as state_terms_in}
+use Rattle.cube_state.specs.State.{StateValue}
+use Rattle.cube_state.specs.State.{terms_in as state_terms_in}
 use Rattle.fact_records.specs.Shape.{width_of_all}
 use Rattle.fact_records.specs.Valid.{AreValid}
 use Rattle.group_sum.specs.Terms.{TermList}

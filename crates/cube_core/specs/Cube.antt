@@ -14,7 +14,7 @@ use Rattle.cube_model.specs.Facts.{after}
 use Rattle.cube_model.specs.Limits.{DEN_LIMIT, WIDE}
 use Rattle.edit_plan.specs.Bound.{step_limit}
 use Rattle.edit_plan.specs.Plan.{difference}
-use Rattle.edit_plan.specs.State.{StateValue}
+use Rattle.cube_state.specs.State.{StateValue}
 use Rattle.edit_plan.specs.declared.fault.PlanFault.{PlanFault}
 use Rattle.edit_plan.specs.declared.fault.PlanFault.TheVariants as plan_fault
 use Rattle.fact_keeper.specs.declared.content.Batch.{Batch}

@@ -9,7 +9,7 @@ use Rattle.cube_model.specs.Allocation.{Policy, extended, row_count}
 use Rattle.cube_model.specs.Cells.{is_among}
 use Rattle.cube_model.specs.Tree.{Dimension}
 use Rattle.edit_plan.specs.Plan.{kept_rows}
-use Rattle.edit_plan.specs.State.{StateValue, policy_in}
+use Rattle.cube_state.specs.State.{StateValue, policy_in}
 use Rattle.edit_plan.specs.Whole.{rows_among}
 use Rattle.edit_plan.specs.declared.fault.PlanAllFault.{PlanAllFault}
 use Rattle.edit_plan.specs.declared.fault.PlanAllFault.TheVariants as plan_all_fault

@@ -1,13 +1,14 @@
 //! Carrying a plan out.
 ghost use Rattle.std.specs.Prelude.{◌≡◌, ◌++◌, ◌∷◌, [], IfOk, IsTrue, OnErr, OnOk, option_map};
 ghost use Rattle.edit_plan.specs.Plan.{IsPlanFor, facts_after};
-ghost use Rattle.edit_plan.specs.State.{HasFacts};
+ghost use Rattle.cube_state.specs.State.{HasFacts};
 ghost use Rattle.fact_keeper.specs.Batch.{apply_batch};
 ghost use Rattle.fact_keeper.specs.Keeper.{CountsKeepFault};
 
 use cell_weight::WeightPolicy;
 use cube_base::Ids;
-use edit_plan::{Plan, State};
+use cube_state::State;
+use edit_plan::{Plan, install};
 use fact_keeper::{KeepError, Keeper};
 
 /// Commits what a plan changes to the keeper, which must be open, as one batch, and then sets what was planned, which takes no
@@ -35,6 +36,6 @@ pub(crate) fn carry_out<P: WeightPolicy + Drop, K: Keeper>(
         return Err(fault);
     }
     let refreshed = plan.take_refreshed();
-    state.install(plan);
+    install(state, plan);
     Ok(refreshed)
 }

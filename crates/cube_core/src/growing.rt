@@ -1,7 +1,7 @@
 //! The growth of a dimension of a cube. What is large is dropped by calls of `drop`, each of which is proved once.
 ghost use Rattle.std.specs.Prelude.{◌≡◌, ◌++◌, ◌∷◌, [], None, true, option_map, IfErr, IfOk, IsTrue, OnErr, OnOk};
 ghost use Rattle.cube_model.specs.Ascending.{ascends_from};
-ghost use Rattle.edit_plan.specs.State.{policy_in};
+ghost use Rattle.cube_state.specs.State.{policy_in};
 ghost use Rattle.fact_keeper.specs.Batch.{apply_batch};
 ghost use Rattle.schema_text.specs.Growth.{IsGrowOf, dims_with};
 ghost use Rattle.schema_text.specs.Schema.{over_dims};
@@ -14,7 +14,7 @@ use crate::cube::{Cube, Receipt};
 use crate::respread::{Moved, moved_between, state_over};
 use cell_weight::WeightPolicy;
 use cube_base::Ids;
-use edit_plan::State;
+use cube_state::State;
 use fact_keeper::{Batch, Keeper, KeptFacts};
 use region_algebra::Grow;
 use schema_text::{Schema, write_schema};

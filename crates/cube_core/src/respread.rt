@@ -2,7 +2,7 @@
 ghost use Rattle.std.specs.Prelude.{◌≡◌, ◌++◌, ◌∷◌, [], All, None, Some, true, IfErr, IfOk, OnOk};
 ghost use Rattle.cube_model.specs.Ascending.{ascends_from};
 ghost use Rattle.cube_model.specs.Difference.{is_same};
-ghost use Rattle.edit_plan.specs.State.{policy_in};
+ghost use Rattle.cube_state.specs.State.{policy_in};
 ghost use Rattle.fact_records.specs.FactList.{fact_of};
 ghost use Rattle.region_algebra.specs.Space.{IsRegion};
 ghost use Rattle.cube_core.specs.Growth.{has_large_region, moved};
@@ -14,7 +14,8 @@ use alloc_rows::Alloc;
 use cell_weight::WeightPolicy;
 use cube_base::{Code, Ids, Memory};
 use cube_model::Fact;
-use edit_plan::{State, plan_all};
+use cube_state::State;
+use edit_plan::{install, plan_all};
 use fact_keeper::{KeptRows, KeptRowsList};
 use fact_records::{FactList, FactRun, check_region};
 use region_algebra::Space;
@@ -48,7 +49,7 @@ pub(crate) fn state_over<P: WeightPolicy + Drop + Copy>(
             return Err(EditFault::from(fault));
         }
     };
-    later.install(plan);
+    install(&mut later, plan);
     Ok(later)
 }
 

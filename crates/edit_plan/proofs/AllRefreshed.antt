@@ -20,7 +20,7 @@ use Rattle.facts_kept.specs.Kept.{IsState, Kept}
 use Rattle.edit_plan.specs.Plan.{kept_rows}
 use Rattle.edit_plan.specs.Refreshing.{is_same_spread}
 use Rattle.edit_plan.specs.Whole.{ids_otherwise, lay_so, lies_otherwise, rows_otherwise}
-use Rattle.edit_plan.proofs.Looking.{group-found}
+use Rattle.cube_state.proofs.Looking.{group-found}
 use Rattle.facts_kept.proofs.ValidFacts.{valid-regions}
 use Rattle.edit_plan.proofs.RowsKept.{among-some, find-itself, whole}
 

@@ -13,9 +13,9 @@ use Rattle.fact_keeper.specs.declared.content.KeptFact.{KeptFact}
 use Rattle.fact_records.specs.New.{AreNew, put_all}
 use Rattle.fact_records.specs.Shape.{ShapeValue}
 use Rattle.edit_plan.specs.Plan.{kept_fact}
-use Rattle.edit_plan.specs.State.{StateValue}
+use Rattle.cube_state.specs.State.{StateValue}
 use Rattle.edit_plan.specs.Whole.{new_kept}
-use Rattle.edit_plan.proofs.Accepting.{allowed, found-there}
+use Rattle.cube_state.proofs.Accepting.{allowed, found-there}
 use Rattle.edit_plan.proofs.RowsKept.{find-itself}
 
 -- the ids that are there once a fact is put, and once all are
@@ -77,13 +77,13 @@ pub new-stored : (shape : ShapeValue) (dims : List Dimension) (new facts : List 
 new-stored shape dims new facts are up = ap (map kept_fact) (filter-alike (λ f. not (has_id f.id facts)) (λ f. has_id f.id new) (put_all new facts) (new-told shape dims new facts are up))
 
 -- one fact, as it is looked up
-module _ {P : Type 0} (state seen : StateValue P) (same : seen ≡ state) (fact : Fact) (found : Option (Bor Fact)) (is : option_copied found ≡ find (λ f. f.id == fact.id) seen.facts) where
+module _ {P : Type 0} (state : StateValue P) (fact : Fact) (found : Option (Bor Fact)) (is : option_copied found ≡ find (λ f. f.id == fact.id) state.facts) where
   copied : (o : Option (Bor Fact)) → is_some (option_copied o) ≡ is_some o
   copied None = refl
   copied (Some f) = refl
 
   has-seen : has_id fact.id state.facts ≡ is_some found
-  has-seen = sym (ap (λ s. has_id fact.id s.facts) same) ∙ found-there fact.id seen.facts ∙ ap is_some (sym is) ∙ copied found
+  has-seen = found-there fact.id state.facts ∙ ap is_some (sym is) ∙ copied found
 
   one-kept : (b : Bool) → has_id fact.id state.facts ≡ b → new_kept state.facts (fact ∷ []) ≡ (if b then [] else kept_fact fact ∷ [])
   one-kept true has = rw has refl

@@ -17,10 +17,11 @@ use Rattle.cube_model.proofs.Ascending.{ascends_filter, ascends_first, ascends_l
 use Rattle.staged_map.specs.Staged.{Entries, entry_of}
 use Rattle.staged_map.proofs.Entries.{entry_of-made}
 use Rattle.fact_groups.specs.Groups.{Group, group_at}
-use Rattle.edit_plan.specs.declared.regrouped.Regrouped.{Regrouped}
-use Rattle.edit_plan.specs.Refreshing.{AreByCode, IsRegrouped, group_now}
-use Rattle.edit_plan.specs.Regrouped.{HoldChanged, groups_after, is_edited_at, is_spread_anew, regrouped}
-use Rattle.edit_plan.proofs.LeftOut.{groups-left_out}
+use Rattle.cube_state.specs.declared.regrouped.Regrouped.{Regrouped}
+use Rattle.edit_plan.specs.Refreshing.{AreByCode, group_now}
+use Rattle.cube_state.specs.Regrouped.{IsRegrouped}
+use Rattle.cube_state.specs.Regrouped.{HoldChanged, groups_after, is_edited_at, is_spread_anew, regrouped}
+use Rattle.cube_state.proofs.LeftOut.{groups-left_out}
 use Rattle.edit_plan.proofs.OtherPairs.{any-turned}
 
 -- a code and its group

@@ -22,8 +22,9 @@ use Rattle.fact_groups.proofs.Groups.{group_at-region}
 use Rattle.fact_groups.proofs.Refreshing.{otherwise}
 use Rattle.fact_groups.proofs.Statistics.{sum-reweighed}
 use Rattle.edit_plan.specs.Bound.{covering_pairs}
-use Rattle.edit_plan.specs.Refreshing.{ids_at, ids_with}
-use Rattle.edit_plan.specs.Regrouped.{HoldChanged, is_spread_anew, spread_anew}
+use Rattle.edit_plan.specs.Refreshing.{ids_at}
+use Rattle.cube_state.specs.State.{ids_with}
+use Rattle.cube_state.specs.Regrouped.{HoldChanged, is_spread_anew, spread_anew}
 use Rattle.edit_plan.proofs.CountedOnce.{from-some, none-counted, some-counted, sums-le}
 use Rattle.edit_plan.proofs.FlatLists.{any-alike}
 use Rattle.edit_plan.proofs.RefreshedPairs.{ascends-anew}

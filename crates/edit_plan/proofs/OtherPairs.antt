@@ -22,7 +22,8 @@ use Rattle.fact_groups.proofs.Filters.{sum_by-filter-le}
 use Rattle.fact_groups.proofs.Groups.{sum_by-map}
 use Rattle.fact_groups.proofs.Refreshing.{among-kept, any-found}
 use Rattle.fact_groups.proofs.Statistics.{among-filter}
-use Rattle.edit_plan.specs.Refreshing.{ids_with, others_at, others_with}
+use Rattle.cube_state.specs.State.{ids_with}
+use Rattle.edit_plan.specs.Refreshing.{others_at, others_with}
 use Rattle.edit_plan.proofs.FlatLists.{All-flat, any-alike, any-flat, sum_by-flat}
 
 -- what is among numbers, the test turned round

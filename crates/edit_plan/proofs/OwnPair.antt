@@ -15,11 +15,12 @@ use Rattle.fact_groups.specs.Refreshed.{is_new_or_moved, is_spread_otherwise}
 use Rattle.fact_groups.proofs.Groups.{first-holds, group_at-found}
 use Rattle.fact_records.specs.Shape.{width_of_all}
 use Rattle.fact_records.specs.Valid.{AreValid}
-use Rattle.edit_plan.specs.declared.moves.Moves.{Moves}
-use Rattle.edit_plan.specs.declared.regrouped.Regrouped.{Regrouped}
-use Rattle.edit_plan.specs.Moves.{AreMoves}
-use Rattle.edit_plan.specs.Refreshing.{IsRegrouped, group_now, is_same_spread, own_pair}
-use Rattle.edit_plan.specs.State.{StateValue, policy_in}
+use Rattle.cube_state.specs.declared.moves.Moves.{Moves}
+use Rattle.cube_state.specs.declared.regrouped.Regrouped.{Regrouped}
+use Rattle.cube_state.specs.Moves.{AreMoves}
+use Rattle.cube_state.specs.Regrouped.{IsRegrouped}
+use Rattle.edit_plan.specs.Refreshing.{group_now, is_same_spread, own_pair}
+use Rattle.cube_state.specs.State.{StateValue, policy_in}
 use Rattle.edit_plan.proofs.GroupsNow.{groups-now}
 use Rattle.edit_plan.proofs.RefreshedPairs.{given-found, given-has}
 use Rattle.edit_plan.proofs.SeenPairs.{later-regions, regions}
@@ -52,7 +53,7 @@ module _ (policy : Policy) (dims : List Dimension) (edit : Edit) (facts : List F
       ap (option_and_then (λ f. if is_new_or_moved policy dims edit facts f then Some (f.id, code_of dims f.region) else None)) gives
       ∙ ap pair_if (moved-unless ∙ ap not (sym (lay_is ∙ ap (λ o. option_map_or (λ f. is_same_spread (Some (spread_at policy dims facts f.region)) o) (taken edit facts) false) is)))
 
-module _ {P : Type 0} (weigh : P → CellStat → ℕ) (state seen : StateValue P) (same : seen ≡ state) (valid : AreValid state.shape state.dims state.facts) (moves : Moves)
+module _ {P : Type 0} (weigh : P → CellStat → ℕ) (state : StateValue P) (valid : AreValid state.shape state.dims state.facts) (moves : Moves)
     (are : AreMoves (policy_in weigh state) state.shape state.dims state.facts moves) where
   abbrev policy : Policy
   policy = policy_in weigh state
@@ -63,33 +64,25 @@ module _ {P : Type 0} (weigh : P → CellStat → ℕ) (state seen : StateValue 
   abbrev later : List Fact
   later = after moves.edit state.facts
 
-  trees-of : All IsTree seen.dims → All IsTree state.dims
-  trees-of trees = subst (λ (s : StateValue P). All IsTree s.dims) same trees
-
-  code-of : (region : List ℕ) (code : ℕ) → code ≡ code_of seen.dims region → code ≡ code_of state.dims region
-  code-of region code at = at ∙ ap (λ (s : StateValue P). code_of s.dims region) same
-
   module _ (took : Fact) (takes : moves.taken ≡ Some took) where
     found : taken moves.edit state.facts ≡ Some took
     found = sym are.takes ∙ takes
 
     -- the fact that is taken lies in a region of the space, and was spread as its group
-    pub taken-named : IsRegion seen.dims took.region
-    taken-named =
-        subst (λ (s : StateValue P). IsRegion s.dims took.region) (sym same)
-        (first-holds (λ f. IsRegion state.dims f.region) (λ f. f.id == edited_id moves.edit) state.facts took (regions weigh state seen same valid moves are) found)
+    pub taken-named : IsRegion state.dims took.region
+    taken-named = first-holds (λ f. IsRegion state.dims f.region) (λ f. f.id == edited_id moves.edit) state.facts took (regions weigh state valid moves are) found
 
-    pub taken-lay : (lay : Bool) (code : ℕ) (before spread : Option Allocation) → All IsTree seen.dims → code ≡ code_of seen.dims took.region
+    pub taken-lay : (lay : Bool) (code : ℕ) (before spread : Option Allocation) → All IsTree state.dims → code ≡ code_of state.dims took.region
         → before ≡ option_map (λ (g : Group). g.spread) (group_at policy columns state.dims state.facts code) → lay ≡ is_same_spread before spread
         → lay ≡ option_map_or (λ f. is_same_spread (Some (spread_at policy state.dims state.facts f.region)) spread) (taken moves.edit state.facts) false
     taken-lay lay code before spread trees at before_is lay_is =
         lay_is
         ∙ ap (λ o. is_same_spread o spread)
-        (before_is ∙ ap (λ c. option_map (λ (g : Group). g.spread) (group_at policy columns state.dims state.facts c)) (code-of took.region code at) ∙ spread-found policy columns state.dims state.facts (trees-of trees) (regions weigh state seen same valid moves are) (edited_id moves.edit) took found)
+        (before_is ∙ ap (λ c. option_map (λ (g : Group). g.spread) (group_at policy columns state.dims state.facts c)) at ∙ spread-found policy columns state.dims state.facts trees (regions weigh state valid moves are) (edited_id moves.edit) took found)
         ∙ sym (ap (λ o. option_map_or (λ f. is_same_spread (Some (spread_at policy state.dims state.facts f.region)) spread) o false) found)
 
   module _ (regrouped : Regrouped) (is : IsRegrouped policy columns state.dims moves.edit state.facts regrouped) where
-    module _ (trees : All IsTree seen.dims) (gave : Fact) (code : ℕ) (spread : Option Allocation) (lay : Bool) (gives : moves.given ≡ Some gave) (at : code ≡ code_of seen.dims gave.region)
+    module _ (trees : All IsTree state.dims) (gave : Fact) (code : ℕ) (spread : Option Allocation) (lay : Bool) (gives : moves.given ≡ Some gave) (at : code ≡ code_of state.dims gave.region)
         (spread_is : spread ≡ option_map (λ (g : Group). g.spread) (group_now regrouped.groups (group_at policy columns state.dims state.facts) code))
         (lay_is : lay ≡ option_map_or (λ f. is_same_spread (Some (spread_at policy state.dims state.facts f.region)) spread) (taken moves.edit state.facts) false) where
       its_given : given moves.edit ≡ Some gave
@@ -98,13 +91,13 @@ module _ {P : Type 0} (weigh : P → CellStat → ℕ) (state seen : StateValue 
       now : spread ≡ Some (spread_at policy state.dims later gave.region)
       now =
           spread_is
-          ∙ ap (option_map (λ (g : Group). g.spread)) (groups-now policy columns state.dims moves.edit state.facts regrouped is valid.ascending code ∙ ap (group_at policy columns state.dims later) (code-of gave.region code at))
-          ∙ spread-found policy columns state.dims later (trees-of trees) (later-regions weigh state seen same valid moves are) (edited_id moves.edit) gave (given-found moves.edit state.facts ∙ its_given)
+          ∙ ap (option_map (λ (g : Group). g.spread)) (groups-now policy columns state.dims moves.edit state.facts regrouped is valid.ascending code ∙ ap (group_at policy columns state.dims later) at)
+          ∙ spread-found policy columns state.dims later trees (later-regions weigh state valid moves are) (edited_id moves.edit) gave (given-found moves.edit state.facts ∙ its_given)
 
       pub same-seen : lay ≡ true → None ≡ own_pair policy state.dims moves.edit state.facts
       same-seen lay_so = sym (own-unless policy state.dims moves.edit state.facts gave its_given lay spread now lay_is ∙ ap (λ b. pair_if policy state.dims moves.edit state.facts gave its_given (not b)) lay_so)
 
       pub moved-seen : lay ≡ false → Some (gave.id, code) ≡ own_pair policy state.dims moves.edit state.facts
       moved-seen lay_so =
-          ap {B = Option (ℕ × ℕ)} (λ c. Some (gave.id, c)) (code-of gave.region code at)
+          ap {B = Option (ℕ × ℕ)} (λ c. Some (gave.id, c)) at
           ∙ sym (own-unless policy state.dims moves.edit state.facts gave its_given lay spread now lay_is ∙ ap (λ b. pair_if policy state.dims moves.edit state.facts gave its_given (not b)) lay_so)

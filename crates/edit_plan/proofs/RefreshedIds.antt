@@ -9,8 +9,8 @@ use Rattle.cube_model.specs.Facts.{after}
 use Rattle.fact_groups.proofs.Refreshing.{ascends-refreshed}
 use Rattle.fact_records.specs.Judge.{fact_refusal}
 use Rattle.fact_records.specs.Valid.{AreValid, IsEditOver, IsValid}
-use Rattle.edit_plan.specs.State.{StateValue, policy_in, refreshed_in}
-use Rattle.edit_plan.proofs.Accepting.{AreValid-after, allowed}
+use Rattle.cube_state.specs.State.{StateValue, policy_in, refreshed_in}
+use Rattle.cube_state.proofs.Accepting.{AreValid-after, allowed}
 
 -- the ids that an edit refreshes ascend from the least id of a fact on
 pub refreshed-ascend : {P : Type 0} (weigh : P → CellStat → ℕ) (state : StateValue P) (edit : Edit) → AreValid state.shape state.dims state.facts → IsEditOver state.dims edit → fact_refusal state.shape state.dims edit state.facts ≡ None

@@ -27,7 +27,7 @@ use Rattle.fact_groups.proofs.Edits.{find-after}
 use Rattle.fact_groups.proofs.Refreshing.{ascends-refreshed}
 use Rattle.fact_groups.proofs.Respreading.{among-respread}
 use Rattle.edit_plan.specs.Refreshing.{AreOfFacts, others_at, own_pair}
-use Rattle.edit_plan.specs.Regrouped.{HoldChanged, is_spread_anew, spread_anew}
+use Rattle.cube_state.specs.Regrouped.{HoldChanged, is_spread_anew, spread_anew}
 use Rattle.edit_plan.proofs.ByKeys.{ascends-sorted}
 use Rattle.edit_plan.proofs.OtherPairs.{All-others, among-all, any-map, once-all}
 

@@ -1,5 +1,5 @@
 -- The rows of the facts that an edit refreshes, by the groups after it.
-use Rattle.std.proofs.Common.{◌≡◌, ℕ, zero, suc, ◌+◌, ◌<◌, ◌≤◌, Bool, true, false, List, [], ◌∷◌, ◌++◌, get_or, length, map, take, refl, ap, sym, ◌∙◌, subst, arith}
+use Rattle.std.proofs.Common.{◌≡◌, ℕ, zero, suc, ◌+◌, ◌<◌, ◌≤◌, Bool, true, false, List, [], ◌∷◌, ◌++◌, get_or, length, map, take, refl, ap, sym, ◌∙◌, arith}
 use Rattle.std.specs.Prelude.{All, AllPairs, Option, Some, None, filter, filter_map, find, not, ◌==◌}
 use Rattle.std.specs.List.{cons_option}
 use Rattle.std.specs.Option.{option_map, option_map_or}
@@ -24,11 +24,12 @@ use Rattle.fact_groups.proofs.Sharing.{allocation-spread_at}
 use Rattle.fact_records.specs.Shape.{width_of_all}
 use Rattle.fact_records.specs.Valid.{AreValid}
 use Rattle.edit_plan.specs.Plan.{kept_rows}
-use Rattle.edit_plan.specs.declared.moves.Moves.{Moves}
-use Rattle.edit_plan.specs.declared.regrouped.Regrouped.{Regrouped}
-use Rattle.edit_plan.specs.Moves.{AreMoves}
-use Rattle.edit_plan.specs.Refreshing.{AreOfFacts, AreRefreshed, IsRegrouped, group_now}
-use Rattle.edit_plan.specs.State.{StateValue, policy_in}
+use Rattle.cube_state.specs.declared.moves.Moves.{Moves}
+use Rattle.cube_state.specs.declared.regrouped.Regrouped.{Regrouped}
+use Rattle.cube_state.specs.Moves.{AreMoves}
+use Rattle.edit_plan.specs.Refreshing.{AreOfFacts, AreRefreshed, group_now}
+use Rattle.cube_state.specs.Regrouped.{IsRegrouped}
+use Rattle.cube_state.specs.State.{StateValue, policy_in}
 use Rattle.edit_plan.proofs.GroupsNow.{groups-now}
 use Rattle.edit_plan.proofs.OwnPair.{spread-found}
 use Rattle.edit_plan.proofs.SeenPairs.{later-regions}
@@ -137,11 +138,11 @@ module _ (policy : Policy) (columns : ℕ) (dims : List Dimension) (edit : Edit)
       ∙ ap (filter_map (rows_of policy dims facts later (pairs-after edit facts up))) are.ids
       ∙ refreshed-rows policy dims facts later (pairs-after edit facts up)
 
-module _ {P : Type 0} (weigh : P → CellStat → ℕ) (state seen : StateValue P) (same : seen ≡ state) (valid : AreValid state.shape state.dims state.facts) (moves : Moves)
+module _ {P : Type 0} (weigh : P → CellStat → ℕ) (state : StateValue P) (valid : AreValid state.shape state.dims state.facts) (moves : Moves)
     (are : AreMoves (policy_in weigh state) state.shape state.dims state.facts moves)
     (regrouped : Regrouped)
     (is : IsRegrouped (policy_in weigh state) (width_of_all state.shape.measures) state.dims moves.edit state.facts regrouped)
-    (trees : All IsTree seen.dims)
+    (trees : All IsTree state.dims)
     (pairs : List (ℕ × ℕ))
     (refresh : AreRefreshed (policy_in weigh state) state.dims moves.edit state.facts pairs) where
   abbrev policy : Policy
@@ -153,16 +154,13 @@ module _ {P : Type 0} (weigh : P → CellStat → ℕ) (state seen : StateValue 
   abbrev group : ℕ → Option Group
   group = group_now regrouped.groups (group_at policy columns state.dims state.facts)
 
-  state_trees : All IsTree state.dims
-  state_trees = subst (λ (s : StateValue P). All IsTree s.dims) same trees
-
   named : All (λ f. IsRegion state.dims f.region) (after moves.edit state.facts)
-  named = later-regions weigh state seen same valid moves are
+  named = later-regions weigh state valid moves are
 
   module _ (i : ℕ) (d : ℕ × ℕ) (within : i < length pairs) (spread : Option Allocation) (spread_is : spread ≡ option_map (λ (g : Group). g.spread) (group (get_or pairs i d).1)) where
     -- the region of a refreshed fact has a group
     pub spread-there : spread ≡ None → ⊥
-    spread-there none = pair-spread policy columns state.dims moves.edit state.facts valid.ascending state_trees named regrouped is (get_or pairs i d) (refresh.codes i d within) (sym spread_is ∙ none)
+    spread-there none = pair-spread policy columns state.dims moves.edit state.facts valid.ascending trees named regrouped is (get_or pairs i d) (refresh.codes i d within) (sym spread_is ∙ none)
 
     -- one pair more
     pub rows-next : (a : Allocation) (den : ℕ) (list : List (ℕ × ℕ)) (rows now : List KeptRows) → spread ≡ Some a → den ≡ a.den → list ≡ a.rows → rows ≡ filter_map (rows_by group) (take i pairs)
@@ -180,4 +178,4 @@ module _ {P : Type 0} (weigh : P → CellStat → ℕ) (state seen : StateValue 
   -- all of them
   pub rows-seen : (rows : List KeptRows) (i : ℕ) → length pairs ≤ i → rows ≡ filter_map (rows_by group) (take i pairs)
       → rows ≡ map kept_rows (filter (λ e. is_among (refreshed policy state.dims state.facts (after moves.edit state.facts)) e.id) (extended policy state.dims (after moves.edit state.facts)))
-  rows-seen rows i past so_far = so_far ∙ ap (filter_map (rows_by group)) (take_all i pairs past) ∙ rows-kept policy columns state.dims moves.edit state.facts valid.ascending state_trees named regrouped is pairs refresh
+  rows-seen rows i past so_far = so_far ∙ ap (filter_map (rows_by group)) (take_all i pairs past) ∙ rows-kept policy columns state.dims moves.edit state.facts valid.ascending trees named regrouped is pairs refresh

@@ -12,19 +12,20 @@ use Rattle.region_algebra.specs.Space.{IsRegion}
 use Rattle.fact_groups.specs.Edits.{edited_id}
 use Rattle.fact_records.specs.Shape.{width_of_all}
 use Rattle.fact_records.specs.Valid.{AreValid}
-use Rattle.edit_plan.specs.declared.moves.Moves.{Moves}
-use Rattle.edit_plan.specs.declared.regrouped.Regrouped.{Regrouped}
+use Rattle.cube_state.specs.declared.moves.Moves.{Moves}
+use Rattle.cube_state.specs.declared.regrouped.Regrouped.{Regrouped}
 use Rattle.edit_plan.specs.Bound.{covering_pairs}
-use Rattle.edit_plan.specs.Moves.{AreMoves}
-use Rattle.edit_plan.specs.Refreshing.{AreOfFacts, IsRegrouped, ids_at, others_at, own_pair}
-use Rattle.edit_plan.specs.Regrouped.{spread_anew}
-use Rattle.edit_plan.specs.State.{StateValue, policy_in}
-use Rattle.edit_plan.proofs.Accepting.{AreValid-after, allowed}
+use Rattle.cube_state.specs.Moves.{AreMoves}
+use Rattle.edit_plan.specs.Refreshing.{AreOfFacts, ids_at, others_at, own_pair}
+use Rattle.cube_state.specs.Regrouped.{IsRegrouped}
+use Rattle.cube_state.specs.Regrouped.{spread_anew}
+use Rattle.cube_state.specs.State.{StateValue, policy_in}
+use Rattle.cube_state.proofs.Accepting.{AreValid-after, allowed}
 use Rattle.edit_plan.proofs.HandedOut.{handed-out}
 use Rattle.facts_kept.proofs.ValidFacts.{valid-regions}
 use Rattle.edit_plan.proofs.RefreshedPairs.{codes-sorted, ids-sorted}
 
-module _ {P : Type 0} (weigh : P → CellStat → ℕ) (state seen : StateValue P) (same : seen ≡ state) (valid : AreValid state.shape state.dims state.facts) (moves : Moves)
+module _ {P : Type 0} (weigh : P → CellStat → ℕ) (state : StateValue P) (valid : AreValid state.shape state.dims state.facts) (moves : Moves)
     (are : AreMoves (policy_in weigh state) state.shape state.dims state.facts moves) where
   abbrev later : List Fact
   later = after moves.edit state.facts
@@ -38,10 +39,7 @@ module _ {P : Type 0} (weigh : P → CellStat → ℕ) (state seen : StateValue 
   pub later-regions : All (λ f. IsRegion state.dims f.region) later
   later-regions = valid-regions state.shape state.dims later later-valid
 
-  trees-seen : All IsTree seen.dims → All IsTree state.dims
-  trees-seen trees = subst (λ (s : StateValue P). All IsTree s.dims) same trees
-
-  module _ (regrouped : Regrouped) (is : IsRegrouped (policy_in weigh state) (width_of_all state.shape.measures) state.dims moves.edit state.facts regrouped) (trees : All IsTree seen.dims) where
+  module _ (regrouped : Regrouped) (is : IsRegrouped (policy_in weigh state) (width_of_all state.shape.measures) state.dims moves.edit state.facts regrouped) (trees : All IsTree state.dims) where
     -- the ids that are handed out are few
     pub handed-seen : (codes : List ℕ) (before now : ℕ) → codes ≡ regrouped.spread_anew → now ≤ before + ids_at state.dims state.facts codes → now ≤ before + covering_pairs (policy_in weigh state) state.dims moves.edit state.facts
     handed-seen codes before now codes_are few =
@@ -49,7 +47,7 @@ module _ {P : Type 0} (weigh : P → CellStat → ℕ) (state seen : StateValue 
           arith,
           few,
           ap (ids_at state.dims state.facts) (codes_are ∙ is.anew),
-          handed-out (policy_in weigh state) (width_of_all state.shape.measures) state.dims moves.edit state.facts valid.ascending (trees-seen trees) regions later-regions is.codes is.hold,
+          handed-out (policy_in weigh state) (width_of_all state.shape.measures) state.dims moves.edit state.facts valid.ascending trees regions later-regions is.codes is.hold,
         )
 
     module _ (id : ℕ) (codes : List ℕ) (others pairs sorted : List (ℕ × ℕ)) (own : Option (ℕ × ℕ)) (id_is : id ≡ edited_id moves.edit) (codes_are : codes ≡ regrouped.spread_anew)
@@ -67,7 +65,7 @@ module _ {P : Type 0} (weigh : P → CellStat → ℕ) (state seen : StateValue 
 
       pub ids-seen : IsNonDecreasingBy (λ pair. pair.0) sorted → map (λ pair. pair.0) sorted ≡ refreshed (policy_in weigh state) state.dims state.facts later
       ids-seen rises =
-          ids-sorted (policy_in weigh state) state.dims moves.edit state.facts valid.ascending (width_of_all state.shape.measures) is.codes is.hold sorted (subst (λ (ps : List (ℕ × ℕ)). IsPermutation ps sorted) all_are moved) (trees-seen trees) regions later-regions rises
+          ids-sorted (policy_in weigh state) state.dims moves.edit state.facts valid.ascending (width_of_all state.shape.measures) is.codes is.hold sorted (subst (λ (ps : List (ℕ × ℕ)). IsPermutation ps sorted) all_are moved) trees regions later-regions rises
 
       pub codes-seen : AreOfFacts state.dims later sorted
       codes-seen = codes-sorted (policy_in weigh state) state.dims moves.edit state.facts valid.ascending (width_of_all state.shape.measures) is.codes is.hold sorted (subst (λ (ps : List (ℕ × ℕ)). IsPermutation ps sorted) all_are moved)

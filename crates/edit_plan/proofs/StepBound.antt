@@ -16,13 +16,13 @@ use Rattle.region_index.specs.Over.{codes_over}
 use Rattle.region_index.proofs.Lengths.{codes_over-short}
 use Rattle.fact_groups.specs.Changes.{touched_cells}
 use Rattle.fact_groups.proofs.Statistics.{length-touched}
-use Rattle.edit_plan.specs.declared.moves.Moves.{Moves}
+use Rattle.cube_state.specs.declared.moves.Moves.{Moves}
 use Rattle.edit_plan.specs.Bound.{covering_pairs, step_bound}
-use Rattle.edit_plan.specs.Covering.{probes_over}
-use Rattle.edit_plan.specs.Moves.{AreMoves}
-use Rattle.edit_plan.specs.State.{StateValue, policy_in}
+use Rattle.cube_state.specs.Covering.{probes_over}
+use Rattle.cube_state.specs.Moves.{AreMoves}
+use Rattle.cube_state.specs.State.{StateValue, policy_in}
 use Rattle.touched_cells.specs.Touched.{reweighing, reweighs, touched}
-use Rattle.edit_plan.proofs.Below.{reweighing-below}
+use Rattle.cube_state.proofs.Below.{reweighing-below}
 
 module _ (policy : Policy) (dims : List Dimension) (edit : Edit) (facts : List Fact) where
   -- the cells that weigh otherwise are two at most

@@ -8,7 +8,7 @@ use Rattle.cube_model.specs.Tree.{Dimension}
 use Rattle.fact_groups.specs.Changes.{changed_cells}
 use Rattle.region_index.specs.Depths.{depth_product}
 use Rattle.region_index.specs.Indexed.{covers}
-use Rattle.edit_plan.specs.State.{StateValue, policy_in}
+use Rattle.cube_state.specs.State.{StateValue, policy_in}
 
 -- the number of pairs of a cell that an edit changes and an imprecise fact, before the edit, that covers it
 abbrev pub covering_pairs : Policy → List Dimension → Edit → List Fact → ℕ

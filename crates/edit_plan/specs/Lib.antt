@@ -1,12 +1,4 @@
-pub mod Answering
 pub mod Bound
-pub mod Covering
-pub mod GroupAfter
-pub mod Moves
 pub mod Plan
 pub mod Refreshing
-pub mod Regrouped
-pub mod Sets
-pub mod State
-pub mod ViewChanges
 pub mod Whole

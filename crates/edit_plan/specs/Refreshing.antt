@@ -11,19 +11,10 @@ use Rattle.cube_model.specs.Facts.{after}
 use Rattle.cube_model.specs.Tree.{Dimension}
 use Rattle.region_algebra.specs.Space.{code_of}
 use Rattle.staged_map.specs.Staged.{Entries, entry_of}
-use Rattle.region_index.specs.Indexed.{is_indexed_at}
 use Rattle.fact_groups.specs.Edits.{given}
 use Rattle.fact_groups.specs.Groups.{Group}
 use Rattle.fact_groups.specs.Refreshed.{is_new_or_moved}
-use Rattle.edit_plan.specs.declared.regrouped.Regrouped.{Regrouped}
-use Rattle.edit_plan.specs.Regrouped.{HoldChanged, groups_after, spread_anew}
-
--- the groups that an edit changes, made from codes that hold all of them
-pub record IsRegrouped (policy : Policy) (columns : ℕ) (dims : List Dimension) (edit : Edit) (facts : List Fact) (regrouped : Regrouped) : Type 0 where
-  pub codes : List ℕ
-  pub hold : HoldChanged policy columns dims edit facts codes
-  pub groups : regrouped.groups ≡ groups_after policy columns dims edit facts codes
-  pub anew : regrouped.spread_anew ≡ spread_anew policy columns dims edit facts codes
+use Rattle.cube_state.specs.State.{ids_with}
 
 -- each code once, ascending
 abbrev pub AreByCode : Entries Group → Type 0
@@ -36,10 +27,6 @@ group_now entries before code = unwrap_or (entry_of entries code) (before code)
 -- both are there and the same
 abbrev pub is_same_spread : Option Allocation → Option Allocation → Bool
 is_same_spread before now = option_map_or (λ a. option_map_or (is_same a) now false) before false
-
--- the ids of the imprecise facts whose region has a code
-abbrev pub ids_with : List Dimension → List Fact → ℕ → List ℕ
-ids_with dims facts code = map (λ f. f.id) (filter (is_indexed_at dims code) facts)
 
 -- how many there are at codes
 abbrev pub ids_at : List Dimension → List Fact → List ℕ → ℕ

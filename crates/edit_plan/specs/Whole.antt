@@ -18,7 +18,7 @@ use Rattle.facts_kept.specs.declared.fault.TooMany.TheVariants as too_many
 use Rattle.edit_plan.specs.declared.fault.PlanAllFault.{PlanAllFault}
 use Rattle.edit_plan.specs.declared.fault.PlanAllFault.TheVariants as plan_all_fault
 use Rattle.edit_plan.specs.Plan.{kept_fact, kept_rows}
-use Rattle.edit_plan.specs.State.{StateValue, policy_in}
+use Rattle.cube_state.specs.State.{StateValue, policy_in}
 
 -- the facts of a state with new ones
 abbrev pub facts_with : {P : Type 0} → StateValue P → List Fact → List Fact

@@ -1,31 +1,18 @@
-//! The state of a cube: its facts, with all that is kept of them so that an edit looks at few of them. An edit is planned, and
-//! a plan is installed without memory.
+//! Edits of a cube, planned: an edit is judged and prepared over a state, and its plan is installed without memory.
 #![tactic(auto)]
 
-mod answering;
-mod edited;
 mod fault;
-mod group_after;
-mod moves;
-mod moving;
+mod installing;
 mod plan_change;
 mod planning;
 mod prepared;
 mod refreshing;
-mod regroup;
-mod regrouped;
-mod regrouping;
-mod room;
-mod sets;
-mod state;
+mod spread;
 mod storing;
-mod viewing;
 mod whole;
 
-pub use facts_kept::{Group, TooMany};
 pub use fault::{PlanAllFault, PlanFault};
+pub use installing::install;
 pub use planning::plan;
 pub use prepared::Plan;
-pub use state::State;
-pub use touched_cells::Change;
 pub use whole::plan_all;

@@ -1,6 +1,6 @@
 //! What a plan does.
-use crate::sets::Sets;
 use cube_model::Edit;
+use cube_state::Sets;
 use facts_kept::FactsKept;
 
 /// What a plan does to a state: an edit, or all facts at once.

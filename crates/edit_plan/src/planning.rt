@@ -6,20 +6,20 @@ ghost use Rattle.cube_model.specs.Tree.{IsTree};
 ghost use Rattle.fact_records.specs.Shape.{width_of_all};
 ghost use Rattle.fact_records.specs.Valid.{AreValid, IsEditOver};
 ghost use Rattle.edit_plan.specs.Bound.{covering_pairs, step_bound};
-ghost use Rattle.edit_plan.specs.Covering.{probes_over};
-ghost use Rattle.edit_plan.specs.Moves.{AreMoves};
-ghost use Rattle.edit_plan.specs.Plan.{AreSetsFor, IsFaultOf, IsPlanFor, difference, edit_in};
-ghost use Rattle.edit_plan.specs.Refreshing.{IsRegrouped};
-ghost use Rattle.edit_plan.specs.State.{HaveSameContent, judge_in, policy_in, refreshed_in, rows_after};
+ghost use Rattle.cube_state.specs.Covering.{probes_over};
+ghost use Rattle.cube_state.specs.Moves.{AreMoves};
+ghost use Rattle.edit_plan.specs.Plan.{IsFaultOf, IsPlanFor, difference, edit_in};
+ghost use Rattle.cube_state.specs.Regrouped.{IsRegrouped};
+ghost use Rattle.cube_state.specs.State.{HaveSameContent, judge_in, policy_in, refreshed_in, rows_after};
 
-use crate::moves::Moves;
 use crate::plan_change::PlanChange;
-use crate::regrouped::Regrouped;
-use crate::sets::Sets;
-use crate::{Plan, PlanFault, State};
+use crate::refreshing::refreshed;
+use crate::storing::batch;
+use crate::{Plan, PlanFault};
 use cell_weight::WeightPolicy;
 use cube_base::{Ids, Memory};
 use cube_model::{Edit, MAX_ROWS};
+use cube_state::{Moves, Regrouped, State};
 use fact_keeper::Batch;
 use fact_records::judge_fact;
 use region_index::Steps;
@@ -53,8 +53,8 @@ pub fn plan<P: WeightPolicy + Drop, L: Ledger>(
     ensures fault { IfErr result (IsFaultOf P.weigh state.old edit.now) }
     ensures steps { steps.new ≤ steps.old + step_bound P.weigh state.old edit.now }
 {
-    let moves = state.judged(edit)?;
-    let regrouped = match state.regroup_few(&moves, steps) {
+    let moves = judged(state, edit)?;
+    let regrouped = match regroup_few(state, &moves, steps) {
         Ok(regrouped) => regrouped,
         Err(fault) => {
             // Dropped by a call, which is proved once: in place it would be proved on each way out.
@@ -87,7 +87,7 @@ fn plan_of<P: WeightPolicy + Drop, L: Ledger>(
     ensures steps { steps.new ≤ steps.old + covering_pairs (policy_in P.weigh state.old) state.old.dims moves.now.edit state.old.facts }
 {
     let rows = regrouped.rows;
-    let (refreshed, batch) = match state.kept_changes(alloc, moves, &regrouped, steps) {
+    let (refreshed, batch) = match kept_changes(alloc, state, moves, &regrouped, steps) {
         Ok(changes) => changes,
         Err(fault) => {
             // Dropped by a call, which is proved once: in place it would be proved on each way out.
@@ -115,77 +115,62 @@ fn plan_of<P: WeightPolicy + Drop, L: Ledger>(
     })
 }
 
-impl<P: WeightPolicy + Drop> State<P> {
-    /// What an edit moves that is not refused before its rows are made.
-    fn judged(&self, edit: &Edit) -> Result<Moves, PlanFault>
-        requires { IsEditOver self.now.dims edit.now }
-        ensures moves { IfOk result (AreMoves (policy_in P.weigh self.now) self.now.shape self.now.dims self.now.facts) }
-        ensures edit { IfOk result (λ moves. moves.edit ≡ edit.now) }
-        ensures trees { All IsTree self.now.dims }
-        ensures valid { AreValid self.now.shape self.now.dims self.now.facts }
-        ensures fault { IfErr result (IsFaultOf P.weigh self.now edit.now) }
-    {
-        // What a space says of its dimensions.
-        let _ = self.space.dims();
-        if let Err(code) = judge_fact(&self.shape, &self.space, edit, &self.facts) {
-            return Err(PlanFault::Code(code));
-        }
-        Ok(self.moves(edit)?)
+/// What an edit moves that is not refused before its rows are made.
+fn judged<P: WeightPolicy + Drop>(state: &State<P>, edit: &Edit) -> Result<Moves, PlanFault>
+    requires { IsEditOver state.now.dims edit.now }
+    ensures moves { IfOk result (AreMoves (policy_in P.weigh state.now) state.now.shape state.now.dims state.now.facts) }
+    ensures edit { IfOk result (λ moves. moves.edit ≡ edit.now) }
+    ensures trees { All IsTree state.now.dims }
+    ensures valid { AreValid state.now.shape state.now.dims state.now.facts }
+    ensures fault { IfErr result (IsFaultOf P.weigh state.now edit.now) }
+{
+    if let Err(code) = judge_fact(state.shape(), state.space(), edit, state.facts()) {
+        return Err(PlanFault::Code(code));
     }
+    Ok(state.moves(edit)?)
+}
 
-    /// The groups that an edit changes, which leaves no more than 2^21 rows.
-    fn regroup_few<L: Ledger>(
-        &self,
-        moves: &Moves,
-        steps: &mut Steps<L>,
-    ) -> Result<Regrouped, PlanFault>
-        requires { AreMoves (policy_in P.weigh self.now) self.now.shape self.now.dims self.now.facts moves.now }
-        ensures regrouped { IfOk result (IsRegrouped (policy_in P.weigh self.now) (width_of_all self.now.shape.measures) self.now.dims moves.now.edit self.now.facts) }
-        ensures rows { IfOk result (λ regrouped. regrouped.rows ≡ row_count (rows_after P.weigh self.now moves.now.edit)) }
-        ensures accepted { OnOk result (judge_in P.weigh self.now moves.now.edit ≡ None) }
-        ensures fault { IfErr result (IsFaultOf P.weigh self.now moves.now.edit) }
-        ensures steps { steps.new ≤ steps.old + probes_over self.now.dims moves.now.reweighing }
-    {
-        let codes = self.codes(moves, steps)?;
-        let regrouped = self.regroup(moves, codes.as_slice())?;
-        if regrouped.rows > MAX_ROWS {
-            return Err(PlanFault::Rows {
-                would: regrouped.rows,
-            });
-        }
-        Ok(regrouped)
+/// The groups that an edit changes, which leaves no more than 2^21 rows.
+fn regroup_few<P: WeightPolicy + Drop, L: Ledger>(
+    state: &State<P>,
+    moves: &Moves,
+    steps: &mut Steps<L>,
+) -> Result<Regrouped, PlanFault>
+    requires { AreMoves (policy_in P.weigh state.now) state.now.shape state.now.dims state.now.facts moves.now }
+    ensures regrouped { IfOk result (IsRegrouped (policy_in P.weigh state.now) (width_of_all state.now.shape.measures) state.now.dims moves.now.edit state.now.facts) }
+    ensures rows { IfOk result (λ regrouped. regrouped.rows ≡ row_count (rows_after P.weigh state.now moves.now.edit)) }
+    ensures accepted { OnOk result (judge_in P.weigh state.now moves.now.edit ≡ None) }
+    ensures fault { IfErr result (IsFaultOf P.weigh state.now moves.now.edit) }
+    ensures steps { steps.new ≤ steps.old + probes_over state.now.dims moves.now.reweighing }
+{
+    let codes = state.codes(moves, steps)?;
+    let regrouped = state.regroup(moves, codes.as_slice())?;
+    if regrouped.rows > MAX_ROWS {
+        return Err(PlanFault::Rows {
+            would: regrouped.rows,
+        });
     }
+    Ok(regrouped)
+}
 
-    /// The ids that an edit refreshes, and what it changes in a store.
-    fn kept_changes<L: Ledger>(
-        &self,
-        alloc: Global,
-        moves: &Moves,
-        regrouped: &Regrouped,
-        steps: &mut Steps<L>,
-    ) -> Result<(Ids, Batch), Memory>
-        requires moves { AreMoves (policy_in P.weigh self.now) self.now.shape self.now.dims self.now.facts moves.now }
-        requires regrouped { IsRegrouped (policy_in P.weigh self.now) (width_of_all self.now.shape.measures) self.now.dims moves.now.edit self.now.facts regrouped.now }
-        ensures ids { IfOk result (λ made. made.0 ≡ refreshed_in P.weigh self.now moves.now.edit) }
-        ensures batch { IfOk result (λ made. made.1 ≡ difference (policy_in P.weigh self.now) self.now.dims moves.now.edit self.now.facts) }
-        ensures steps { steps.new ≤ steps.old + covering_pairs (policy_in P.weigh self.now) self.now.dims moves.now.edit self.now.facts }
-    {
-        let pairs = self.refreshed(moves, regrouped, steps)?;
-        let ids = ids_of(alloc, &pairs)?;
-        let batch = self.batch(moves, regrouped, &pairs)?;
-        Ok((ids, batch))
-    }
-
-    /// Makes room for what an edit sets, views too, and all that is to be set. The content stays.
-    fn stage_all(&mut self, moves: &Moves, regrouped: Regrouped) -> Result<Sets, Memory>
-        requires moves { AreMoves (policy_in P.weigh self.old) self.old.shape self.old.dims self.old.facts moves.now }
-        requires regrouped { IsRegrouped (policy_in P.weigh self.old) (width_of_all self.old.shape.measures) self.old.dims moves.now.edit self.old.facts regrouped }
-        ensures same { HaveSameContent self.old self.new }
-        ensures sets { IfOk result (AreSetsFor P.weigh self.new moves.now.edit) }
-    {
-        let changes = self.view_changes(moves, &regrouped)?;
-        self.make_room(moves, regrouped, &changes)
-    }
+/// The ids that an edit refreshes, and what it changes in a store.
+fn kept_changes<P: WeightPolicy + Drop, L: Ledger>(
+    alloc: Global,
+    state: &State<P>,
+    moves: &Moves,
+    regrouped: &Regrouped,
+    steps: &mut Steps<L>,
+) -> Result<(Ids, Batch), Memory>
+    requires moves { AreMoves (policy_in P.weigh state.now) state.now.shape state.now.dims state.now.facts moves.now }
+    requires regrouped { IsRegrouped (policy_in P.weigh state.now) (width_of_all state.now.shape.measures) state.now.dims moves.now.edit state.now.facts regrouped.now }
+    ensures ids { IfOk result (λ made. made.0 ≡ refreshed_in P.weigh state.now moves.now.edit) }
+    ensures batch { IfOk result (λ made. made.1 ≡ difference (policy_in P.weigh state.now) state.now.dims moves.now.edit state.now.facts) }
+    ensures steps { steps.new ≤ steps.old + covering_pairs (policy_in P.weigh state.now) state.now.dims moves.now.edit state.now.facts }
+{
+    let pairs = refreshed(alloc, state, moves, regrouped, steps)?;
+    let ids = ids_of(alloc, &pairs)?;
+    let batch = batch(alloc, state, moves, regrouped, &pairs)?;
+    Ok((ids, batch))
 }
 
 /// The ids of pairs of an id and a code.

@@ -1,6 +1,6 @@
 //! A plan.
 ghost use Rattle.std.specs.Prelude.{◌≡◌};
-ghost use Rattle.edit_plan.specs.State.{withdrawn};
+ghost use Rattle.cube_state.specs.State.{withdrawn};
 
 use crate::plan_change::PlanChange;
 use cube_base::Ids;
@@ -10,7 +10,7 @@ use std::alloc::Global;
 use std::marker::Model;
 
 /// An edit that was judged and prepared, or all facts at once: which ids it refreshes, what it changes in a store, and what it will
-/// set in the state. It is installed by `State::install`.
+/// set in the state. It is installed by `install`.
 #[derive(Drop)]
 pub struct Plan {
     pub(crate) alloc: Global,

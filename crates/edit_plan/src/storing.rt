@@ -8,82 +8,85 @@ ghost use Rattle.cube_model.specs.Facts.{after};
 ghost use Rattle.fact_groups.specs.Edits.{given};
 ghost use Rattle.fact_records.specs.Shape.{width_of_all};
 ghost use Rattle.region_algebra.specs.Space.{IsRegion};
-ghost use Rattle.edit_plan.specs.Moves.{AreMoves};
+ghost use Rattle.cube_state.specs.Moves.{AreMoves};
 ghost use Rattle.edit_plan.specs.Plan.{difference, kept_fact, kept_rows};
-ghost use Rattle.edit_plan.specs.Refreshing.{AreRefreshed, IsRegrouped};
-ghost use Rattle.edit_plan.specs.State.{policy_in, withdrawn};
+ghost use Rattle.edit_plan.specs.Refreshing.{AreRefreshed};
+ghost use Rattle.cube_state.specs.Regrouped.{IsRegrouped};
+ghost use Rattle.cube_state.specs.State.{policy_in, withdrawn};
 
-use crate::State;
-use crate::moves::Moves;
-use crate::regrouped::Regrouped;
+use crate::spread::spread_now;
 use cell_weight::WeightPolicy;
 use cube_base::{Cols, Ids, Memory};
 use cube_model::{Edit, Fact, Region};
+use cube_state::{Moves, Regrouped, State};
 use fact_keeper::{Batch, ColNums, KeptFact, KeptFacts, KeptRows, KeptRowsList, NodeNums};
 use region_algebra::Space;
 use std::alloc::Global;
 
-impl<P: WeightPolicy + Drop> State<P> {
-    /// What an edit changes in a store, of which these are the refreshed ids with the codes of their facts. No row is copied.
-    pub(crate) fn batch(
-        &self,
-        moves: &Moves,
-        regrouped: &Regrouped,
-        pairs: &[(u64, u64)],
-    ) -> Result<Batch, Memory>
-        requires moves { AreMoves (policy_in P.weigh self.now) self.now.shape self.now.dims self.now.facts moves.now }
-        requires regrouped { IsRegrouped (policy_in P.weigh self.now) (width_of_all self.now.shape.measures) self.now.dims moves.now.edit self.now.facts regrouped.now }
-        requires refreshed { AreRefreshed (policy_in P.weigh self.now) self.now.dims moves.now.edit self.now.facts pairs.now }
-        ensures { IfOk result (λ batch. batch ≡ difference (policy_in P.weigh self.now) self.now.dims moves.now.edit self.now.facts) }
-    {
-        Ok(Batch {
-            schema: None,
-            gone: gone(self.alloc, &moves.edit)?,
-            facts: self.kept_facts(moves)?,
-            rows: self.kept_rows(moves, regrouped, pairs)?,
-        })
-    }
+/// What an edit changes in a store, of which these are the refreshed ids with the codes of their facts. No row is copied.
+pub fn batch<P: WeightPolicy + Drop>(
+    alloc: Global,
+    state: &State<P>,
+    moves: &Moves,
+    regrouped: &Regrouped,
+    pairs: &[(u64, u64)],
+) -> Result<Batch, Memory>
+    requires moves { AreMoves (policy_in P.weigh state.now) state.now.shape state.now.dims state.now.facts moves.now }
+    requires regrouped { IsRegrouped (policy_in P.weigh state.now) (width_of_all state.now.shape.measures) state.now.dims moves.now.edit state.now.facts regrouped.now }
+    requires refreshed { AreRefreshed (policy_in P.weigh state.now) state.now.dims moves.now.edit state.now.facts pairs.now }
+    ensures { IfOk result (λ batch. batch ≡ difference (policy_in P.weigh state.now) state.now.dims moves.now.edit state.now.facts) }
+{
+    Ok(Batch {
+        schema: None,
+        gone: gone(alloc, &moves.edit)?,
+        facts: kept_facts(alloc, state, moves)?,
+        rows: kept_rows(alloc, state, moves, regrouped, pairs)?,
+    })
+}
 
-    /// The fact that an edit gives, as it is kept, if it gives one.
-    fn kept_facts(&self, moves: &Moves) -> Result<KeptFacts, Memory>
-        requires { AreMoves (policy_in P.weigh self.now) self.now.shape self.now.dims self.now.facts moves.now }
-        ensures { IfOk result (λ facts. facts ≡ map kept_fact (option_to_list (given moves.now.edit))) }
-    {
-        let mut facts = KeptFacts::new(self.alloc);
-        if let Some(fact) = moves.given {
-            facts.push(kept_fact(self.alloc, &self.space, fact)?)?;
-        }
-        Ok(facts)
+/// The fact that an edit gives, as it is kept, if it gives one.
+fn kept_facts<P: WeightPolicy + Drop>(
+    alloc: Global,
+    state: &State<P>,
+    moves: &Moves,
+) -> Result<KeptFacts, Memory>
+    requires { AreMoves (policy_in P.weigh state.now) state.now.shape state.now.dims state.now.facts moves.now }
+    ensures { IfOk result (λ facts. facts ≡ map kept_fact (option_to_list (given moves.now.edit))) }
+{
+    let mut facts = KeptFacts::new(alloc);
+    if let Some(fact) = moves.given {
+        facts.push(kept_fact(alloc, state.space(), fact)?)?;
     }
+    Ok(facts)
+}
 
-    /// The rows of the refreshed facts, as they are kept.
-    fn kept_rows(
-        &self,
-        moves: &Moves,
-        regrouped: &Regrouped,
-        pairs: &[(u64, u64)],
-    ) -> Result<KeptRowsList, Memory>
-        requires moves { AreMoves (policy_in P.weigh self.now) self.now.shape self.now.dims self.now.facts moves.now }
-        requires regrouped { IsRegrouped (policy_in P.weigh self.now) (width_of_all self.now.shape.measures) self.now.dims moves.now.edit self.now.facts regrouped.now }
-        requires refreshed { AreRefreshed (policy_in P.weigh self.now) self.now.dims moves.now.edit self.now.facts pairs.now }
-        ensures { IfOk result (λ rows. rows ≡ map kept_rows (filter (λ e. is_among (refreshed (policy_in P.weigh self.now) self.now.dims self.now.facts (after moves.now.edit self.now.facts)) e.id) (extended (policy_in P.weigh self.now) self.now.dims (after moves.now.edit self.now.facts)))) }
-    {
-        // What a space says of its dimensions, and a state of its facts.
-        let _ = self.space.dims();
-        let _ = self.facts();
-        let mut rows = KeptRowsList::new(self.alloc);
-        for (id, code) in pairs {
-            let Some(spread) = self.spread_now(regrouped, *code) else {
-                unreachable!()
-            };
-            rows.push(KeptRows {
-                id: *id,
-                den: spread.den(),
-                rows: spread.shared_rows()?,
-            })?;
-        }
-        Ok(rows)
+/// The rows of the refreshed facts, as they are kept.
+fn kept_rows<P: WeightPolicy + Drop>(
+    alloc: Global,
+    state: &State<P>,
+    moves: &Moves,
+    regrouped: &Regrouped,
+    pairs: &[(u64, u64)],
+) -> Result<KeptRowsList, Memory>
+    requires moves { AreMoves (policy_in P.weigh state.now) state.now.shape state.now.dims state.now.facts moves.now }
+    requires regrouped { IsRegrouped (policy_in P.weigh state.now) (width_of_all state.now.shape.measures) state.now.dims moves.now.edit state.now.facts regrouped.now }
+    requires refreshed { AreRefreshed (policy_in P.weigh state.now) state.now.dims moves.now.edit state.now.facts pairs.now }
+    ensures { IfOk result (λ rows. rows ≡ map kept_rows (filter (λ e. is_among (refreshed (policy_in P.weigh state.now) state.now.dims state.now.facts (after moves.now.edit state.now.facts)) e.id) (extended (policy_in P.weigh state.now) state.now.dims (after moves.now.edit state.now.facts)))) }
+{
+    // What a state says of its facts, and of its dimensions.
+    let _ = state.facts();
+    let mut rows = KeptRowsList::new(alloc);
+    for (id, code) in pairs {
+        let Some(spread) = spread_now(state, regrouped, *code) else {
+            unreachable!()
+        };
+        rows.push(KeptRows {
+            id: *id,
+            den: spread.den(),
+            rows: spread.shared_rows()?,
+        })?;
     }
+    Ok(rows)
 }
 
 /// The id that an edit withdraws, if it withdraws one.
@@ -99,7 +102,7 @@ fn gone(alloc: Global, edit: &Edit) -> Result<Ids, Memory>
 }
 
 /// A fact as it is kept.
-pub(crate) fn kept_fact(alloc: Global, space: &Space, fact: Fact) -> Result<KeptFact, Memory>
+pub fn kept_fact(alloc: Global, space: &Space, fact: Fact) -> Result<KeptFact, Memory>
     requires { IsRegion space.now fact.region }
     ensures { IfOk result (λ kept. kept ≡ kept_fact fact) }
 {

@@ -1,30 +1,30 @@
 //! New facts, planned all at once.
-ghost use Rattle.std.specs.Prelude.{◌≡◌, ◌++◌, ◌∷◌, ◌≤◌, [], true, None, Some, IfErr, IfOk, Ok, OnOk, length, option_map};
+ghost use Rattle.std.specs.Prelude.{◌≡◌, ◌++◌, ◌∷◌, ◌≤◌, [], true, None, Some, IfErr, IfOk, Ok, OnOk, option_map};
 ghost use Rattle.std.specs.Option.{option_copied};
 ghost use Rattle.cube_model.specs.Allocation.{allocation, row_count};
 ghost use Rattle.cube_model.specs.Ascending.{ascends_from};
 ghost use Rattle.cube_model.specs.Limits.{MAX_ROWS};
-ghost use Rattle.fact_records.specs.New.{AreNew, put_all};
-ghost use Rattle.facts_kept.specs.Anew.{IsTooMany};
+ghost use Rattle.fact_records.specs.New.{AreNew};
 ghost use Rattle.region_algebra.specs.Space.{IsRegion, code_of};
 ghost use Rattle.staged_map.specs.Staged.{value_at};
-ghost use Rattle.edit_plan.specs.Plan.{AreAllFor, IsPlanFor, facts_after};
-ghost use Rattle.edit_plan.specs.State.{policy_in};
+ghost use Rattle.cube_state.specs.Sets.{AreAllFor};
+ghost use Rattle.edit_plan.specs.Plan.{IsPlanFor, facts_after};
+ghost use Rattle.cube_state.specs.State.{policy_in};
 ghost use Rattle.edit_plan.specs.declared.plan_change.PlanChange.TheVariants as plan_change;
 ghost use Rattle.edit_plan.specs.Whole.{IsAllFaultOf, difference_with, facts_with, ids_otherwise, lay_so, new_kept, refreshed_by, rows_otherwise, rows_with};
 
 use crate::plan_change::PlanChange;
-use crate::refreshing::is_same_spread;
+use crate::spread::is_same_spread;
 use crate::storing::kept_fact;
-use crate::{Plan, PlanAllFault, State};
+use crate::{Plan, PlanAllFault};
 use alloc_rows::Alloc;
 use cell_weight::WeightPolicy;
 use cube_base::{Ids, Memory};
 use cube_model::Fact;
+use cube_state::State;
 use fact_keeper::{Batch, KeptFacts, KeptRows, KeptRowsList};
-use fact_records::{FactList, FactRun};
-use fact_sequence::copy_with_room;
-use facts_kept::{FactsKept, TooMany, keep_all};
+use fact_records::FactRun;
+use facts_kept::FactsKept;
 use std::alloc::Global;
 
 /// Prepares that all of the facts are put, so that this can be installed without memory. In their order, each must be one that a put
@@ -48,7 +48,7 @@ pub fn plan_all<P: WeightPolicy + Drop>(
     // What a state says of its facts.
     let _ = state.facts();
     let all = state.kept_with(facts.as_slice())?;
-    let made = state.kept_of_all(alloc, &all);
+    let made = kept_of_all(alloc, state, &all);
     Ok(plan_of_all(alloc, all, made)?)
 }
 
@@ -99,124 +99,118 @@ impl Refreshed {
     }
 }
 
-impl<P: WeightPolicy + Drop> State<P> {
-    /// The facts with new ones, and all that is kept of them.
-    fn kept_with(&self, new: &[Fact]) -> Result<FactsKept, TooMany>
-        requires { AreNew self.now.shape self.now.dims self.now.facts new.now }
-        ensures facts { IfOk result (λ all. all.facts.facts ≡ facts_with self.now new.now) }
-        ensures kept { IfOk result (AreAllFor P.weigh self.now) }
-        ensures fault { IfErr result (IsTooMany (policy_in P.weigh self.now) self.now.dims (facts_with self.now new.now)) }
-    {
-        // What a space says of its dimensions, a shape of its measures, and views of their columns.
-        let _ = self.space.dims();
-        let _ = self.shape.columns();
-        let _ = self.views.columns();
-        let facts = with_new(self.alloc, &self.facts, new)?;
-        let views = self.views.emptied()?;
-        keep_all(
-            self.alloc,
-            &self.space,
-            &self.shape,
-            &self.policy,
-            views,
-            facts,
-        )
-    }
+/// Of all facts the ids of those that are new or lie otherwise than before, and what they change in a store.
+fn kept_of_all<P: WeightPolicy + Drop>(
+    alloc: Global,
+    state: &State<P>,
+    all: &FactsKept,
+) -> Result<(Ids, Batch), Memory>
+    requires { AreAllFor P.weigh state.now all.now }
+    ensures ids { IfOk result (λ made. made.0 ≡ ids_otherwise (policy_in P.weigh state.now) state.now.dims state.now.facts all.now.facts.facts all.now.facts.facts) }
+    ensures batch { IfOk result (λ made. made.1 ≡ record {
+      schema = None;
+      gone = [];
+      facts = new_kept state.now.facts all.now.facts.facts;
+      rows = rows_otherwise (policy_in P.weigh state.now) state.now.dims state.now.facts all.now.facts.facts all.now.facts.facts;
+    }) }
+{
+    let Refreshed { ids, rows } = refreshed_among(alloc, state, all)?;
+    let facts = new_among(alloc, state, all)?;
+    let batch = Batch {
+        schema: None,
+        gone: Ids::new(alloc),
+        facts,
+        rows,
+    };
+    Ok((ids, batch))
+}
 
-    /// Of all facts the ids of those that are new or lie otherwise than before, and what they change in a store.
-    fn kept_of_all(&self, alloc: Global, all: &FactsKept) -> Result<(Ids, Batch), Memory>
-        requires { AreAllFor P.weigh self.now all.now }
-        ensures ids { IfOk result (λ made. made.0 ≡ ids_otherwise (policy_in P.weigh self.now) self.now.dims self.now.facts all.now.facts.facts all.now.facts.facts) }
-        ensures batch { IfOk result (λ made. made.1 ≡ record {
-          schema = None;
-          gone = [];
-          facts = new_kept self.now.facts all.now.facts.facts;
-          rows = rows_otherwise (policy_in P.weigh self.now) self.now.dims self.now.facts all.now.facts.facts all.now.facts.facts;
-        }) }
-    {
-        let Refreshed { ids, rows } = self.refreshed_among(alloc, all)?;
-        let facts = self.new_among(alloc, all)?;
-        let batch = Batch {
-            schema: None,
-            gone: Ids::new(alloc),
-            facts,
-            rows,
-        };
-        Ok((ids, batch))
+/// Of all facts those that are new or lie otherwise than before, in order.
+fn refreshed_among<P: WeightPolicy + Drop>(
+    alloc: Global,
+    state: &State<P>,
+    all: &FactsKept,
+) -> Result<Refreshed, Memory>
+    requires { AreAllFor P.weigh state.now all.now }
+    ensures ids { IfOk result (λ r. r.ids ≡ ids_otherwise (policy_in P.weigh state.now) state.now.dims state.now.facts all.now.facts.facts all.now.facts.facts) }
+    ensures rows { IfOk result (λ r. r.rows ≡ rows_otherwise (policy_in P.weigh state.now) state.now.dims state.now.facts all.now.facts.facts all.now.facts.facts) }
+{
+    // What a state says of its dimensions.
+    let _ = state.facts();
+    let mut refreshed = Refreshed {
+        ids: Ids::new(alloc),
+        rows: KeptRowsList::new(alloc),
+    };
+    for fact in all.facts.iter() {
+        refresh(state, all, fact, &mut refreshed)?;
     }
+    Ok(refreshed)
+}
 
-    /// Of all facts those that are new or lie otherwise than before, in order.
-    fn refreshed_among(&self, alloc: Global, all: &FactsKept) -> Result<Refreshed, Memory>
-        requires { AreAllFor P.weigh self.now all.now }
-        ensures ids { IfOk result (λ r. r.ids ≡ ids_otherwise (policy_in P.weigh self.now) self.now.dims self.now.facts all.now.facts.facts all.now.facts.facts) }
-        ensures rows { IfOk result (λ r. r.rows ≡ rows_otherwise (policy_in P.weigh self.now) self.now.dims self.now.facts all.now.facts.facts all.now.facts.facts) }
-    {
-        // What a space says of its dimensions.
-        let _ = self.space.dims();
-        let mut refreshed = Refreshed {
-            ids: Ids::new(alloc),
-            rows: KeptRowsList::new(alloc),
-        };
-        for fact in all.facts.iter() {
-            self.refresh(all, fact, &mut refreshed)?;
-        }
-        Ok(refreshed)
+/// Holds one of all facts, where it is new or lies otherwise than before.
+fn refresh<P: WeightPolicy + Drop>(
+    state: &State<P>,
+    all: &FactsKept,
+    fact: &Fact,
+    refreshed: &mut Refreshed,
+) -> Result<(), Memory>
+    requires region { IsRegion state.now.dims fact.now.region }
+    requires spread { option_map (λ g. g.spread) (value_at all.now.groups (code_of state.now.dims fact.now.region)) ≡ Some (allocation (policy_in P.weigh state.now) state.now.dims all.now.facts.facts fact.now) }
+    ensures ids { OnOk result (refreshed.new.ids ≡ refreshed.old.ids ++ ids_otherwise (policy_in P.weigh state.now) state.now.dims state.now.facts all.now.facts.facts (fact.now ∷ [])) }
+    ensures rows { OnOk result (refreshed.new.rows ≡ refreshed.old.rows ++ rows_otherwise (policy_in P.weigh state.now) state.now.dims state.now.facts all.now.facts.facts (fact.now ∷ [])) }
+{
+    let Some(spread) = spread_in(all, state.code(fact.region)) else {
+        unreachable!()
+    };
+    if lay_so(state, fact.id, spread) {
+        return Ok(());
     }
+    refreshed.hold(fact.id, spread)
+}
 
-    /// Holds one of all facts, where it is new or lies otherwise than before.
-    fn refresh(&self, all: &FactsKept, fact: &Fact, refreshed: &mut Refreshed) -> Result<(), Memory>
-        requires region { IsRegion self.now.dims fact.now.region }
-        requires spread { option_map (λ g. g.spread) (value_at all.now.groups (code_of self.now.dims fact.now.region)) ≡ Some (allocation (policy_in P.weigh self.now) self.now.dims all.now.facts.facts fact.now) }
-        ensures ids { OnOk result (refreshed.new.ids ≡ refreshed.old.ids ++ ids_otherwise (policy_in P.weigh self.now) self.now.dims self.now.facts all.now.facts.facts (fact.now ∷ [])) }
-        ensures rows { OnOk result (refreshed.new.rows ≡ refreshed.old.rows ++ rows_otherwise (policy_in P.weigh self.now) self.now.dims self.now.facts all.now.facts.facts (fact.now ∷ [])) }
-    {
-        let Some(spread) = spread_in(all, self.space.code(fact.region)) else {
-            unreachable!()
-        };
-        if self.lay_so(fact.id, spread) {
-            return Ok(());
-        }
-        refreshed.hold(fact.id, spread)
+/// Whether the fact of an id is there, and is spread so.
+fn lay_so<P: WeightPolicy + Drop>(state: &State<P>, id: u64, spread: &Alloc) -> bool
+    ensures { result ≡ lay_so (policy_in P.weigh state.now) state.now.dims state.now.facts id spread.now }
+{
+    // What a state says of its facts, and of its dimensions.
+    let _ = state.facts();
+    match state.fact(id) {
+        Some(fact) => { is_same_spread(state.spread_at(state.code(fact.region)), Some(spread)) }
+        None => false,
     }
+}
 
-    /// Whether the fact of an id is there, and is spread so.
-    fn lay_so(&self, id: u64, spread: &Alloc) -> bool
-        ensures { result ≡ lay_so (policy_in P.weigh self.now) self.now.dims self.now.facts id spread.now }
-    {
-        // What a space says of its dimensions, and a state of its facts.
-        let _ = self.space.dims();
-        let _ = self.facts();
-        match self.facts.get(id) {
-            Some(fact) => {
-                is_same_spread(self.spread_at(self.space.code(fact.region)), Some(spread))
-            }
-            None => false,
-        }
+/// Of all facts those whose ids are not there, in order, as they are kept.
+fn new_among<P: WeightPolicy + Drop>(
+    alloc: Global,
+    state: &State<P>,
+    all: &FactsKept,
+) -> Result<KeptFacts, Memory>
+    requires { AreAllFor P.weigh state.now all.now }
+    ensures { IfOk result (λ facts. facts ≡ new_kept state.now.facts all.now.facts.facts) }
+{
+    let mut kept = KeptFacts::new(alloc);
+    for fact in all.facts.iter() {
+        keep_new(alloc, state, fact, &mut kept)?;
     }
+    Ok(kept)
+}
 
-    /// Of all facts those whose ids are not there, in order, as they are kept.
-    fn new_among(&self, alloc: Global, all: &FactsKept) -> Result<KeptFacts, Memory>
-        requires { AreAllFor P.weigh self.now all.now }
-        ensures { IfOk result (λ facts. facts ≡ new_kept self.now.facts all.now.facts.facts) }
-    {
-        let mut kept = KeptFacts::new(alloc);
-        for fact in all.facts.iter() {
-            self.keep_new(alloc, fact, &mut kept)?;
-        }
-        Ok(kept)
+/// Adds a fact as it is kept, where its id is not there.
+fn keep_new<P: WeightPolicy + Drop>(
+    alloc: Global,
+    state: &State<P>,
+    fact: &Fact,
+    kept: &mut KeptFacts,
+) -> Result<(), Memory>
+    requires { IsRegion state.now.dims fact.now.region }
+    ensures { OnOk result (kept.new ≡ kept.old ++ new_kept state.now.facts (fact.now ∷ [])) }
+{
+    if state.fact(fact.id).is_some() {
+        return Ok(());
     }
-
-    /// Adds a fact as it is kept, where its id is not there.
-    fn keep_new(&self, alloc: Global, fact: &Fact, kept: &mut KeptFacts) -> Result<(), Memory>
-        requires { IsRegion self.now.dims fact.now.region }
-        ensures { OnOk result (kept.new ≡ kept.old ++ new_kept self.now.facts (fact.now ∷ [])) }
-    {
-        if self.facts.get(fact.id).is_some() {
-            return Ok(());
-        }
-        kept.push(kept_fact(alloc, &self.space, *fact)?)?;
-        Ok(())
-    }
+    kept.push(kept_fact(alloc, state.space(), *fact)?)?;
+    Ok(())
 }
 
 /// How the facts of a code are spread, None where there is none.
@@ -225,23 +219,4 @@ fn spread_in(all: &FactsKept, code: u64) -> Option<&Alloc>
 {
     let group = all.groups.get(code)?;
     Some(&group.spread)
-}
-
-/// The facts with new ones put, in order.
-fn with_new(alloc: Global, facts: &FactList, new: &[Fact]) -> Result<FactList, Memory>
-    ensures { IfOk result (λ all. all.facts ≡ put_all new.now facts.now.facts) }
-{
-    let mut all = copy_with_room(alloc, facts, new.len() as u64)?;
-    put_new(&mut all, new);
-    Ok(all)
-}
-
-/// Puts facts in the order in which they were given.
-fn put_new(all: &mut FactList, new: &[Fact])
-    requires { length new.now ≤ all.old.spare }
-    ensures { all.new.facts ≡ put_all new.now all.old.facts }
-{
-    for fact in new {
-        let _ = all.put(*fact);
-    }
 }

@@ -20,8 +20,8 @@ use Rattle.fact_records.specs.Judge.{judge}
 use Rattle.fact_records.specs.Shape.{ShapeValue}
 use Rattle.fact_records.specs.Valid.{AreValid, IsEditOf, IsEditOver}
 use Rattle.edit_plan.specs.Plan.{difference, kept_fact}
-use Rattle.edit_plan.specs.State.{withdrawn}
-use Rattle.edit_plan.proofs.Accepting.{AreValid-after, allowed, judged}
+use Rattle.cube_state.specs.State.{withdrawn}
+use Rattle.cube_state.proofs.Accepting.{AreValid-after, allowed, judged}
 use Rattle.stored_state.specs.Sound.{IsSound, facts_told}
 use Rattle.store_law.specs.Holds.{HoldsState}
 use Rattle.store_law.proofs.Refreshed.{rows-refreshed}

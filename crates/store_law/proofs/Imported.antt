@@ -25,7 +25,7 @@ use Rattle.fact_sequence.specs.Refused.{refused_among, refused_or}
 use Rattle.schema_text.specs.Schema.{IsSchema, SchemaValue, shape_of}
 use Rattle.edit_plan.specs.Plan.{kept_fact}
 use Rattle.edit_plan.specs.Whole.{difference_with}
-use Rattle.edit_plan.proofs.Accepting.{AreValid-new}
+use Rattle.cube_state.proofs.Accepting.{AreValid-new}
 use Rattle.stored_state.specs.Sound.{IsSound, facts_told}
 use Rattle.csv_facts.specs.RecordList.{records_of}
 use Rattle.cube_cli.specs.Files.{IsAccepted, facts_with, import_batch, seq_of}

@@ -21,7 +21,7 @@ use Rattle.fact_records.specs.Shape.{ShapeValue}
 use Rattle.fact_records.specs.Valid.{IsEditOf}
 use Rattle.region_algebra.specs.Space.{IsRegion}
 use Rattle.edit_plan.specs.Plan.{difference}
-use Rattle.edit_plan.proofs.Accepting.{allowed, judged}
+use Rattle.cube_state.proofs.Accepting.{allowed, judged}
 use Rattle.stored_state.specs.Sound.{facts_told}
 use Rattle.stored_state.specs.declared.finding.Finding.{Finding}
 use Rattle.stored_state.proofs.Once.{sound-none}

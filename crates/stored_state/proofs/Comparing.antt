@@ -13,8 +13,8 @@ use Rattle.cube_model.specs.Tree.{Dimension}
 use Rattle.fact_groups.proofs.Refreshing.{same_allocation, same_allocations}
 use Rattle.fact_keeper.specs.declared.content.KeptRows.{KeptRows}
 use Rattle.edit_plan.specs.Plan.{kept_rows}
-use Rattle.edit_plan.proofs.Listing.{All-found}
-use Rattle.edit_plan.proofs.Looking.{allocation_of-found}
+use Rattle.cube_state.proofs.Listing.{All-found}
+use Rattle.cube_state.proofs.Looking.{allocation_of-found}
 use Rattle.edit_plan.proofs.RowsKept.{find-itself}
 use Rattle.stored_state.specs.Loading.{DiffersAt, IsRowsFault, rows_told, spread_told}
 use Rattle.stored_state.specs.declared.finding.Finding.TheVariants as finding

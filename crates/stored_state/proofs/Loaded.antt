@@ -10,7 +10,7 @@ use Rattle.fact_keeper.specs.declared.content.KeptRows.{KeptRows}
 use Rattle.fact_keeper.specs.declared.content.Stored.{Stored}
 use Rattle.fact_records.specs.Shape.{ShapeValue, policy_over}
 use Rattle.edit_plan.specs.Plan.{kept_rows}
-use Rattle.edit_plan.specs.State.{StateValue, rows_in}
+use Rattle.cube_state.specs.State.{StateValue, rows_in}
 use Rattle.stored_state.specs.Loading.{IsRowsFault}
 use Rattle.stored_state.specs.Sound.{AreGood, IsLoadFault, fact_told, facts_told, rows_anew, rows_counted}
 use Rattle.stored_state.specs.declared.finding.Finding.TheVariants as finding

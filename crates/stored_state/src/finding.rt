@@ -4,7 +4,7 @@ ghost use Rattle.stored_state.specs.Loading.{too_many_told};
 ghost use Rattle.stored_state.specs.declared.finding.LoadFault.TheVariants as load_fault;
 
 use cube_base::{Code, Memory};
-use edit_plan::TooMany;
+use cube_state::TooMany;
 use fact_keeper::KeptRows;
 
 /// The first thing in a stored content that is not as it must be. They are looked for in the order of the variants.

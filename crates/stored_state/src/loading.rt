@@ -7,7 +7,7 @@ use crate::LoadFault;
 use crate::facts::read_facts;
 use crate::rows::check_rows;
 use cell_weight::WeightPolicy;
-use edit_plan::State;
+use cube_state::State;
 use fact_keeper::Stored;
 use fact_records::Shape;
 use region_algebra::{Space, ViewDef};

@@ -4,7 +4,7 @@ ghost use Rattle.std.specs.Option.{option_copied};
 ghost use Rattle.cube_model.specs.Allocation.{allocation_of};
 ghost use Rattle.cube_model.specs.Difference.{is_same};
 ghost use Rattle.edit_plan.specs.Plan.{kept_rows};
-ghost use Rattle.edit_plan.specs.State.{rows_in};
+ghost use Rattle.cube_state.specs.State.{rows_in};
 ghost use Rattle.stored_state.specs.Loading.{DiffersAt, IsRowsFault, rows_told, spread_told};
 
 use crate::{Finding, LoadFault};
@@ -12,7 +12,7 @@ use alloc_rows::Alloc;
 use cell_weight::WeightPolicy;
 use cube_base::Memory;
 use cube_model::Fact;
-use edit_plan::State;
+use cube_state::State;
 use fact_keeper::KeptRows;
 use region_index::Steps;
 use std::marker::Brand;

@@ -1,7 +1,7 @@
 -- The fact has an allocation in both states, and they are compared.
 use Rattle.std.proofs.Common.{sym, ◌∙◌}
 use Rattle.std.proofs.lemmas.Result.{on_ok_weaker}
-use Rattle.edit_plan.specs.State.{policy_in}
+use Rattle.cube_state.specs.State.{policy_in}
 use Rattle.cube_core.proofs.Moving.{before-is, before-there, ids-more, ids-stay, later-is, later-there, rows-more, rows-stay}
 use Rattle.cube_core.proofs.respread.hold_moved.Goals as goal
 

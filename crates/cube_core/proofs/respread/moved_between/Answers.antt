@@ -2,7 +2,7 @@
 use Rattle.std.proofs.Common.{◌≡◌, ◌≤◌, true, subst, sym, ◌∙◌}
 use Rattle.std.proofs.lemmas.List.Elements.{All-weaker}
 use Rattle.cube_model.specs.Ascending.{ascends_from}
-use Rattle.edit_plan.specs.State.{policy_in}
+use Rattle.cube_state.specs.State.{policy_in}
 use Rattle.fact_records.specs.Valid.{IsValid}
 use Rattle.cube_core.proofs.Moving.{ascend-moved, held-ids, held-next, held-none, held-rows, held-there, rows-moved}
 use Rattle.cube_core.proofs.respread.moved_between.Goals as goal

@@ -1,5 +1,5 @@
 -- Some facts were looked at, and the others are left.
-use Rattle.edit_plan.specs.State.{policy_in}
+use Rattle.cube_state.specs.State.{policy_in}
 use Rattle.cube_core.proofs.Moving.{AreHeld}
 use Rattle.cube_core.proofs.respread.moved_between.Given as goal
 

@@ -4,7 +4,7 @@ use Rattle.std.specs.Prelude.{None, Some}
 use Rattle.cube_model.specs.Ascending.{ascends_from}
 use Rattle.edit_plan.specs.Bound.{step_bound}
 use Rattle.edit_plan.specs.Plan.{difference}
-use Rattle.edit_plan.specs.State.{judge_in, policy_in, refreshed_in}
+use Rattle.cube_state.specs.State.{judge_in, policy_in, refreshed_in}
 use Rattle.edit_plan.proofs.RefreshedIds.{refreshed-ascend}
 use Rattle.edit_plan.proofs.StepBound.{codes-within, plan-within}
 use Rattle.edit_plan.proofs.planning.plan.Goals as goal

@@ -2,7 +2,7 @@
 use Rattle.std.proofs.Common.{map}
 use Rattle.std.proofs.lemmas.Result.{err_from_is_err_and}
 use Rattle.edit_plan.specs.Plan.{kept_rows}
-use Rattle.edit_plan.specs.State.{rows_in}
+use Rattle.cube_state.specs.State.{rows_in}
 use Rattle.fact_records.specs.Shape.{policy_over}
 use Rattle.stored_state.proofs.Loaded.{rows-fault, rows-of_state}
 use Rattle.stored_state.proofs.loading.load_state.Goals as goal

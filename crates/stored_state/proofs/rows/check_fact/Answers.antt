@@ -4,7 +4,7 @@ use Rattle.std.specs.Prelude.{Some, slice_get}
 use Rattle.std.specs.Option.{option_copied}
 use Rattle.std.proofs.lemmas.Result.{IfErr-weaker, on_ok_weaker}
 use Rattle.edit_plan.specs.Plan.{kept_rows}
-use Rattle.edit_plan.specs.State.{policy_in, rows_in}
+use Rattle.cube_state.specs.State.{policy_in, rows_in}
 use Rattle.stored_state.specs.Loading.{DiffersAt, rows_told}
 use Rattle.stored_state.proofs.Comparing.{never-lost, rows-found}
 use Rattle.stored_state.proofs.rows.check_fact.Goals as goal

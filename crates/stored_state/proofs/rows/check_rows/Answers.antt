@@ -4,7 +4,7 @@ use Rattle.std.specs.Prelude.{None}
 use Rattle.std.specs.Option.{option_copied}
 use Rattle.std.proofs.lemmas.Result.{IfErr-weaker, err_from_is_err_and, on_ok_weaker}
 use Rattle.edit_plan.specs.Plan.{kept_rows}
-use Rattle.edit_plan.specs.State.{policy_in, rows_in}
+use Rattle.cube_state.specs.State.{policy_in, rows_in}
 use Rattle.stored_state.specs.Loading.{DiffersAt, IsRowsFault}
 use Rattle.stored_state.proofs.Comparing.{alike-next, all-alike, anew-ended, differ-first, fact-here, got, rows-count}
 use Rattle.stored_state.proofs.rows.check_rows.Goals as goal

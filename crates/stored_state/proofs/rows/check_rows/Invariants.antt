@@ -1,7 +1,7 @@
 -- The rows before this place are alike.
 use Rattle.std.proofs.Common.{map}
 use Rattle.edit_plan.specs.Plan.{kept_rows}
-use Rattle.edit_plan.specs.State.{rows_in}
+use Rattle.cube_state.specs.State.{rows_in}
 use Rattle.stored_state.proofs.Comparing.{AreAlike}
 use Rattle.stored_state.proofs.rows.check_rows.Given as goal
 

@@ -1,0 +1,165 @@
+-- The codes of the regions whose imprecise facts cover changed cells.
+use Rattle.std.proofs.Common.{◌≡◌, ℕ, ◌+◌, ◌<◌, ◌≤◌, Bool, true, false, List, [], ◌∷◌, ◌++◌, length, take, get_or, refl, ap, sym, ◌∙◌, subst, arith}
+use Rattle.std.specs.Prelude.{All, AllPairs, ◌&&◌, ◌||◌, ◌==◌, not, IfSome, Option, Some, None}
+use Rattle.std.specs.List.{list_any}
+use Rattle.std.specs.Option.{option_map_or}
+use Rattle.std.proofs.lemmas.List.{take_all, take_more}
+use Rattle.std.proofs.lemmas.List.Elements.{All-weaker}
+use Rattle.std.proofs.lemmas.List.Folds.{list_any-append}
+use Rattle.std.proofs.lemmas.List.Sums.{sum_by_more, sum_by_more_le}
+use Rattle.cube_model.specs.declared.edit.Edit.{Edit}
+use Rattle.cube_model.specs.declared.edit.Edit.TheVariants.{Put, Change, Withdraw}
+use Rattle.cube_model.specs.declared.edit.Fact.{Fact}
+use Rattle.cube_model.specs.Allocation.{Policy, stat_of}
+use Rattle.cube_model.specs.Cells.{all_cells, cells_of, is_among}
+use Rattle.cube_model.specs.Facts.{is_precise}
+use Rattle.cube_model.specs.Tree.{Dimension}
+use Rattle.region_algebra.specs.Space.{IsRegion}
+use Rattle.alloc_rows.specs.Changed.{Change as CellChange}
+use Rattle.fact_groups.specs.Changes.{covers_any, reweighed_cells}
+use Rattle.fact_groups.specs.Edits.{edited_id, given, taken}
+use Rattle.fact_groups.specs.Groups.{has_code}
+use Rattle.fact_groups.proofs.Groups.{first-holds}
+use Rattle.fact_records.specs.Shape.{ShapeValue}
+use Rattle.fact_records.specs.Valid.{AreValid, IsEditOver}
+use Rattle.region_index.specs.Content.{AreAscending}
+use Rattle.region_index.specs.Indexed.{covers}
+use Rattle.region_index.specs.Over.{codes_over}
+use Rattle.cube_state.specs.declared.moves.Moves.{Moves}
+use Rattle.cube_state.specs.Covering.{covers_one, is_over_one, probes_over}
+use Rattle.cube_state.specs.Moves.{AreMoves}
+use Rattle.cube_state.specs.Regrouped.{HoldChanged}
+use Rattle.touched_cells.specs.Touched.{reweighing, touched}
+use Rattle.fact_records.proofs.SmallValues.{none_of}
+use Rattle.fact_groups.proofs.Elsewhere.{group_at-uncovered}
+use Rattle.cube_state.proofs.Below.{reweighing-below}
+use Rattle.facts_kept.proofs.ValidFacts.{valid-regions}
+use Rattle.cube_state.proofs.Spreading.{holds-reweighing}
+
+-- one of two tests
+any-both : {X : Type 0} (p q r : X → Bool) (xs : List X) → ((x : X) → r x ≡ (p x || q x)) → list_any r xs ≡ (list_any p xs || list_any q xs)
+any-both p q r [] each = refl
+any-both p q r (x ∷ xs) each = rw (each x, any-both p q r xs each) (parts (p x) (q x) (list_any p xs) (list_any q xs))
+  where
+    parts : (a b c d : Bool) → ((a || b) || (c || d)) ≡ ((a || c) || (b || d))
+    parts a b c d = grind arith
+
+-- a test of all alike
+any-and : {X : Type 0} (p : X → Bool) (b : Bool) (xs : List X) → list_any (λ x. p x && b) xs ≡ (b && list_any p xs)
+any-and p true [] = refl
+any-and p false [] = refl
+any-and p b (x ∷ xs) = rw (any-and p b xs) (parts (p x) b (list_any p xs))
+  where
+    parts : (a b c : Bool) → ((a && b) || (b && c)) ≡ (b && (a || c))
+    parts a b c = grind arith
+
+-- what is found over some of the changed cells
+pub record AreOver (dims : List Dimension) (facts : List Fact) (changes : List CellChange) (codes : List ℕ) (before after : ℕ) : Type 0 where
+  pub members : (code : ℕ) → is_among codes code ≡ is_over_one dims changes facts code
+  pub steps : after ≤ before + probes_over dims changes
+
+-- no code over no cell
+pub over-none : (dims : List Dimension) (facts : List Fact) (codes : List ℕ) (steps : ℕ) → codes ≡ [] → AreOver dims facts [] codes steps steps
+over-none dims facts codes steps none = record { members = λ code. ap (λ cs. is_among cs code) none ∙ never facts code; steps = omega arith }
+  where
+    never : (some : List Fact) (code : ℕ) → false ≡ is_over_one dims [] some code
+    never [] code = refl
+    never (fact ∷ some) code = never some code
+
+-- over all
+pub over-all : (dims : List Dimension) (facts : List Fact) (changes : List CellChange) (i : ℕ) (codes : List ℕ) (before after : ℕ) → length changes ≤ i → AreOver dims facts (take i changes) codes before after → AreOver dims facts changes codes before after
+over-all dims facts changes i codes before after past found = subst (λ (cs : List CellChange). AreOver dims facts cs codes before after) (take_all i changes past) found
+
+module _ (dims : List Dimension) (facts : List Fact) (changes : List CellChange) (i : ℕ) (d : CellChange) (codes : List ℕ) (start before : ℕ) (within : i < length changes) (found : AreOver dims facts (take i changes) codes start before) where
+  cost : CellChange → ℕ
+  cost change = length (codes_over dims change.0)
+
+  -- over one more
+  pub over-next : (more now : List ℕ) (after : ℕ) → ((code : ℕ) → is_among more code ≡ list_any (λ f. covers dims (get_or changes i d).0 f && has_code dims code f) facts)
+      → now ≡ codes ++ more → after ≡ before + length (codes_over dims (get_or changes i d).0) → AreOver dims facts (take (i + 1) changes) now start after
+  unfolding cost
+  over-next more now after held both counted = record {
+    members = λ code.
+        ap (λ xs. is_among xs code) both
+        ∙ list_any-append (λ n. n == code) codes more
+        ∙ ap (λ b. b || is_among more code) (found.members code)
+        ∙ ap (λ b. is_over_one dims (take i changes) facts code || b) (held code)
+        ∙ sym (any-both
+        (λ f. covers_one dims (take i changes) f && has_code dims code f)
+        (λ f. covers dims (get_or changes i d).0 f && has_code dims code f)
+        (λ f. covers_one dims (take (i + 1) changes) f && has_code dims code f) facts (one_more code));
+    steps = omega (arith, found.steps, counted, sum_by_more cost changes i d within);
+  }
+    where
+      last : (a b c : Bool) → ((a || (b || false)) && c) ≡ ((a && c) || (b && c))
+      last a b c = grind arith
+
+      one_more : (code : ℕ) (f : Fact) → (covers_one dims (take (i + 1) changes) f && has_code dims code f) ≡ ((covers_one dims (take i changes) f && has_code dims code f) || (covers dims (get_or changes i d).0 f && has_code dims code f))
+      one_more code f =
+          ap (λ cs. covers_one dims cs f && has_code dims code f) (take_more changes i d within)
+          ∙ ap (λ b. b && has_code dims code f) (list_any-append (λ (change : CellChange). covers dims change.0 f) (take i changes) (get_or changes i d ∷ []))
+          ∙ last (covers_one dims (take i changes) f) (covers dims (get_or changes i d).0 f) (has_code dims code f)
+
+  -- where memory is wanting then
+  pub over-broken : (after : ℕ) → after ≤ before + length (codes_over dims (get_or changes i d).0) → after ≤ start + probes_over dims changes
+  unfolding cost
+  over-broken after counted = omega (arith, found.steps, counted, sum_by_more_le cost changes i d within)
+
+module _ (policy : Policy) (dims : List Dimension) (edit : Edit) (facts : List Fact) (up : AllPairs (λ f g. f.id < g.id) facts) where
+  -- a fact covers a cell that is reweighed where it covers one of the changes that reweigh
+  covers-reweighing : (f : Fact) → covers_one dims (reweighing policy.weigh (touched policy dims edit facts)) f ≡ covers_any dims (reweighed_cells policy dims edit facts) f
+  covers-reweighing f =
+      any-and (λ (change : CellChange). is_among (cells_of dims f.region) change.0) (not (is_precise dims f)) (reweighing policy.weigh (touched policy dims edit facts))
+      ∙ ap (λ b. not (is_precise dims f) && b) (holds-reweighing policy dims edit facts up (stat_of policy dims facts) (λ cell. refl) f.region)
+
+  -- no fact of the code does where it is none of those over them
+  uncovered : (changes : List CellChange) (code : ℕ) → changes ≡ reweighing policy.weigh (touched policy dims edit facts) → is_over_one dims changes facts code ≡ false
+      → All (λ f. has_code dims code f ≡ true → covers_any dims (reweighed_cells policy dims edit facts) f ≡ false) facts
+  uncovered changes code reweighs none =
+      All-weaker (λ f. (covers_one dims changes f && has_code dims code f) ≡ false) (λ f. has_code dims code f ≡ true → covers_any dims (reweighed_cells policy dims edit facts) f ≡ false)
+      (λ f out has. sym (ap (λ cs. covers_one dims cs f) reweighs ∙ covers-reweighing f) ∙ first (covers_one dims changes f) (has_code dims code f) out has) facts
+      (none_of (λ f. covers_one dims changes f && has_code dims code f) facts none)
+    where
+      first : (a b : Bool) → (a && b) ≡ false → b ≡ true → a ≡ false
+      first a b none is = grind (arith, none, is)
+
+module _ (policy : Policy) (shape : ShapeValue) (dims : List Dimension) (facts : List Fact) (moves : Moves) (are : AreMoves policy shape dims facts moves) (valid : AreValid shape dims facts) where
+  -- the cells that are reweighed are cells of the space
+  pub cells-within : All (λ change. change.0 < length (all_cells dims)) moves.reweighing
+  cells-within = subst (λ (cs : List CellChange). All (λ change. change.0 < length (all_cells dims)) cs) (sym are.reweighs) (reweighing-below policy dims moves.edit facts)
+
+  -- the facts that are taken and given have regions of the space
+  pub taken-region : IfSome moves.taken (λ f. IsRegion dims f.region)
+  taken-region = by moves.taken are.takes
+    where
+      by : (took : Option Fact) → took ≡ taken moves.edit facts → IfSome took (λ f. IsRegion dims f.region)
+      by None is = tt
+      by (Some fact) is = first-holds (λ f. IsRegion dims f.region) (λ f. f.id == edited_id moves.edit) facts fact (valid-regions shape dims facts valid) (sym is)
+
+  pub given-region : IfSome moves.given (λ f. IsRegion dims f.region)
+  given-region = rw are.gives (by moves.edit are.over)
+    where
+      by : (edit : Edit) → IsEditOver dims edit → IfSome (given edit) (λ f. IsRegion dims f.region)
+      by (Put fact) over = over.region
+      by (Change fact) over = over.region
+      by (Withdraw id) over = tt
+
+  -- ascending codes that are those over the cells that are reweighed, and those of these two, hold all whose group changes
+  pub hold-changed : (columns : ℕ) (codes : List ℕ) → AreAscending codes
+      → ((code : ℕ) → is_among codes code ≡ ((is_over_one dims moves.reweighing facts code || option_map_or (has_code dims code) moves.taken false) || option_map_or (has_code dims code) moves.given false))
+      → HoldChanged policy columns dims moves.edit facts codes
+  hold-changed columns codes ascending members = record {
+    ascending = ascending;
+    others = λ code out.
+        let none = three (is_over_one dims moves.reweighing facts code) (option_map_or (has_code dims code) moves.taken false) (option_map_or (has_code dims code) moves.given false) (sym (members code) ∙ out) in
+        group_at-uncovered policy columns dims moves.edit facts valid.ascending code
+        (sym (ap (λ o. option_map_or (has_code dims code) o false) are.takes) ∙ none.1)
+        (sym (ap (λ o. option_map_or (has_code dims code) o false) are.gives) ∙ none.2)
+        (uncovered policy dims moves.edit facts valid.ascending moves.reweighing code are.reweighs none.0);
+  }
+    where
+      three : (a b c : Bool) → ((a || b) || c) ≡ false → (a ≡ false) × (b ≡ false) × (c ≡ false)
+      three true b c is = cc
+      three false true c is = cc
+      three false false true is = cc
+      three false false false is = (refl, refl, refl)

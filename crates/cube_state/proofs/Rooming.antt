@@ -1,0 +1,133 @@
+-- Room made for what an edit sets leaves a state what it is, and what is staged is what the edit makes of it.
+use Rattle.std.proofs.Common.{◌≡◌, ℕ, true, List, refl, ap, sym, ◌∙◌, subst}
+use Rattle.std.specs.Prelude.{IfSome, ◌==◌, Option, Some, None, slice_get}
+use Rattle.std.specs.Option.{option_to_list}
+use Rattle.cube_model.specs.declared.edit.Fact.{Fact}
+use Rattle.cube_model.specs.declared.statistic.CellStat.{CellStat}
+use Rattle.cube_model.specs.Facts.{after}
+use Rattle.cube_model.specs.Tree.{Dimension}
+use Rattle.region_algebra.specs.Space.{IsRegion}
+use Rattle.staged_map.specs.Staged.{Entries, have_places}
+use Rattle.cell_weight.specs.Stats.{have_places as have_stat_places}
+use Rattle.alloc_rows.specs.Changed.{new_stats}
+use Rattle.region_index.specs.Changes.{IsStagedFor}
+use Rattle.fact_groups.specs.Edits.{edited_id}
+use Rattle.fact_groups.specs.Edits.{taken as taken_by}
+use Rattle.fact_groups.specs.Groups.{Group}
+use Rattle.fact_groups.proofs.Groups.{first-holds}
+use Rattle.fact_records.specs.Shape.{IsShape, width_of_all}
+use Rattle.fact_records.specs.Valid.{AreValid, IsValid}
+use Rattle.view_store.specs.declared.change.ViewChange.{ViewChange}
+use Rattle.view_store.specs.Changes.{FitsViews, IsSameView, given, taken}
+use Rattle.view_store.specs.Changes.{HaveSameContent as HaveSameViews}
+use Rattle.view_store.specs.Changes.{IsStagedFor as AreStagedFor}
+use Rattle.view_store.specs.Facts.{FollowBy}
+use Rattle.view_store.specs.Views.{ViewMap, ViewMaps}
+use Rattle.cube_state.specs.declared.moves.Moves.{Moves}
+use Rattle.cube_state.specs.declared.regrouped.Regrouped.{Regrouped}
+use Rattle.cube_state.specs.Moves.{AreMoves, indexed_as}
+use Rattle.cube_state.specs.Sets.{AreSetsFor, SetGroups, SetStats, has_room}
+use Rattle.cube_state.specs.Sets.{SetsValue}
+use Rattle.cube_state.specs.Regrouped.{IsRegrouped}
+use Rattle.facts_kept.specs.Kept.{IsState, Kept}
+use Rattle.cube_state.specs.State.{HaveSameContent, StateValue, policy_in, rows_after, rows_in}
+use Rattle.cube_state.proofs.Accepting.{AreValid-after, allowed}
+use Rattle.cube_state.proofs.Keeping.{IsSameKept, IsState-same}
+use Rattle.cube_state.proofs.Staging.{SetGroups-staged, SetIndex-staged, SetStats-staged}
+use Rattle.touched_cells.proofs.Touching.{IsStat-valid}
+
+-- What is staged for an edit, once there is room for it in what is kept.
+pub record IsStaged (edit_moves : Moves) (regrouped : Regrouped) (changes : List ViewChange) (dims : List Dimension) (facts : List Fact) (new : Kept) (sets : SetsValue) : Type 0 where
+  pub room : has_room edit_moves.edit facts new.spare ≡ true
+  pub stats : sets.stats ≡ new_stats edit_moves.touched
+  pub stats_placed : have_stat_places new.stats sets.stats ≡ true
+  pub index : IsStagedFor new.index sets.index
+  pub drops : sets.index.drops ≡ option_to_list (indexed_as dims edit_moves.taken)
+  pub puts : sets.index.puts ≡ option_to_list (indexed_as dims edit_moves.given)
+  pub groups : sets.groups ≡ regrouped.groups
+  pub groups_placed : have_places new.groups sets.groups ≡ true
+  pub views : AreStagedFor dims changes new.views sets.views
+
+-- Views that are not touched have the content that they had.
+pub views-untouched : (views : ViewMaps) → HaveSameViews views views
+views-untouched views = record { columns = refl; views = record { count = refl; each = λ v. either (slice_get views.views v) } }
+  where
+    either : (found : Option ViewMap) → IfSome found (λ before. IfSome found (IsSameView before))
+    either None = tt
+    either (Some view) = record { columns = refl; depths = refl; values = λ _. refl; places = λ _ has. has }
+
+module _ {P : Type 0} (weigh : P → CellStat → ℕ) (state seen : StateValue P) (same : seen ≡ state) (kept : IsState (policy_in weigh seen) seen.shape seen.dims seen.cuts seen.facts seen.kept) where
+  -- the state stays one
+  pub state-kept : (cuts : List (List ℕ)) (facts : List Fact) (new : Kept) → cuts ≡ seen.cuts → facts ≡ seen.facts → IsSameKept seen.kept new → IsState (policy_in weigh seen) seen.shape seen.dims cuts facts new
+  state-kept cuts facts new cuts_are facts_are is =
+      subst (λ (cs : List (List ℕ)). IsState (policy_in weigh seen) seen.shape seen.dims cs facts new) (sym cuts_are)
+      (subst (λ (fs : List Fact). IsState (policy_in weigh seen) seen.shape seen.dims seen.cuts fs new) (sym facts_are) (IsState-same (policy_in weigh seen) seen.shape seen.dims seen.cuts seen.facts seen.kept new is kept))
+
+  -- of the content that it had
+  pub content-kept : (cuts : List (List ℕ)) (facts : List Fact) (new : Kept) → cuts ≡ seen.cuts → facts ≡ seen.facts
+      → HaveSameContent state (record { policy = seen.policy; dims = seen.dims; shape = seen.shape; cuts = cuts; facts = facts; kept = new })
+  content-kept cuts facts new cuts_are facts_are =
+      subst (λ (s : StateValue P). HaveSameContent s (record { policy = seen.policy; dims = seen.dims; shape = seen.shape; cuts = cuts; facts = facts; kept = new })) same
+      (record { policy = refl; dims = refl; shape = refl; cuts = cuts_are; facts = facts_are })
+
+  -- the fact that an edit takes is in the space
+  pub lost-region : (edit_moves : Moves) → AreMoves (policy_in weigh state) state.shape state.dims state.facts edit_moves → IfSome edit_moves.taken (λ f. IsRegion seen.dims f.region)
+  lost-region edit_moves moves =
+      either edit_moves.taken ((subst (λ (s : StateValue P). AreMoves (policy_in weigh s) s.shape s.dims s.facts edit_moves) (sym same) moves).takes)
+    where
+      either : (took : Option Fact) → took ≡ taken_by edit_moves.edit seen.facts → IfSome took (λ f. IsRegion seen.dims f.region)
+      either None is = tt
+      either (Some f) is = (first-holds (IsValid seen.shape seen.dims) (λ f. f.id == edited_id edit_moves.edit) seen.facts f kept.valid.each (sym is)).accepted.placed.region
+
+  -- the views can be changed
+  pub fits-seen : (changes : List ViewChange) → FitsViews state.dims changes state.kept.views → FitsViews seen.dims changes seen.kept.views
+  fits-seen changes fits = subst (λ (s : StateValue P). FitsViews s.dims changes s.kept.views) (sym same) fits
+
+  module _ (edit_moves : Moves) (regrouped : Regrouped) (changes : List ViewChange)
+      (moves : AreMoves (policy_in weigh state) state.shape state.dims state.facts edit_moves)
+      (groups : IsRegrouped (policy_in weigh state) (width_of_all state.shape.measures) state.dims edit_moves.edit state.facts regrouped)
+      (follow : FollowBy (rows_in weigh state) (taken changes) (given changes) (rows_after weigh state edit_moves.edit))
+      (shape_is : IsShape seen.shape) where
+    seen_moves : AreMoves (policy_in weigh seen) seen.shape seen.dims seen.facts edit_moves
+    seen_moves = subst (λ (s : StateValue P). AreMoves (policy_in weigh s) s.shape s.dims s.facts edit_moves) (sym same) moves
+
+    seen_groups : IsRegrouped (policy_in weigh seen) (width_of_all seen.shape.measures) seen.dims edit_moves.edit seen.facts regrouped
+    seen_groups = subst (λ (s : StateValue P). IsRegrouped (policy_in weigh s) (width_of_all s.shape.measures) s.dims edit_moves.edit s.facts regrouped) (sym same) groups
+
+    seen_follow : FollowBy (rows_in weigh seen) (taken changes) (given changes) (rows_after weigh seen edit_moves.edit)
+    seen_follow = subst (λ (s : StateValue P). FollowBy (rows_in weigh s) (taken changes) (given changes) (rows_after weigh s edit_moves.edit)) (sym same) follow
+
+    valid : AreValid seen.shape seen.dims (after edit_moves.edit seen.facts)
+    valid = AreValid-after seen.shape seen.dims edit_moves.edit seen.facts seen_moves.over (allowed seen.shape seen.dims edit_moves.edit seen.facts seen_moves.accepted) kept.valid
+
+    module _ (cuts : List (List ℕ)) (new : Kept) (sets : SetsValue) (still : IsSameKept seen.kept new) (staged : IsStaged edit_moves regrouped changes seen.dims seen.facts new sets) where
+      later : StateValue P
+      later = record { policy = seen.policy; dims = seen.dims; shape = seen.shape; cuts = cuts; facts = seen.facts; kept = new }
+
+      now : IsState (policy_in weigh seen) seen.shape seen.dims seen.cuts seen.facts new
+      now = IsState-same (policy_in weigh seen) seen.shape seen.dims seen.cuts seen.facts seen.kept new still kept
+
+      sets-made : AreSetsFor weigh later edit_moves.edit sets
+      unfolding later
+      sets-made =
+          let policy = policy_in weigh seen in
+          let edit = edit_moves.edit in
+          let up = kept.valid.ascending in
+          let stats = staged.stats ∙ ap new_stats seen_moves.touches in
+          let anew = staged.groups ∙ seen_groups.groups in
+          record {
+            room = staged.room;
+            stats = subst (SetStats policy seen.dims (after edit seen.facts) new.stats) (sym stats)
+                (SetStats-staged policy seen.dims edit seen.facts up new.stats now.stats (IsStat-valid (weigh seen.policy) seen.shape seen.dims (after edit seen.facts) shape_is valid) (subst (λ (cs : List (ℕ × CellStat)). have_stat_places new.stats cs ≡ true) stats staged.stats_placed));
+            index = SetIndex-staged seen.dims edit seen.facts up new.index sets.index now.index staged.index
+                (staged.puts ∙ ap (λ o. option_to_list (indexed_as seen.dims o)) seen_moves.gives) (staged.drops ∙ ap (λ o. option_to_list (indexed_as seen.dims o)) seen_moves.takes);
+            groups = subst (SetGroups policy (width_of_all seen.shape.measures) seen.dims (after edit seen.facts) new.groups) (sym anew)
+                (SetGroups-staged policy (width_of_all seen.shape.measures) seen.dims edit seen.facts up seen_groups.codes new.groups seen_groups.hold now.groups (subst (λ (es : Entries Group). have_places new.groups es ≡ true) anew staged.groups_placed));
+            views = record { room = staged.views.room; changes = changes; staged = staged.views; follow = seen_follow };
+          }
+
+      -- and what is staged is what the edit makes of it
+      pub sets-staged : (facts : List Fact) → facts ≡ seen.facts → AreSetsFor weigh (record { policy = seen.policy; dims = seen.dims; shape = seen.shape; cuts = cuts; facts = facts; kept = new }) edit_moves.edit sets
+      unfolding later
+      sets-staged facts facts_are =
+          subst (λ (fs : List Fact). AreSetsFor weigh (record { policy = seen.policy; dims = seen.dims; shape = seen.shape; cuts = cuts; facts = fs; kept = new }) edit_moves.edit sets) (sym facts_are) sets-made

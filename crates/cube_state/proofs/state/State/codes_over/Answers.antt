@@ -1,0 +1,33 @@
+-- Each cell adds the codes of the facts that cover it.
+use Rattle.std.proofs.Common.{◌≡◌, ℕ, ◌≤◌, ◌∙◌, arith}
+use Rattle.cube_state.proofs.Covering.{over-all, over-broken, over-next, over-none}
+use Rattle.cube_state.proofs.Seeing.{bound-seen, held-seen, over-seen}
+use Rattle.cube_state.proofs.state.State.codes_over.Goals as goal
+
+at_most : (m n : ℕ) → m ≡ n → m ≤ n
+at_most m n same = omega (arith, same)
+
+pub loop-cell-init : goal.loop-cell-init
+loop-cell-init g c = over-none _ _ _ _ c.new-codes.ensures.items
+
+pub returns-in_err-held-clause-steps : goal.returns-in_err-held-clause-steps
+returns-in_err-held-clause-steps g c =
+    bound-seen _ _ c.self.view_is c.args.changes.now c.args.steps.now _
+    (over-broken _ _ c.args.changes.now c.loop-cell.cell-index _ _ _ _ c.loop-cell-test.true c.loop-cell.invariant _ c.in_err-held.ensures.err)
+
+pub returns-in_err-extend_from_slice-clause-steps : goal.returns-in_err-extend_from_slice-clause-steps
+returns-in_err-extend_from_slice-clause-steps g c =
+    bound-seen _ _ c.self.view_is c.args.changes.now c.args.steps.now _
+    (over-broken _ _ c.args.changes.now c.loop-cell.cell-index _ _ _ _ c.loop-cell-test.true c.loop-cell.invariant _ (at_most _ _ c.in_ok-held.ensures.steps))
+
+pub loop-cell-preserved : goal.loop-cell-preserved
+loop-cell-preserved g c =
+    over-next _ _ c.args.changes.now c.loop-cell.cell-index _ _ _ _ c.loop-cell-test.true c.loop-cell.invariant _ _ _
+    (held-seen _ _ c.self.view_is g.P.WeightPolicy.weigh c.self.invariant _ _ c.dims.ensures.trees (c.as_slice.ensures ∙ c.in_ok-held.ensures.codes))
+    c.in_ok-extend_from_slice.ensures.items c.in_ok-held.ensures.steps
+
+pub returns-clause-codes : goal.returns-clause-codes
+returns-clause-codes g c = over-seen _ _ c.self.view_is c.args.changes.now _ (over-all _ _ c.args.changes.now c.loop-cell.cell-index _ _ _ c.loop-cell-test.false c.loop-cell.invariant).members
+
+pub returns-clause-steps : goal.returns-clause-steps
+returns-clause-steps g c = bound-seen _ _ c.self.view_is c.args.changes.now c.args.steps.now _ (over-all _ _ c.args.changes.now c.loop-cell.cell-index _ _ _ c.loop-cell-test.false c.loop-cell.invariant).steps

@@ -1,0 +1,29 @@
+-- What an edit moves.
+use Rattle.std.specs.Prelude.{◌≡◌, List, Option, Some, None, if◌then◌else◌}
+use Rattle.std.specs.Option.{option_and_then}
+use Rattle.cube_model.specs.declared.edit.Fact.{Fact}
+use Rattle.cube_model.specs.Allocation.{Policy}
+use Rattle.cube_model.specs.Facts.{is_precise}
+use Rattle.cube_model.specs.Tree.{Dimension}
+use Rattle.region_algebra.specs.Space.{code_of}
+use Rattle.fact_groups.specs.Edits.{given, taken}
+use Rattle.fact_records.specs.Judge.{fact_refusal}
+use Rattle.fact_records.specs.Shape.{ShapeValue}
+use Rattle.fact_records.specs.Valid.{IsEditOver}
+use Rattle.region_index.specs.Changes.{Pair}
+use Rattle.cube_state.specs.declared.moves.Moves.{Moves}
+use Rattle.touched_cells.specs.Touched.{reweighing, touched}
+
+-- An edit that is refused by no code that is judged before the rows, with the facts that it takes and gives, the changes of the
+-- cells that it touches, and those of them that make a cell weigh otherwise.
+pub record AreMoves (policy : Policy) (shape : ShapeValue) (dims : List Dimension) (facts : List Fact) (moves : Moves) : Type 0 where
+  pub over : IsEditOver dims moves.edit
+  pub accepted : fact_refusal shape dims moves.edit facts ≡ None
+  pub takes : moves.taken ≡ taken moves.edit facts
+  pub gives : moves.given ≡ given moves.edit
+  pub touches : moves.touched ≡ touched policy dims moves.edit facts
+  pub reweighs : moves.reweighing ≡ reweighing policy.weigh (touched policy dims moves.edit facts)
+
+-- an imprecise fact as an index of regions has it: the code of its region, and its id
+abbrev pub indexed_as : List Dimension → Option Fact → Option Pair
+indexed_as dims fact = option_and_then (λ f. if is_precise dims f then None else Some (code_of dims f.region, f.id)) fact

@@ -1,0 +1,148 @@
+//! The group of a code after an edit.
+ghost use Rattle.std.specs.Prelude.{◌≡◌, ◌*◌, ◌<◌, ◌≤◌, ◌+ℤ◌, ◌-ℤ◌, IfOk, IfSome, length, nat_abs};
+ghost use Rattle.std.specs.Option.{option_copied};
+ghost use Rattle.cube_model.specs.Facts.{after};
+ghost use Rattle.cube_model.specs.Limits.{MAX_COLS, MAX_FACTS, MAX_VALUE};
+ghost use Rattle.fact_groups.specs.Groups.{group_at};
+ghost use Rattle.fact_records.specs.Shape.{width_of_all};
+ghost use Rattle.region_algebra.specs.Space.{IsRegion};
+ghost use Rattle.cube_state.specs.GroupAfter.{AreWithin, fact_at, members_of, number_of, sum_of, sums_after, value_of};
+ghost use Rattle.cube_state.specs.Moves.{AreMoves};
+ghost use Rattle.cube_state.specs.Regrouped.{is_edited_at};
+ghost use Rattle.cube_state.specs.State.{policy_in};
+
+use crate::moves::Moves;
+use crate::{Group, State};
+use cell_weight::WeightPolicy;
+use cube_base::{Cols, MAX_COLS, Memory};
+use cube_model::Fact;
+
+impl<P: WeightPolicy + Drop> State<P> {
+    /// The group of a code after an edit: None where no fact has a region of the code.
+    pub(crate) fn group_after(&self, moves: &Moves, code: u64) -> Result<Option<Group>, Memory>
+        requires { AreMoves (policy_in P.weigh self.now) self.now.shape self.now.dims self.now.facts moves.now }
+        ensures { IfOk result (λ group. group ≡ group_at (policy_in P.weigh self.now) (width_of_all self.now.shape.measures) self.now.dims (after moves.now.edit self.now.facts) code) }
+    {
+        // What a space says of its dimensions.
+        let _ = self.space.dims();
+        let before = self.groups.get(code);
+        let taken = self.fact_at(moves.taken.as_ref(), code);
+        let given = self.fact_at(moves.given.as_ref(), code);
+        let members = members_of(before) + number_of(given) - number_of(taken);
+        if members == 0 {
+            return Ok(None);
+        }
+        let Some(region) = self.space.uncode(code) else {
+            unreachable!()
+        };
+        let spread = self.spread_after(moves, region, before)?;
+        let sums = sums_after(self.shape.columns() - 1, before, taken, given);
+        Ok(Some(Group {
+            spread,
+            members,
+            sums,
+        }))
+    }
+
+    /// Whether an edit takes a fact of the code, or gives one.
+    pub(crate) fn is_edited_at(&self, moves: &Moves, code: u64) -> bool
+        requires { AreMoves (policy_in P.weigh self.now) self.now.shape self.now.dims self.now.facts moves.now }
+        ensures { result ≡ is_edited_at self.now.dims moves.now.edit self.now.facts code }
+    {
+        // What a space says of its dimensions, and a state of its facts.
+        let _ = self.space.dims();
+        self.fact_at(moves.taken.as_ref(), code).is_some()
+            || self.fact_at(moves.given.as_ref(), code).is_some()
+    }
+
+    /// The fact, if it is there and its region has the code.
+    fn fact_at<'a>(&self, fact: Option<&'a Fact>, code: u64) -> Option<&'a Fact>
+        requires { IfSome (option_copied fact) (λ f. IsRegion self.now.dims f.region) }
+        ensures { option_copied result ≡ fact_at self.now.dims code (option_copied fact.entry) }
+    {
+        match fact {
+            Some(fact) if self.space.code(fact.region) == code => Some(fact),
+            _ => None,
+        }
+    }
+}
+
+/// How many facts a group has.
+fn members_of(group: Option<&Group>) -> u64
+    ensures { result ≡ members_of (option_copied group.entry) }
+{
+    match group {
+        Some(group) => group.members,
+        None => 0,
+    }
+}
+
+/// How many facts that is.
+fn number_of(fact: Option<&Fact>) -> u64
+    ensures number { result ≡ number_of (option_copied fact.entry) }
+    ensures one { result ≤ 1 }
+{
+    match fact {
+        Some(_) => 1,
+        None => 0,
+    }
+}
+
+/// The sums of so many columns of a group, with the values of one fact more and of one less.
+fn sums_after(
+    columns: u32,
+    group: Option<&Group>,
+    taken: Option<&Fact>,
+    given: Option<&Fact>,
+) -> Cols
+    requires few { columns ≤ MAX_COLS }
+    requires group { IfSome (option_copied group) (λ g. AreWithin columns (MAX_FACTS * MAX_VALUE) g.sums) }
+    requires taken { IfSome (option_copied taken) (λ f. AreWithin columns MAX_VALUE f.cols) }
+    requires given { IfSome (option_copied given) (λ f. AreWithin columns MAX_VALUE f.cols) }
+    ensures { result ≡ sums_after columns (option_copied group.entry) (option_copied taken.entry) (option_copied given.entry) }
+{
+    let mut sums = [0; MAX_COLS];
+    for column in 0..columns {
+        sums[column as usize] = moved(
+            sum_of(group, column),
+            value_of(taken, column),
+            value_of(given, column),
+        );
+    }
+    let Some(sums) = Cols::new(&sums[..columns as usize]) else {
+        unreachable!()
+    };
+    sums
+}
+
+/// A sum with one value less and one more.
+fn moved(sum: i64, taken: i64, given: i64) -> i64
+    requires sum { nat_abs sum ≤ MAX_FACTS * MAX_VALUE }
+    requires taken { nat_abs taken ≤ MAX_VALUE }
+    requires given { nat_abs given ≤ MAX_VALUE }
+    ensures { result ≡ (sum +ℤ given) -ℤ taken }
+{
+    sum + given - taken
+}
+
+/// The sum of a column of a group, 0 where there is no group.
+fn sum_of(group: Option<&Group>, column: u32) -> i64
+    requires { IfSome (option_copied group) (λ g. column < length g.sums) }
+    ensures { result ≡ sum_of (option_copied group.entry) column }
+{
+    match group {
+        Some(group) => group.sums.get(column),
+        None => 0,
+    }
+}
+
+/// The value of a column of a fact, 0 where there is no fact.
+fn value_of(fact: Option<&Fact>, column: u32) -> i64
+    requires { IfSome (option_copied fact) (λ f. column < length f.cols) }
+    ensures { result ≡ value_of (option_copied fact.entry) column }
+{
+    match fact {
+        Some(fact) => fact.cols.get(column),
+        None => 0,
+    }
+}

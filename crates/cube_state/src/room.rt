@@ -1,0 +1,255 @@
+//! Room for what an edit will set.
+ghost use Rattle.std.specs.Prelude.{◌≡◌, ℕ, IfOk, IfSome, OnOk, true};
+ghost use Rattle.std.specs.Option.{option_to_list};
+ghost use Rattle.alloc_rows.specs.Changed.{new_stats};
+ghost use Rattle.cell_weight.specs.Stats.{have_places as have_stat_places, stat_at};
+ghost use Rattle.fact_groups.specs.Edits.{given as given_by, taken as taken_by};
+ghost use Rattle.fact_records.specs.Shape.{width_of_all};
+ghost use Rattle.region_algebra.specs.Space.{IsRegion};
+ghost use Rattle.region_index.specs.Changes.{IsStagedFor, IsUnchanged};
+ghost use Rattle.staged_map.specs.Staged.{have_places, value_at};
+ghost use Rattle.view_store.specs.Changes.{FitsViews, given, taken};
+ghost use Rattle.view_store.specs.Facts.{FollowBy};
+ghost use Rattle.cube_state.specs.Moves.{AreMoves, indexed_as};
+ghost use Rattle.cube_state.specs.Sets.{AreSetsFor, has_room};
+ghost use Rattle.cube_state.specs.Regrouped.{IsRegrouped};
+ghost use Rattle.cube_state.specs.State.{HaveSameContent, policy_in, rows_after, rows_in};
+
+use crate::moves::Moves;
+use crate::regrouped::Regrouped;
+use crate::sets::Sets;
+use crate::{Group, State};
+use cell_weight::{CellStat, StatIndex, WeightPolicy};
+use cube_base::{Memory, PlainList};
+use cube_model::Fact;
+use fact_records::FactList;
+use region_algebra::Space;
+use region_index::{RegionIndex, RegionStage};
+use staged_map::Staged;
+use std::alloc::{AllocError, Global};
+use touched_cells::Change;
+use view_store::{ViewChange, ViewStage};
+
+/// What is staged beside the groups.
+#[derive(Drop)]
+struct Stages {
+    stats: PlainList<(u64, CellStat)>,
+    index: RegionStage,
+    views: ViewStage,
+}
+
+impl<P: WeightPolicy + Drop> State<P> {
+    /// Makes room for what an edit sets, and answers all that is to be set, of which `regroup` made the groups. The content stays. The one
+    /// error is want of memory.
+    pub fn stage_all(&mut self, moves: &Moves, regrouped: Regrouped) -> Result<Sets, Memory>
+        requires moves { AreMoves (policy_in P.weigh self.old) self.old.shape self.old.dims self.old.facts moves.now }
+        requires regrouped { IsRegrouped (policy_in P.weigh self.old) (width_of_all self.old.shape.measures) self.old.dims moves.now.edit self.old.facts regrouped }
+        ensures same { HaveSameContent self.old self.new }
+        ensures sets { IfOk result (AreSetsFor P.weigh self.new moves.now.edit) }
+    {
+        let changes = self.view_changes(moves, &regrouped)?;
+        self.make_room(moves, regrouped, &changes)
+    }
+
+    /// Makes room for what an edit sets, and all that is to be set. The content stays.
+    fn make_room(
+        &mut self,
+        moves: &Moves,
+        regrouped: Regrouped,
+        changes: &[ViewChange],
+    ) -> Result<Sets, Memory>
+        requires moves { AreMoves (policy_in P.weigh self.old) self.old.shape self.old.dims self.old.facts moves.now }
+        requires regrouped { IsRegrouped (policy_in P.weigh self.old) (width_of_all self.old.shape.measures) self.old.dims moves.now.edit self.old.facts regrouped }
+        requires follow { FollowBy (rows_in P.weigh self.old) (taken changes.now) (given changes.now) (rows_after P.weigh self.old moves.now.edit) }
+        requires fit { FitsViews self.old.dims changes.now self.old.kept.views }
+        ensures same { HaveSameContent self.old self.new }
+        ensures sets { IfOk result (AreSetsFor P.weigh self.new moves.now.edit) }
+    {
+        let stages = self.stage(moves, &regrouped, changes)?;
+        Ok(sets_of(stages, regrouped))
+    }
+
+    /// Makes room for what an edit sets, and what is to be set beside the groups. The content stays.
+    fn stage(
+        &mut self,
+        moves: &Moves,
+        regrouped: &Regrouped,
+        changes: &[ViewChange],
+    ) -> Result<Stages, Memory>
+        requires moves { AreMoves (policy_in P.weigh self.old) self.old.shape self.old.dims self.old.facts moves.now }
+        requires regrouped { IsRegrouped (policy_in P.weigh self.old) (width_of_all self.old.shape.measures) self.old.dims moves.now.edit self.old.facts regrouped.now }
+        requires follow { FollowBy (rows_in P.weigh self.old) (taken changes.now) (given changes.now) (rows_after P.weigh self.old moves.now.edit) }
+        requires fit { FitsViews self.old.dims changes.now self.old.kept.views }
+        ensures same { HaveSameContent self.old self.new }
+        ensures sets { IfOk result (λ stages. AreSetsFor P.weigh self.new moves.now.edit (record { stats = stages.stats; index = stages.index; groups = regrouped.now.groups; views = stages.views })) }
+    {
+        // What a shape says of its measures.
+        let _ = self.shape.columns();
+        reserve(
+            &mut self.facts,
+            &mut self.groups,
+            moves,
+            regrouped.groups.as_slice(),
+        )?;
+        let (stats, index) = stage_facts(
+            self.alloc,
+            &mut self.stats,
+            &mut self.index,
+            &self.space,
+            moves,
+        )?;
+        let views = self.views.stage(&self.space, changes)?;
+        Ok(Stages {
+            stats,
+            index,
+            views,
+        })
+    }
+}
+
+/// What is staged, with the groups.
+fn sets_of(stages: Stages, regrouped: Regrouped) -> Sets
+    ensures { result ≡ record { stats = stages.stats; index = stages.index; groups = regrouped.groups; views = stages.views } }
+{
+    let Stages {
+        stats,
+        index,
+        views,
+    } = stages;
+    let Regrouped {
+        groups,
+        spread_anew: _,
+        rows: _,
+    } = regrouped;
+    Sets {
+        stats,
+        index,
+        groups,
+        views,
+    }
+}
+
+/// Makes room for the fact that an edit gives, and for the groups of entries.
+fn reserve(
+    facts: &mut FactList,
+    groups: &mut Staged<Group>,
+    moves: &Moves,
+    entries: &[(u64, Option<Group>)],
+) -> Result<(), Memory>
+    requires takes { moves.now.taken ≡ taken_by moves.now.edit facts.old.facts }
+    requires gives { moves.now.given ≡ given_by moves.now.edit }
+    ensures same_facts { facts.new.facts ≡ facts.old.facts }
+    ensures same_groups { (code : ℕ) → value_at groups.new code ≡ value_at groups.old code }
+    ensures room { OnOk result (has_room moves.now.edit facts.old.facts facts.new.spare ≡ true) }
+    ensures placed { OnOk result (have_places groups.new entries.now ≡ true) }
+{
+    reserve_fact(facts, moves)?;
+    reserve_groups(groups, entries)
+}
+
+/// Makes room for the fact that an edit gives, where none of its id is there.
+fn reserve_fact(facts: &mut FactList, moves: &Moves) -> Result<(), Memory>
+    requires takes { moves.now.taken ≡ taken_by moves.now.edit facts.old.facts }
+    requires gives { moves.now.given ≡ given_by moves.now.edit }
+    ensures same { facts.new.facts ≡ facts.old.facts }
+    ensures room { OnOk result (has_room moves.now.edit facts.old.facts facts.new.spare ≡ true) }
+{
+    if moves.given.is_some() && moves.taken.is_none() {
+        facts.reserve(1)?;
+    }
+    Ok(())
+}
+
+/// Gives each code that has an entry a place.
+fn reserve_groups(
+    groups: &mut Staged<Group>,
+    entries: &[(u64, Option<Group>)],
+) -> Result<(), Memory>
+    ensures same { (code : ℕ) → value_at groups.new code ≡ value_at groups.old code }
+    ensures placed { OnOk result (have_places groups.new entries.now ≡ true) }
+{
+    for (code, _) in entries {
+        groups.reserve(&[*code])?;
+    }
+    Ok(())
+}
+
+/// Makes ready what an edit changes in the statistics and in the index.
+fn stage_facts(
+    alloc: Global,
+    stats: &mut StatIndex,
+    index: &mut RegionIndex,
+    space: &Space,
+    moves: &Moves,
+) -> Result<(PlainList<(u64, CellStat)>, RegionStage), Memory>
+    requires lost { IfSome moves.now.taken (λ f. IsRegion space.now f.region) }
+    requires won { IfSome moves.now.given (λ f. IsRegion space.now f.region) }
+    ensures same_stats { (cell : ℕ) → stat_at stats.new cell ≡ stat_at stats.old cell }
+    ensures same_index { IsUnchanged index.old index.new }
+    ensures made { IfOk result (λ staged. staged.0 ≡ new_stats moves.now.touched) }
+    ensures placed { IfOk result (λ staged. have_stat_places stats.new staged.0 ≡ true) }
+    ensures drops { IfOk result (λ staged. staged.1.drops ≡ option_to_list (indexed_as space.now moves.now.taken)) }
+    ensures puts { IfOk result (λ staged. staged.1.puts ≡ option_to_list (indexed_as space.now moves.now.given)) }
+    ensures ready { IfOk result (λ staged. IsStagedFor index.new staged.1) }
+{
+    let changes = stage_stats(alloc, stats, moves.touched.as_slice())?;
+    let stage = stage_index(index, space, moves.taken, moves.given)?;
+    Ok((changes, stage))
+}
+
+/// Gives each touched cell a place, and answers its new statistics.
+fn stage_stats(
+    alloc: Global,
+    stats: &mut StatIndex,
+    touched: &[Change],
+) -> Result<PlainList<(u64, CellStat)>, Memory>
+    ensures same { (cell : ℕ) → stat_at stats.new cell ≡ stat_at stats.old cell }
+    ensures made { IfOk result (λ changes. changes ≡ new_stats touched.now) }
+    ensures placed { IfOk result (λ changes. have_stat_places stats.new changes ≡ true) }
+{
+    let changes = new_stats(alloc, touched)?;
+    stats.stage(&changes)?;
+    Ok(PlainList::from(changes))
+}
+
+/// The changed cells, each with its new statistics.
+fn new_stats(alloc: Global, changes: &[Change]) -> Result<Vec<(u64, CellStat)>, AllocError>
+    ensures { IfOk result (λ stats. stats.items ≡ new_stats changes.now) }
+{
+    changes
+        .iter()
+        .map(|change| (change.0, change.2))
+        .collect(alloc)
+}
+
+/// Makes ready what an edit changes in the index: the fact that it takes is dropped, and the one that it gives is put.
+fn stage_index(
+    index: &mut RegionIndex,
+    space: &Space,
+    lost: Option<Fact>,
+    won: Option<Fact>,
+) -> Result<RegionStage, Memory>
+    requires lost { IfSome lost (λ f. IsRegion space.now f.region) }
+    requires won { IfSome won (λ f. IsRegion space.now f.region) }
+    ensures same { IsUnchanged index.old index.new }
+    ensures drops { IfOk result (λ stage. stage.drops ≡ option_to_list (indexed_as space.now lost)) }
+    ensures puts { IfOk result (λ stage. stage.puts ≡ option_to_list (indexed_as space.now won)) }
+    ensures staged { IfOk result (IsStagedFor index.new) }
+{
+    let dropped = indexed_as(space, lost);
+    let put = indexed_as(space, won);
+    index.stage(put.as_slice(), dropped.as_slice())
+}
+
+/// An imprecise fact as an index of regions has it: the code of its region, and its id.
+fn indexed_as(space: &Space, fact: Option<Fact>) -> Option<(u64, u64)>
+    requires { IfSome fact (λ f. IsRegion space.now f.region) }
+    ensures { result ≡ indexed_as space.now fact }
+{
+    match fact {
+        Some(fact) if space.cell_count(fact.region) != 1 => {
+            Some((space.code(fact.region), fact.id))
+        }
+        _ => None,
+    }
+}

@@ -1,9 +1,0 @@
--- What is made of the codes before this one.
-use Rattle.std.proofs.Common.{take}
-use Rattle.fact_records.specs.Shape.{width_of_all}
-use Rattle.edit_plan.specs.State.{policy_in}
-use Rattle.edit_plan.proofs.Drafted.{IsDraft}
-use Rattle.edit_plan.proofs.state.State.regroup.Given as goal
-
-abbrev pub invariant-loop-code : goal.invariant-loop-code
-invariant-loop-code g l = IsDraft (policy_in g.P.WeightPolicy.weigh l.self) (width_of_all l.self.shape.measures) l.self.dims l.moves.edit l.self.facts (take l.code-index l.codes) l.draft.groups l.draft.spread_anew l.draft.before l.draft.after
