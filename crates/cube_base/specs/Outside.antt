@@ -1,10 +1,21 @@
 -- What the objects of the outside tell: when a call of theirs may fail.
-use Rattle.std.specs.Prelude.{◌≡◌, ℕ, ◌+◌, ◌-◌, ◌^◌, ◌<◌, ◌≤◌, min, List, length, take, drop, Option, Result, MatchResult, Ok, Err}
+use Rattle.std.specs.Prelude.{◌≡◌, ℕ, ◌+◌, ◌-◌, ◌^◌, ◌<◌, ◌≤◌, ◌==◌, min, List, length, take, drop, if◌then◌else◌, Option, Result, MatchResult, Ok, Err}
 use Rattle.std.specs.Io.KnownBytes.{Appends}
 use Rattle.cube_base.specs.declared.fault.SinkError.{SinkError}
 use Rattle.cube_base.specs.declared.fault.SinkError.TheVariants.{Failed, Memory}
 
--- the value at which a count of faults stands
+-- What a source tells of itself: the bytes left, where it tells them, how many faults there were, and how many reads gave no byte.
+pub record SourceTold : Type 0 where
+  pub left : Option (List ℕ)
+  pub faults : ℕ
+  pub ends : ℕ
+
+-- What a sink tells of itself: the bytes taken, where it tells them, and how many faults there were.
+pub record SinkTold : Type 0 where
+  pub taken : Option (List ℕ)
+  pub faults : ℕ
+
+-- the value at which a count stands
 abbrev pub LAST_COUNT : ℕ
 LAST_COUNT = 2 ^ 64 - 1
 
@@ -26,6 +37,14 @@ abbrev pub CountsSinkFault : {T : Type 0} → ℕ → ℕ → Result T SinkError
 CountsSinkFault before after (Ok _) = after ≡ before
 CountsSinkFault before after (Err Failed) = Rose before after
 CountsSinkFault before after (Err Memory) = after ≡ before
+
+-- the count of reads that gave no byte, after one more that gave so many
+abbrev pub ends_with : ℕ → ℕ → ℕ
+ends_with ends given = if given == 0 then next_count ends else ends
+
+-- a read: one that gives no byte is counted, and every other answer leaves the count
+abbrev pub CountsEnd : {E : Type 0} → ℕ → ℕ → Result ℕ E → Type 0
+CountsEnd before after result = MatchResult result (λ given. after ≡ ends_with before given) (λ _. after ≡ before)
 
 -- a prefix of the text was taken, and not the whole
 pub record TakesPart (old new : Option (List ℕ)) (text : List ℕ) : Type 0 where

@@ -2,9 +2,10 @@
 ghost use Rattle.std.specs.Prelude.{◌≡◌, ◌↔◌, ◌<◌, ◌≤◌, [], Some, Err, min, length, Contains, IfOk, OnErr, IsErr, IsTrue, if◌then◌else◌};
 ghost use Rattle.std.specs.Bool.{OnTrue};
 ghost use Rattle.std.specs.Io.KnownBytes.{ReadConsumes, WriteAppends};
-ghost use Rattle.cube_base.specs.Outside.{CountsFault, CountsSinkFault, Rose, next_count};
+ghost use Rattle.cube_base.specs.Outside.{CountsEnd, CountsFault, CountsSinkFault, Rose, next_count};
 ghost use Rattle.cube_base.specs.declared.fault.SinkError.TheVariants as sink_error;
 
+use crate::outside::ends_with;
 use crate::{Bytes, Failed, Ids, Sink, SinkError, Source};
 use std::alloc::Global;
 use std::marker::Model;
@@ -54,6 +55,8 @@ pub struct MemSource {
     bytes: Bytes,
     given: usize,
     step: usize,
+    // How many reads gave no byte. The count stands at its last value.
+    ends: u64,
     calls: Calls,
 }
 
@@ -68,6 +71,7 @@ impl Model for MemSource {
       step = s.step;
       calls = s.calls.made;
       faults = s.calls.faults;
+      ends = s.ends;
       fails = s.calls.fails;
     } };
 
@@ -78,12 +82,13 @@ impl MemSource {
     /// A source of these bytes that has given none and counts no call. It takes no memory.
     pub fn new(_alloc: Global, bytes: Bytes, step: usize, fails: Ids) -> Self
         requires { 1 ≤ step }
-        ensures { result ≡ record { left = bytes; step = step; calls = 0; faults = 0; fails = fails } }
+        ensures { result ≡ record { left = bytes; step = step; calls = 0; faults = 0; ends = 0; fails = fails } }
     {
         MemSource {
             bytes,
             given: 0,
             step,
+            ends: 0,
             calls: Calls::new(fails),
         }
     }
@@ -97,9 +102,7 @@ impl MemSource {
 }
 
 impl Source for MemSource {
-    ghost left = { λ s. Some s.left };
-
-    ghost faults = { λ s. s.faults };
+    ghost tells = { λ s. record { left = Some s.left; faults = s.faults; ends = s.ends } };
 
     fn read(&mut self, into: &mut [u8]) -> Result<usize, Failed>
         requires { 0 < length into.old }
@@ -108,6 +111,7 @@ impl Source for MemSource {
         ensures within { IfOk result (λ n. n ≤ length into.new) }
         ensures bytes { ReadConsumes (Some self.old.left) (Some self.new.left) result into.new }
         ensures count { CountsFault self.old.faults self.new.faults result }
+        ensures ends { CountsEnd self.old.ends self.new.ends result }
 
         // What this one adds.
         ensures fails { IsErr result ↔ Contains self.old.fails (next_count self.old.calls) }
@@ -124,6 +128,7 @@ impl Source for MemSource {
         let count = self.step.min(into.len()).min(left.len());
         into[..count].copy_from_slice(&left[..count]);
         self.given += count;
+        self.ends = ends_with(self.ends, count);
         Ok(count)
     }
 }
@@ -176,9 +181,7 @@ impl MemSink {
 }
 
 impl Sink for MemSink {
-    ghost taken = { λ s. Some s.taken };
-
-    ghost faults = { λ s. s.faults };
+    ghost tells = { λ s. record { taken = Some s.taken; faults = s.faults } };
 
     fn write(&mut self, piece: &[u8]) -> Result<usize, SinkError>
         requires { 0 < length piece.now }

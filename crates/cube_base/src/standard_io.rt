@@ -1,9 +1,10 @@
 //! Readers and writers of std as sources and sinks.
 ghost use Rattle.std.specs.Prelude.{◌≡◌, ◌<◌, ◌≤◌, length, IfErr, IfOk, OnErr};
 ghost use Rattle.std.specs.Io.KnownBytes.{ReadConsumes, WriteAppends};
-ghost use Rattle.cube_base.specs.Outside.{CountsFault, CountsSinkFault, Rose, next_count};
+ghost use Rattle.cube_base.specs.Outside.{CountsEnd, CountsFault, CountsSinkFault, Rose, next_count};
 ghost use Rattle.cube_base.specs.declared.fault.SinkError.TheVariants as sink_error;
 
+use crate::outside::ends_with;
 use crate::{Failed, Sink, SinkError, Source};
 use std::io::{Read, Write};
 use std::marker::Model;
@@ -14,37 +15,41 @@ use std::marker::Model;
 pub struct StdSource<R> {
     inner: R,
     faults: u64,
+    // How many reads gave no byte. The count stands at its last value.
+    ends: u64,
 }
 
 impl<R> Model for StdSource<R> {
-    ghost use Rattle.cube_base.specs.StandardIo.{Counted};
+    ghost use Rattle.cube_base.specs.StandardIo.{Read};
 
-    ghost Value = { Counted R };
+    ghost Value = { Read R };
 
-    ghost view = { λ s. record { inner = s.inner; faults = s.faults } };
+    ghost view = { λ s. record { inner = s.inner; faults = s.faults; ends = s.ends } };
 }
 
 impl<R: Read> StdSource<R> {
     /// The reader as a source without a fault. It takes no memory.
     pub fn new(inner: R) -> Self
-        ensures { result ≡ record { inner = inner; faults = 0 } }
+        ensures { result ≡ record { inner = inner; faults = 0; ends = 0 } }
     {
-        StdSource { inner, faults: 0 }
+        StdSource {
+            inner,
+            faults: 0,
+            ends: 0,
+        }
     }
 
     /// The reader.
     pub fn into_inner(self) -> R
         ensures { result ≡ self.inner }
     {
-        let StdSource { inner, faults: _ } = self;
+        let StdSource { inner, .. } = self;
         inner
     }
 }
 
 impl<R: Read> Source for StdSource<R> {
-    ghost left = { λ s. R.remaining s.inner };
-
-    ghost faults = { λ s. s.faults };
+    ghost tells = { λ s. record { left = R.remaining s.inner; faults = s.faults; ends = s.ends } };
 
     fn read(&mut self, into: &mut [u8]) -> Result<usize, Failed>
         requires { 0 < length into.old }
@@ -53,12 +58,16 @@ impl<R: Read> Source for StdSource<R> {
         ensures within { IfOk result (λ n. n ≤ length into.new) }
         ensures bytes { ReadConsumes (R.remaining self.old.inner) (R.remaining self.new.inner) result into.new }
         ensures count { CountsFault self.old.faults self.new.faults result }
+        ensures ends { CountsEnd self.old.ends self.new.ends result }
 
         // What this one adds.
         ensures raised { OnErr result (self.new.faults ≡ next_count self.old.faults) }
     {
         match self.inner.read(into) {
-            Ok(count) => Ok(count),
+            Ok(count) => {
+                self.ends = ends_with(self.ends, count);
+                Ok(count)
+            }
             Err(_) => Err(count_fault(&mut self.faults)),
         }
     }
@@ -73,9 +82,9 @@ pub struct StdSink<W> {
 }
 
 impl<W> Model for StdSink<W> {
-    ghost use Rattle.cube_base.specs.StandardIo.{Counted};
+    ghost use Rattle.cube_base.specs.StandardIo.{Written};
 
-    ghost Value = { Counted W };
+    ghost Value = { Written W };
 
     ghost view = { λ s. record { inner = s.inner; faults = s.faults } };
 }
@@ -98,9 +107,7 @@ impl<W: Write> StdSink<W> {
 }
 
 impl<W: Write> Sink for StdSink<W> {
-    ghost taken = { λ s. W.contents s.inner };
-
-    ghost faults = { λ s. s.faults };
+    ghost tells = { λ s. record { taken = W.contents s.inner; faults = s.faults } };
 
     fn write(&mut self, piece: &[u8]) -> Result<usize, SinkError>
         requires { 0 < length piece.now }

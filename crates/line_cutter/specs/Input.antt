@@ -1,7 +1,7 @@
 -- Taking the whole input.
-use Rattle.std.specs.Prelude.{◌≡◌, ℕ, ◌+◌, ◌<◌, ◌≤◌, true, false, List, length, take, drop, Option}
+use Rattle.std.specs.Prelude.{◌≡◌, ℕ, ◌+◌, ◌<◌, ◌≤◌, ◌⊎◌, Bool, true, false, List, length, take, drop, if◌then◌else◌, Option}
 use Rattle.std.specs.Io.KnownBytes.{Consumes, IsAtEnd}
-use Rattle.cube_base.specs.Outside.{Rose}
+use Rattle.cube_base.specs.Outside.{Rose, next_count}
 use Rattle.line_cutter.specs.declared.input.Input.{Input}
 use Rattle.line_cutter.specs.declared.input.InputStop.{InputStop}
 use Rattle.line_cutter.specs.declared.input.InputStop.TheVariants.{Fault, TooLong, Memory}
@@ -9,6 +9,14 @@ use Rattle.line_cutter.specs.declared.input.InputStop.TheVariants.{Fault, TooLon
 -- the most bytes of an input: 2^30
 abbrev pub INPUT_LIMIT : ℕ
 INPUT_LIMIT = 1073741824
+
+-- the count of reads that gave no byte, where an input has ended meanwhile or not
+abbrev pub ends_if : Bool → ℕ → ℕ
+ends_if is_ended ends = if is_ended then next_count ends else ends
+
+-- at most one read gave no byte: a source is not read again after its end
+abbrev pub EndsOnce : ℕ → ℕ → Type 0
+EndsOnce before after = (after ≡ before) ⊎ (after ≡ next_count before)
 
 -- the input was taken to its end, and is no longer than the limit
 pub record Taken (limit : ℕ) (left left_after : Option (List ℕ)) (input : List ℕ) : Type 0 where

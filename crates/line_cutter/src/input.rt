@@ -1,7 +1,7 @@
 //! Taking the whole input at once.
-ghost use Rattle.std.specs.Prelude.{◌≡◌, ◌<◌, ◌≤◌, ◌^◌, ℕ, [], List, Option, false, length, IfOk, OnOk, IfErr};
+ghost use Rattle.std.specs.Prelude.{◌≡◌, ◌<◌, ◌≤◌, ◌^◌, ℕ, [], List, Option, false, length, IfOk, OnErr, OnOk, IfErr};
 ghost use Rattle.std.specs.Io.KnownBytes.{Consumes};
-ghost use Rattle.line_cutter.specs.Input.{Reads, StopsReading, Taken};
+ghost use Rattle.line_cutter.specs.Input.{EndsOnce, Reads, StopsReading, Taken, ends_if};
 
 use cube_base::Source;
 use std::alloc::{AllocError, Global};
@@ -41,9 +41,10 @@ pub fn take_input<S: Source>(
     limit: usize,
 ) -> Result<Vec<u8>, InputStop>
     requires { limit < 2 ^ 62 }
-    ensures whole { IfOk result (λ input. Taken limit (S.left source.old) (S.left source.new) input.items) }
-    ensures count { OnOk result (S.faults source.new ≡ S.faults source.old) }
-    ensures stopped { IfErr result (StopsReading limit (S.left source.old) (S.left source.new) (S.faults source.old) (S.faults source.new)) }
+    ensures whole { IfOk result (λ input. Taken limit (S.tells source.old).left (S.tells source.new).left input.items) }
+    ensures count { OnOk result ((S.tells source.new).faults ≡ (S.tells source.old).faults) }
+    ensures stopped { IfErr result (StopsReading limit (S.tells source.old).left (S.tells source.new).left (S.tells source.old).faults (S.tells source.new).faults) }
+    ensures ended { EndsOnce (S.tells source.old).ends (S.tells source.new).ends }
 {
     let mut buffer = zeros(alloc, PIECE)?;
     let mut input = Input::new(alloc);
@@ -84,11 +85,13 @@ impl Input {
         requires room { 0 < length buffer.old }
         requires moderate { limit < 2 ^ 62 }
         requires short { length self.old.bytes.items ≤ limit }
-        ensures bytes { OnOk result (Reads limit (S.left source.old) (S.left source.new) self.old self.new) }
+        ensures bytes { OnOk result (Reads limit (S.tells source.old).left (S.tells source.new).left self.old self.new) }
         ensures buffer { length buffer.new ≡ length buffer.old }
-        ensures count { OnOk result (S.faults source.new ≡ S.faults source.old) }
-        ensures stopped { (start : Option (List ℕ)) → Consumes start (S.left source.old) self.old.bytes.items
-            → IfErr result (StopsReading limit start (S.left source.new) (S.faults source.old) (S.faults source.new)) }
+        ensures count { OnOk result ((S.tells source.new).faults ≡ (S.tells source.old).faults) }
+        ensures stopped { (start : Option (List ℕ)) → Consumes start (S.tells source.old).left self.old.bytes.items
+            → IfErr result (StopsReading limit start (S.tells source.new).left (S.tells source.old).faults (S.tells source.new).faults) }
+        ensures ends { OnOk result ((S.tells source.new).ends ≡ ends_if self.new.is_ended (S.tells source.old).ends) }
+        ensures ended { OnErr result (EndsOnce (S.tells source.old).ends (S.tells source.new).ends) }
     {
         let left = limit - self.bytes.len();
         let room = (left + 1).min(buffer.len());

@@ -1,6 +1,6 @@
 //! Reading an input piece by piece, each of which is cut into lines before the next is read.
 ghost use Rattle.std.specs.Prelude.{◌≡◌, [], ◌∷◌, false, length, IfErr, IfOk, OnErr, OnOk};
-ghost use Rattle.line_cutter.specs.Input.{INPUT_LIMIT};
+ghost use Rattle.line_cutter.specs.Input.{EndsOnce, INPUT_LIMIT, ends_if};
 ghost use Rattle.line_cutter.specs.Reading.{Feeds, StopsFeeding};
 
 use crate::LineCutter;
@@ -80,10 +80,12 @@ impl PieceReader {
     ) -> Result<(), InputStop>
         requires more { self.old.is_ended ≡ false }
         requires handed_out { length cutter.old.lines ≡ 1 }
-        ensures fed { OnOk result (Feeds (S.left source.old) (S.left source.new) self.old self.new cutter.old.lines cutter.new.lines) }
-        ensures count { OnOk result (S.faults source.new ≡ S.faults source.old) }
-        ensures stopped { IfErr result (StopsFeeding self.old.room (S.left source.old) (S.left source.new) (S.faults source.old) (S.faults source.new)) }
+        ensures fed { OnOk result (Feeds (S.tells source.old).left (S.tells source.new).left self.old self.new cutter.old.lines cutter.new.lines) }
+        ensures count { OnOk result ((S.tells source.new).faults ≡ (S.tells source.old).faults) }
+        ensures stopped { IfErr result (StopsFeeding self.old.room (S.tells source.old).left (S.tells source.new).left (S.tells source.old).faults (S.tells source.new).faults) }
         ensures same { OnErr result (cutter.new.lines ≡ cutter.old.lines) }
+        ensures ends { OnOk result ((S.tells source.new).ends ≡ ends_if self.new.is_ended (S.tells source.old).ends) }
+        ensures ended { OnErr result (EndsOnce (S.tells source.old).ends (S.tells source.new).ends) }
     {
         let most = self.room.clamp(1, PIECE);
         let Ok(len) = source.read(&mut self.buffer[0..most]) else {

@@ -8,8 +8,8 @@ abbrev pub invariant-loop-sent : goal.invariant-loop-sent
 invariant-loop-sent g l = record {
   forward : l.initial.sent ≤ l.sent;
   within : l.sent ≤ length l.text;
-  bytes : Appends (g.K.Sink.taken l.initial.out) (g.K.Sink.taken l.out) (between l.text l.initial.sent l.sent);
-  no_fault : g.K.Sink.faults l.out ≡ g.K.Sink.faults l.initial.out;
+  bytes : Appends (g.K.Sink.tells l.initial.out).taken (g.K.Sink.tells l.out).taken (between l.text l.initial.sent l.sent);
+  no_fault : (g.K.Sink.tells l.out).faults ≡ (g.K.Sink.tells l.initial.out).faults;
 }
 
 -- what is left to send

@@ -9,7 +9,7 @@ returns-then-len-left-clause-stopped g c = λ start before.
     let len : length piece ≡ c.in-Ok.len = length-take-le c.in-Ok.len c.read.new.into c.in-Ok.ensures.within in (
       record {
         input = c.args.self.now.bytes.items ++ piece;
-        bytes = Consumes-trans start (g.S.Source.left c.args.source.now) (g.S.Source.left c.read.new.self) c.args.self.now.bytes.items piece before c.in-Ok.ensures.bytes.0;
+        bytes = Consumes-trans start (g.S.Source.tells c.args.source.now).left (g.S.Source.tells c.read.new.self).left c.args.self.now.bytes.items piece before c.in-Ok.ensures.bytes.0;
         above = omega (arith, len, length-append c.args.self.now.bytes.items piece, c.in-Ok.ensures.within, length-take c.min-room.result c.args.buffer.now);
       },
       c.in-Ok.ensures.count,
@@ -21,7 +21,7 @@ returns-then-is_err-clause-stopped g c = λ start before.
     let len : length piece ≡ c.in-Ok.len = length-take-le c.in-Ok.len c.read.new.into c.in-Ok.ensures.within in (
       record {
         input = c.args.self.now.bytes.items ++ piece;
-        bytes = Consumes-trans start (g.S.Source.left c.args.source.now) (g.S.Source.left c.read.new.self) c.args.self.now.bytes.items piece before c.in-Ok.ensures.bytes.0;
+        bytes = Consumes-trans start (g.S.Source.tells c.args.source.now).left (g.S.Source.tells c.read.new.self).left c.args.self.now.bytes.items piece before c.in-Ok.ensures.bytes.0;
         few = omega (arith, len, length-append c.args.self.now.bytes.items piece);
       },
       c.in-Ok.ensures.count,
