@@ -1,3 +1,5 @@
 pub mod Places
 pub mod Puts
+pub mod Staying
 pub mod Found
+pub mod Names

@@ -1,9 +1,8 @@
-//! Where contents are kept. A keeper counts its faults, as sources and sinks do, and may tell what it keeps.
-ghost use Rattle.std.specs.Prelude.{◌≡◌, ℕ, ◌++◌, ◌∷◌, [], Bool, List, Option, IfOk, IfSome, IsTrue, OnOk, OnErr, option_map};
+//! Where contents are kept. A keeper counts its loads and its faults, and may tell what it keeps and which store it opened.
+ghost use Rattle.std.specs.Prelude.{◌≡◌, ◌++◌, ◌∷◌, [], IfOk, IfSome, IsTrue, OnOk, OnErr, option_map};
+ghost use Rattle.cube_base.specs.Outside.{next_count};
 ghost use Rattle.fact_keeper.specs.Batch.{apply_batch};
-ghost use Rattle.fact_keeper.specs.Keeper.{CountsKeepFault};
-ghost use Rattle.fact_keeper.specs.declared.content.Batch.{Batch};
-ghost use Rattle.fact_keeper.specs.declared.content.Stored.{Stored};
+ghost use Rattle.fact_keeper.specs.Keeper.{CountsKeepFault, KeeperTold, StaysOpen};
 ghost use Rattle.fact_keeper.specs.declared.keeper.KeepError.TheVariants as keep_error;
 
 use crate::{Batch, Stored};
@@ -45,36 +44,32 @@ impl<T: Drop> From<AllocFailed<T>> for KeepError {
 
 /// A keeper of contents.
 pub trait Keeper {
-    /// The content, where the keeper tells it.
-    ghost content: { Self → Option Stored };
+    /// What it tells: its content, all batches that were committed to it, and the name of the store that was opened last, each where it
+    /// knows it; the count of loads that were asked for; whether it may be committed to; and the count of its faults. No count falls.
+    ghost tells: { Self → KeeperTold };
 
-    /// All batches that were committed, the oldest first, where the keeper tells them.
-    ghost journal: { Self → Option (List Batch) };
-
-    /// Whether it may be committed to. A load that is answered opens it for good.
-    ghost is_open: { Self → Bool };
-
-    /// How many faults there have been. The count never falls.
-    ghost faults: { Self → ℕ };
-
-    /// Opens the store of that name and gives its content, which stays as it is, and so does the journal. `Failed` comes at a fault
-    /// of the outside alone, and `Memory` is counted as none.
+    /// Opens the store of that name and gives its content, which stays as it is, and so does the journal. A load that is answered opens the
+    /// keeper for good, and an error leaves the name that it tells. `Failed` comes at a fault of the outside alone, and `Memory` is counted
+    /// as none.
     fn load(&mut self, alloc: Global, name: &str) -> Result<Stored, KeepError>
-        ensures given { IfOk result (λ given. IfSome (content self.old) (λ kept. given ≡ kept)) }
-        ensures content { content self.new ≡ content self.old }
-        ensures journal { journal self.new ≡ journal self.old }
-        ensures opened { OnOk result (IsTrue (is_open self.new)) }
-        ensures stays_open { IsTrue (is_open self.old) → IsTrue (is_open self.new) }
-        ensures count { CountsKeepFault (faults self.old) (faults self.new) result };
+        ensures given { IfOk result (λ given. IfSome (tells self.old).content (λ kept. given ≡ kept)) }
+        ensures content { (tells self.new).content ≡ (tells self.old).content }
+        ensures journal { (tells self.new).journal ≡ (tells self.old).journal }
+        ensures named { OnOk result (IfSome (tells self.new).name (λ opened. opened ≡ name.now)) }
+        ensures same_name { OnErr result ((tells self.new).name ≡ (tells self.old).name) }
+        ensures loaded { (tells self.new).loads ≡ next_count (tells self.old).loads }
+        ensures opened { OnOk result (IsTrue (tells self.new).is_open) }
+        ensures stays_open { IsTrue (tells self.old).is_open → IsTrue (tells self.new).is_open }
+        ensures count { CountsKeepFault (tells self.old).faults (tells self.new).faults result };
 
     /// Applies the batch to the content and appends it to the journal. On an error both stay as they were: `Failed` comes at a fault of
-    /// the outside alone, and `Memory` is counted as none.
+    /// the outside alone, and `Memory` is counted as none. The name and the count of loads stay.
     fn commit(&mut self, batch: &Batch) -> Result<(), KeepError>
-        requires { IsTrue (is_open self.old) }
-        ensures applied { OnOk result (content self.new ≡ option_map (apply_batch batch.now) (content self.old)) }
-        ensures appended { OnOk result (journal self.new ≡ option_map (λ batches. batches ++ batch.now ∷ []) (journal self.old)) }
-        ensures same_content { OnErr result (content self.new ≡ content self.old) }
-        ensures same_journal { OnErr result (journal self.new ≡ journal self.old) }
-        ensures stays_open { IsTrue (is_open self.new) }
-        ensures count { CountsKeepFault (faults self.old) (faults self.new) result };
+        requires { IsTrue (tells self.old).is_open }
+        ensures applied { OnOk result ((tells self.new).content ≡ option_map (apply_batch batch.now) (tells self.old).content) }
+        ensures appended { OnOk result ((tells self.new).journal ≡ option_map (λ batches. batches ++ batch.now ∷ []) (tells self.old).journal) }
+        ensures same_content { OnErr result ((tells self.new).content ≡ (tells self.old).content) }
+        ensures same_journal { OnErr result ((tells self.new).journal ≡ (tells self.old).journal) }
+        ensures stays_open { StaysOpen (tells self.old) (tells self.new) }
+        ensures count { CountsKeepFault (tells self.old).faults (tells self.new).faults result };
 }

@@ -1,5 +1,5 @@
 //! A keeper in memory, which tells all and fails at chosen calls.
-ghost use Rattle.std.specs.Prelude.{◌≡◌, ◌↔◌, ◌++◌, ◌∷◌, [], false, true, Contains, Err, IfOk, IsTrue, OnErr, OnOk, Some};
+ghost use Rattle.std.specs.Prelude.{◌≡◌, ◌↔◌, ◌++◌, ◌∷◌, [], false, true, Contains, Err, IfOk, IsTrue, None, OnErr, OnOk, Some};
 ghost use Rattle.cube_base.specs.Outside.{next_count};
 ghost use Rattle.fact_keeper.specs.Batch.{apply_batch};
 ghost use Rattle.fact_keeper.specs.Keeper.{CountsKeepFault};
@@ -19,6 +19,8 @@ pub struct MemKeeper {
     alloc: Global,
     content: Stored,
     journal: Vec<Batch>,
+    name: Option<String>,
+    loads: u64,
     is_open: bool,
     // Whether the entries are known to be in the order of their ids.
     is_in_order: bool,
@@ -28,13 +30,15 @@ pub struct MemKeeper {
 impl Model for MemKeeper {
     ghost use Rattle.fact_keeper.specs.MemKeeper.{Keeping};
     ghost use Rattle.fact_keeper.specs.Order.{IsInOrder};
-    ghost use Rattle.std.specs.Prelude.{IsTrue};
+    ghost use Rattle.std.specs.Prelude.{IsTrue, option_map, string_bytes};
 
     ghost Value = { Keeping };
 
     ghost view = { λ k. record {
       content = k.content;
       journal = k.journal.items;
+      name = option_map string_bytes k.name;
+      loads = k.loads;
       is_open = k.is_open;
       calls = k.calls.made;
       faults = k.calls.faults;
@@ -45,15 +49,17 @@ impl Model for MemKeeper {
 }
 
 impl MemKeeper {
-    /// A keeper of this content that is not open, has an empty journal and counts no call. It takes no memory.
+    /// A keeper of this content that is not open, has an empty journal and tells no name, and counts no call. It takes no memory.
     pub fn new(alloc: Global, content: Stored, fails: Ids) -> Self
-        ensures { result ≡ record { content = content; journal = []; is_open = false; calls = 0; faults = 0; fails = fails } }
+        ensures { result ≡ record { content = content; journal = []; name = None; loads = 0; is_open = false; calls = 0; faults = 0; fails = fails } }
     {
         let is_in_order = is_in_order(&content);
         MemKeeper {
             alloc,
             content,
             journal: Vec::new(alloc),
+            name: None,
+            loads: 0,
             is_open: false,
             is_in_order,
             calls: Calls::new(fails),
@@ -76,19 +82,17 @@ impl MemKeeper {
 }
 
 impl Keeper for MemKeeper {
-    ghost content = { λ k. Some k.content };
+    ghost tells = { λ k. record { content = Some k.content; journal = Some k.journal; name = k.name; loads = k.loads; is_open = k.is_open; faults = k.faults } };
 
-    ghost journal = { λ k. Some k.journal };
-
-    ghost is_open = { λ k. k.is_open };
-
-    ghost faults = { λ k. k.faults };
-
-    fn load(&mut self, _alloc: Global, _name: &str) -> Result<Stored, KeepError>
+    /// The content, whatever the name, of which it keeps a copy.
+    fn load(&mut self, _alloc: Global, name: &str) -> Result<Stored, KeepError>
         // What every keeper says.
         ensures given { IfOk result (λ given. given ≡ self.old.content) }
         ensures content { self.new.content ≡ self.old.content }
         ensures journal { self.new.journal ≡ self.old.journal }
+        ensures named { OnOk result (self.new.name ≡ Some name.now) }
+        ensures same_name { OnErr result (self.new.name ≡ self.old.name) }
+        ensures loaded { self.new.loads ≡ next_count self.old.loads }
         ensures opened { OnOk result (IsTrue self.new.is_open) }
         ensures stays_open { IsTrue self.old.is_open → IsTrue self.new.is_open }
         ensures count { CountsKeepFault self.old.faults self.new.faults result }
@@ -100,8 +104,11 @@ impl Keeper for MemKeeper {
         ensures same_open { OnErr result (self.new.is_open ≡ self.old.is_open) }
         ensures same_fails { self.new.fails ≡ self.old.fails }
     {
+        self.loads = self.loads.saturating_add(1);
         self.calls.next()?;
         let given = self.content.copy(self.alloc)?;
+        let opened = String::from_str(self.alloc, name)?;
+        self.name = Some(opened);
         self.is_open = true;
         Ok(given)
     }
@@ -115,6 +122,8 @@ impl Keeper for MemKeeper {
         ensures same_content { OnErr result (self.new.content ≡ self.old.content) }
         ensures same_journal { OnErr result (self.new.journal ≡ self.old.journal) }
         ensures stays_open { IsTrue self.new.is_open }
+        ensures same_name { self.new.name ≡ self.old.name }
+        ensures same_loads { self.new.loads ≡ self.old.loads }
         ensures count { CountsKeepFault self.old.faults self.new.faults result }
 
         // What this one adds.

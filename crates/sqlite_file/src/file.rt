@@ -1,14 +1,26 @@
 //! The file of a store, from its open to its close.
+ghost use Rattle.std.specs.Prelude.{◌≡◌, IfOk};
+
 use crate::fault::Fault;
 use crate::reading::read_content;
 use crate::writing::write_batch;
 use fact_keeper::{Batch, Stored};
 use sqlite::{Connection, File, FileStore};
 use std::alloc::Global;
+use std::marker::Model;
 
-/// The file of a store, open, and locked until it is closed. A drop closes it.
+/// The file of a store, open, and locked until it is closed. A drop closes it. Contracts see the path by which it was opened.
 pub struct StoreFile {
+    path: String,
     conn: Connection<FileStore<File>>,
+}
+
+impl Model for StoreFile {
+    ghost use Rattle.std.specs.Prelude.{ℕ, List, string_bytes};
+
+    ghost Value = { List ℕ };
+
+    ghost view = { λ f. string_bytes f.path };
 }
 
 impl StoreFile {
@@ -16,16 +28,21 @@ impl StoreFile {
     ///
     /// `Outside` comes where the file is not to be had, is held open elsewhere, or is no database; `Memory` at want of memory. Either
     /// leaves it closed.
-    pub fn open(rt: &HostRuntime, path: &str) -> Result<Self, Fault> {
-        let conn = Connection::open(rt, path)?;
-        Ok(StoreFile { conn })
+    pub fn open(rt: &HostRuntime, path: &str) -> Result<Self, Fault>
+        ensures { IfOk result (λ file. file ≡ path.now) }
+    {
+        let path = String::from_str(rt.alloc(), path)?;
+        let conn = Connection::open(rt, path.as_str())?;
+        Ok(StoreFile { path, conn })
     }
 
     /// The content. A table that is missing is read as an empty one.
     ///
     /// `Outside` comes where a table is laid out in another way, where a row holds what no batch writes, or where the file cannot be
     /// read; `Memory` at want of memory.
-    pub fn read(&mut self, alloc: Global) -> Result<Stored, Fault> {
+    pub fn read(&mut self, alloc: Global) -> Result<Stored, Fault>
+        ensures { self.new ≡ self.old }
+    {
         read_content(alloc, &mut self.conn)
     }
 
@@ -33,7 +50,9 @@ impl StoreFile {
     ///
     /// `Outside` comes where an id or a denominator is 2^63 or more, where a table takes no such row, or where the file cannot be
     /// written; `Memory` at want of memory.
-    pub fn write(&mut self, alloc: Global, batch: &Batch) -> Result<(), Fault> {
+    pub fn write(&mut self, alloc: Global, batch: &Batch) -> Result<(), Fault>
+        ensures { self.new ≡ self.old }
+    {
         write_batch(alloc, &mut self.conn, batch)
     }
 }
@@ -41,7 +60,7 @@ impl StoreFile {
 // It is written out, so that no caller proves again how each part is dropped.
 impl Drop for StoreFile {
     fn drop(self) {
-        let StoreFile { conn } = self;
+        let StoreFile { path: _, conn } = self;
         // What the log holds is in the store, also where it cannot be copied into the file.
         let _ = conn.close();
     }

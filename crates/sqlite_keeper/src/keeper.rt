@@ -1,5 +1,5 @@
 //! The keeper over a file.
-ghost use Rattle.std.specs.Prelude.{◌≡◌, Err, None, false, IsErr, IsTrue, OnErr, OnOk};
+ghost use Rattle.std.specs.Prelude.{◌≡◌, Err, IfOk, None, Some, false, true, IsErr, IsTrue, OnErr, OnOk};
 ghost use Rattle.cube_base.specs.Outside.{next_count};
 ghost use Rattle.fact_keeper.specs.Keeper.{CountsKeepFault};
 ghost use Rattle.fact_keeper.specs.declared.keeper.KeepError.TheVariants as keep_error;
@@ -9,32 +9,41 @@ use sqlite_file::{Fault, StoreFile};
 use std::alloc::Global;
 use std::marker::Model;
 
-/// A keeper of stores in files. The name of a store is the path of its file. It tells no content and no journal. A drop closes
-/// the file.
+/// A keeper of stores in files. The name of a store is the path of its file, which it tells; it tells no content and no journal. A drop
+/// closes the file.
 #[derive(Drop)]
 pub struct SqlKeeper<'rt> {
     rt: &'rt HostRuntime,
     file: Option<StoreFile>,
+    // It outlives the file, which a load that fails has closed.
+    name: Option<String>,
+    loads: u64,
     is_open: bool,
     faults: u64,
 }
 
 impl<'rt> Model for SqlKeeper<'rt> {
+    ghost use Rattle.std.specs.Prelude.{◌≡◌, IfSome, Some, option_map, string_bytes};
     ghost use Rattle.sqlite_keeper.specs.SqlKeeper.{Opened};
 
     ghost Value = { Opened };
 
-    ghost view = { λ k. record { is_open = k.is_open; faults = k.faults } };
+    ghost view = { λ k. record { name = option_map string_bytes k.name; loads = k.loads; is_open = k.is_open; faults = k.faults } };
+
+    // The file that is open is that of the name.
+    ghost invariant = { λ k. IfSome k.file (λ path. option_map string_bytes k.name ≡ Some path) };
 }
 
 impl<'rt> SqlKeeper<'rt> {
-    /// A keeper that is not open and counts no fault. It opens no file.
+    /// A keeper that is not open, tells no name, and counts no load and no fault. It opens no file.
     pub fn new(rt: &'rt HostRuntime) -> Self
-        ensures { result ≡ record { is_open = false; faults = 0 } }
+        ensures { result ≡ record { name = None; loads = 0; is_open = false; faults = 0 } }
     {
         SqlKeeper {
             rt,
             file: None,
+            name: None,
+            loads: 0,
             is_open: false,
             faults: 0,
         }
@@ -42,14 +51,15 @@ impl<'rt> SqlKeeper<'rt> {
 
     /// Opens the file at a path in place of the one that is open, and gives the content.
     fn open(&mut self, alloc: Global, path: &str) -> Result<Stored, Fault>
-        ensures opened { OnOk result (IsTrue self.new.is_open) }
-        ensures same_open { OnErr result (self.new.is_open ≡ self.old.is_open) }
-        ensures count { self.new.faults ≡ self.old.faults }
+        ensures opened { OnOk result (self.new ≡ record self.old { name = Some path.now; is_open = true }) }
+        ensures same { OnErr result (self.new ≡ self.old) }
     {
         // It may be the same file, which a second open finds locked.
         self.file = None;
+        let name = String::from_str(alloc, path)?;
         let (file, content) = open_file(self.rt, alloc, path)?;
         self.file = Some(file);
+        self.name = Some(name);
         self.is_open = true;
         Ok(content)
     }
@@ -59,7 +69,7 @@ impl<'rt> SqlKeeper<'rt> {
         ensures err { IsErr result }
         ensures count { CountsKeepFault self.old.faults self.new.faults result }
         ensures raised { result ≡ Err keep_error.Failed → self.new.faults ≡ next_count self.old.faults }
-        ensures same_open { self.new.is_open ≡ self.old.is_open }
+        ensures same { self.new ≡ record self.old { faults = self.new.faults } }
     {
         match fault {
             Fault::Memory => Err(KeepError::Memory),
@@ -83,18 +93,15 @@ impl<'rt> SqlKeeper<'rt> {
 }
 
 impl Keeper for SqlKeeper<'_> {
-    ghost content = { λ _. None };
-
-    ghost journal = { λ _. None };
-
-    ghost is_open = { λ k. k.is_open };
-
-    ghost faults = { λ k. k.faults };
+    ghost tells = { λ k. record { content = None; journal = None; name = k.name; loads = k.loads; is_open = k.is_open; faults = k.faults } };
 
     /// Opens the file whose path is the name, which is made where there is none. The file that was open is closed first, and an error
     /// leaves none open: each commit is then a fault, until a load is answered.
     fn load(&mut self, alloc: Global, name: &str) -> Result<Stored, KeepError>
         // What every keeper says.
+        ensures named { OnOk result (self.new.name ≡ Some name.now) }
+        ensures same_name { OnErr result (self.new.name ≡ self.old.name) }
+        ensures loaded { self.new.loads ≡ next_count self.old.loads }
         ensures opened { OnOk result (IsTrue self.new.is_open) }
         ensures stays_open { IsTrue self.old.is_open → IsTrue self.new.is_open }
         ensures count { CountsKeepFault self.old.faults self.new.faults result }
@@ -103,6 +110,7 @@ impl Keeper for SqlKeeper<'_> {
         ensures same_open { OnErr result (self.new.is_open ≡ self.old.is_open) }
         ensures raised { result ≡ Err keep_error.Failed → self.new.faults ≡ next_count self.old.faults }
     {
+        self.loads = self.loads.saturating_add(1);
         match self.open(alloc, name) {
             Ok(content) => Ok(content),
             Err(fault) => self.refuse(fault),
@@ -115,6 +123,8 @@ impl Keeper for SqlKeeper<'_> {
 
         // What every keeper says.
         ensures stays_open { IsTrue self.new.is_open }
+        ensures same_name { self.new.name ≡ self.old.name }
+        ensures same_loads { self.new.loads ≡ self.old.loads }
         ensures count { CountsKeepFault self.old.faults self.new.faults result }
 
         // What this one adds.
@@ -128,7 +138,9 @@ impl Keeper for SqlKeeper<'_> {
 }
 
 /// Opens the file at a path, which is made where there is none, and reads its content.
-fn open_file(rt: &HostRuntime, alloc: Global, path: &str) -> Result<(StoreFile, Stored), Fault> {
+fn open_file(rt: &HostRuntime, alloc: Global, path: &str) -> Result<(StoreFile, Stored), Fault>
+    ensures { IfOk result (λ opened. opened.0 ≡ path.now) }
+{
     let mut file = StoreFile::open(rt, path)?;
     let content = file.read(alloc)?;
     Ok((file, content))
