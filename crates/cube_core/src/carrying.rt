@@ -3,7 +3,7 @@ ghost use Rattle.std.specs.Prelude.{◌≡◌, ◌++◌, ◌∷◌, [], IfOk, Is
 ghost use Rattle.edit_plan.specs.Plan.{IsPlanFor, facts_after};
 ghost use Rattle.cube_state.specs.State.{HasFacts};
 ghost use Rattle.fact_keeper.specs.Batch.{apply_batch};
-ghost use Rattle.fact_keeper.specs.Keeper.{CountsKeepFault};
+ghost use Rattle.fact_keeper.specs.Keeper.{CountsKeepFault, StaysOpen};
 
 use cell_weight::WeightPolicy;
 use cube_base::Ids;
@@ -19,16 +19,16 @@ pub(crate) fn carry_out<P: WeightPolicy + Drop, K: Keeper>(
     keeper: &mut K,
 ) -> Result<Ids, KeepError>
     requires fits { IsPlanFor P.weigh state.old plan }
-    requires open { IsTrue (K.is_open keeper.old) }
+    requires open { IsTrue (K.tells keeper.old).is_open }
     ensures facts { OnOk result (HasFacts (facts_after plan.change state.old.facts) state.old state.new) }
     ensures refreshed { IfOk result (λ refreshed. refreshed ≡ plan.refreshed) }
-    ensures content { OnOk result (K.content keeper.new ≡ option_map (apply_batch plan.batch) (K.content keeper.old)) }
-    ensures journal { OnOk result (K.journal keeper.new ≡ option_map (λ batches. batches ++ plan.batch ∷ []) (K.journal keeper.old)) }
-    ensures stays_open { IsTrue (K.is_open keeper.new) }
-    ensures count { CountsKeepFault (K.faults keeper.old) (K.faults keeper.new) result }
+    ensures content { OnOk result ((K.tells keeper.new).content ≡ option_map (apply_batch plan.batch) (K.tells keeper.old).content) }
+    ensures journal { OnOk result ((K.tells keeper.new).journal ≡ option_map (λ batches. batches ++ plan.batch ∷ []) (K.tells keeper.old).journal) }
+    ensures stays_open { StaysOpen (K.tells keeper.old) (K.tells keeper.new) }
+    ensures count { CountsKeepFault (K.tells keeper.old).faults (K.tells keeper.new).faults result }
     ensures same { OnErr result (state.new ≡ state.old) }
-    ensures same_content { OnErr result (K.content keeper.new ≡ K.content keeper.old) }
-    ensures same_journal { OnErr result (K.journal keeper.new ≡ K.journal keeper.old) }
+    ensures same_content { OnErr result ((K.tells keeper.new).content ≡ (K.tells keeper.old).content) }
+    ensures same_journal { OnErr result ((K.tells keeper.new).journal ≡ (K.tells keeper.old).journal) }
 {
     if let Err(fault) = keeper.commit(plan.batch()) {
         // Dropped by a call, which is proved once: in place it would be proved on each way out.

@@ -9,6 +9,7 @@ ghost use Rattle.cube_model.specs.Limits.{MAX_ROWS};
 ghost use Rattle.cube_state.specs.State.{rows_in as state_rows_in, withdrawn};
 ghost use Rattle.exact_fraction.specs.Moderate.{IsModerate};
 ghost use Rattle.fact_keeper.specs.Batch.{apply_batch};
+ghost use Rattle.fact_keeper.specs.Keeper.{StaysOpen};
 ghost use Rattle.fact_records.specs.Outcomes.{AllAddUp};
 ghost use Rattle.fact_records.specs.Shape.{width_of_all};
 ghost use Rattle.fact_records.specs.Valid.{IsEditOver, IsPlaced};
@@ -209,20 +210,20 @@ impl<P: WeightPolicy + Drop> Cube<P> {
         steps: &mut Steps<L>,
     ) -> Result<Receipt, EditFault>
         requires over { IsEditOver self.old.schema.dims edit.now }
-        requires open { IsTrue (K.is_open keeper.old) }
+        requires open { IsTrue (K.tells keeper.old).is_open }
         ensures facts { OnOk result (self.new ≡ edited edit.now self.old) }
         ensures accepted { OnOk result (judge_in P.weigh self.old edit.now ≡ None) }
         ensures refreshed { IfOk result (λ receipt. receipt.refreshed ≡ refreshed_in P.weigh self.old edit.now) }
         ensures ascending { IfOk result (λ receipt. ascends_from (λ id. id) 1 receipt.refreshed ≡ true) }
         ensures removed { IfOk result (λ receipt. receipt.removed ≡ withdrawn edit.now) }
-        ensures content { OnOk result (K.content keeper.new ≡ option_map (apply_batch (difference_in P.weigh self.old edit.now)) (K.content keeper.old)) }
-        ensures journal { OnOk result (K.journal keeper.new ≡ option_map (λ batches. batches ++ difference_in P.weigh self.old edit.now ∷ []) (K.journal keeper.old)) }
-        ensures stays_open { IsTrue (K.is_open keeper.new) }
-        ensures count { CountsEditFault (K.faults keeper.old) (K.faults keeper.new) result }
+        ensures content { OnOk result ((K.tells keeper.new).content ≡ option_map (apply_batch (difference_in P.weigh self.old edit.now)) (K.tells keeper.old).content) }
+        ensures journal { OnOk result ((K.tells keeper.new).journal ≡ option_map (λ batches. batches ++ difference_in P.weigh self.old edit.now ∷ []) (K.tells keeper.old).journal) }
+        ensures stays_open { StaysOpen (K.tells keeper.old) (K.tells keeper.new) }
+        ensures count { CountsEditFault (K.tells keeper.old).faults (K.tells keeper.new).faults result }
         ensures fault { IfErr result (IsFaultOf P.weigh self.old edit.now) }
         ensures same { OnErr result (self.new ≡ self.old) }
-        ensures same_content { OnErr result (K.content keeper.new ≡ K.content keeper.old) }
-        ensures same_journal { OnErr result (K.journal keeper.new ≡ K.journal keeper.old) }
+        ensures same_content { OnErr result ((K.tells keeper.new).content ≡ (K.tells keeper.old).content) }
+        ensures same_journal { OnErr result ((K.tells keeper.new).journal ≡ (K.tells keeper.old).journal) }
         ensures steps { steps.new ≤ steps.old + step_bound_in P.weigh self.old edit.now }
     {
         let plan = plan(self.alloc, &mut self.state, edit, steps)?;
@@ -245,21 +246,21 @@ impl<P: WeightPolicy + Drop> Cube<P> {
         keeper: &mut K,
     ) -> Result<Receipt, ImportFault>
         requires placed { All (IsPlaced self.old.schema.dims) seq.now.facts }
-        requires open { IsTrue (K.is_open keeper.old) }
+        requires open { IsTrue (K.tells keeper.old).is_open }
         ensures facts { OnOk result (self.new ≡ imported seq.now.facts self.old) }
         ensures accepted { OnOk result (refused_in_cube self.old seq.now ≡ None) }
         ensures few { OnOk result (row_count (rows_in P.weigh (imported seq.now.facts self.old)) ≤ MAX_ROWS) }
         ensures refreshed { IfOk result (λ receipt. receipt.refreshed ≡ import_refreshed_in P.weigh self.old seq.now.facts) }
         ensures ascending { IfOk result (λ receipt. ascends_from (λ id. id) 1 receipt.refreshed ≡ true) }
         ensures removed { IfOk result (λ receipt. receipt.removed ≡ None) }
-        ensures content { OnOk result (K.content keeper.new ≡ option_map (apply_batch (import_difference_in P.weigh self.old seq.now.facts)) (K.content keeper.old)) }
-        ensures journal { OnOk result (K.journal keeper.new ≡ option_map (λ batches. batches ++ import_difference_in P.weigh self.old seq.now.facts ∷ []) (K.journal keeper.old)) }
-        ensures stays_open { IsTrue (K.is_open keeper.new) }
-        ensures count { CountsImportFault (K.faults keeper.old) (K.faults keeper.new) result }
+        ensures content { OnOk result ((K.tells keeper.new).content ≡ option_map (apply_batch (import_difference_in P.weigh self.old seq.now.facts)) (K.tells keeper.old).content) }
+        ensures journal { OnOk result ((K.tells keeper.new).journal ≡ option_map (λ batches. batches ++ import_difference_in P.weigh self.old seq.now.facts ∷ []) (K.tells keeper.old).journal) }
+        ensures stays_open { StaysOpen (K.tells keeper.old) (K.tells keeper.new) }
+        ensures count { CountsImportFault (K.tells keeper.old).faults (K.tells keeper.new).faults result }
         ensures fault { IfErr result (IsImportFaultOf P.weigh self.old seq.now) }
         ensures same { OnErr result (self.new ≡ self.old) }
-        ensures same_content { OnErr result (K.content keeper.new ≡ K.content keeper.old) }
-        ensures same_journal { OnErr result (K.journal keeper.new ≡ K.journal keeper.old) }
+        ensures same_content { OnErr result ((K.tells keeper.new).content ≡ (K.tells keeper.old).content) }
+        ensures same_journal { OnErr result ((K.tells keeper.new).journal ≡ (K.tells keeper.old).journal) }
     {
         let space = self.schema.space();
         let shape = self.schema.shape();

@@ -3,6 +3,7 @@ ghost use Rattle.std.specs.Prelude.{◌≡◌, ◌++◌, ◌∷◌, [], None, tr
 ghost use Rattle.cube_model.specs.Ascending.{ascends_from};
 ghost use Rattle.cube_state.specs.State.{policy_in};
 ghost use Rattle.fact_keeper.specs.Batch.{apply_batch};
+ghost use Rattle.fact_keeper.specs.Keeper.{StaysOpen};
 ghost use Rattle.schema_text.specs.Growth.{IsGrowOf, dims_with};
 ghost use Rattle.schema_text.specs.Schema.{over_dims};
 ghost use Rattle.cube_core.specs.Cube.{CountsEditFault};
@@ -32,20 +33,20 @@ impl<P: WeightPolicy + Drop + Copy> Cube<P> {
     /// every error the cube, and what the keeper holds, are as they were.
     pub fn grow<K: Keeper>(&mut self, grow: &Grow, keeper: &mut K) -> Result<Receipt, EditFault>
         requires there { IsGrowOf self.old.schema.dims grow.now }
-        requires open { IsTrue (K.is_open keeper.old) }
+        requires open { IsTrue (K.tells keeper.old).is_open }
         ensures grown { OnOk result (self.new ≡ grown grow.now self.old) }
         ensures accepted { OnOk result (judge_growth_in P.weigh self.old grow.now ≡ None) }
         ensures refreshed { IfOk result (λ receipt. receipt.refreshed ≡ moved_in P.weigh self.old grow.now) }
         ensures ascending { IfOk result (λ receipt. ascends_from (λ id. id) 1 receipt.refreshed ≡ true) }
         ensures removed { IfOk result (λ receipt. receipt.removed ≡ None) }
-        ensures content { OnOk result (K.content keeper.new ≡ option_map (apply_batch (growth_difference_in P.weigh self.old grow.now)) (K.content keeper.old)) }
-        ensures journal { OnOk result (K.journal keeper.new ≡ option_map (λ batches. batches ++ growth_difference_in P.weigh self.old grow.now ∷ []) (K.journal keeper.old)) }
-        ensures stays_open { IsTrue (K.is_open keeper.new) }
-        ensures count { CountsEditFault (K.faults keeper.old) (K.faults keeper.new) result }
+        ensures content { OnOk result ((K.tells keeper.new).content ≡ option_map (apply_batch (growth_difference_in P.weigh self.old grow.now)) (K.tells keeper.old).content) }
+        ensures journal { OnOk result ((K.tells keeper.new).journal ≡ option_map (λ batches. batches ++ growth_difference_in P.weigh self.old grow.now ∷ []) (K.tells keeper.old).journal) }
+        ensures stays_open { StaysOpen (K.tells keeper.old) (K.tells keeper.new) }
+        ensures count { CountsEditFault (K.tells keeper.old).faults (K.tells keeper.new).faults result }
         ensures fault { IfErr result (IsGrowthFaultOf P.weigh self.old grow.now) }
         ensures same { OnErr result (self.new ≡ self.old) }
-        ensures same_content { OnErr result (K.content keeper.new ≡ K.content keeper.old) }
-        ensures same_journal { OnErr result (K.journal keeper.new ≡ K.journal keeper.old) }
+        ensures same_content { OnErr result ((K.tells keeper.new).content ≡ (K.tells keeper.old).content) }
+        ensures same_journal { OnErr result ((K.tells keeper.new).journal ≡ (K.tells keeper.old).journal) }
     {
         let schema = schema_with(self.alloc, &self.schema, grow)?;
         let growth = growth_to(self.alloc, &self.state, schema)?;

@@ -8,17 +8,35 @@ ghost use Rattle.fact_records.specs.Fields.{is_number_measure};
 ghost use Rattle.fact_records.specs.Shape.{AreMeasures, IsWeighable};
 ghost use Rattle.schema_text.specs.Draft.{policy_fault};
 ghost use Rattle.schema_text.specs.Fault.{IsCause};
-ghost use Rattle.schema_text.specs.Schema.{weight_of};
+ghost use Rattle.schema_text.specs.Schema.{weigh_of, weight_of};
 ghost use Rattle.schema_text.specs.SchemaText.{is_weight_word, number_measure_named, policy_among, policy_named};
 
 use crate::fault::LineFault;
 use crate::measures::has_name;
 use crate::name::{is_name, name_of};
 use crate::word::{PolicyWord, is_weight_word};
+use cell_weight::{CellStat, WeightPolicy};
 use cube_base::{Code, Memory, Name};
 use fact_records::{Kind, Measure, Shape};
 use std::alloc::Global;
 use text_lines::{field_at, is_text};
+
+impl WeightPolicy for PolicyWord {
+    ghost use Rattle.std.proofs.Common.{arith};
+    ghost use Rattle.schema_text.specs.declared.word.PolicyWord.TheVariants.{Uniform, Count, Weight};
+
+    ghost weigh = { weigh_of };
+
+    ghost bound = { elim [ Uniform ↦ λ s is. omega arith | Count ↦ λ s is. omega arith | Weight measure ↦ λ s is. omega (arith, is.light) ] };
+
+    fn weight(&self, s: CellStat) -> u64 {
+        match self {
+            PolicyWord::Uniform => 1,
+            PolicyWord::Count => s.count,
+            PolicyWord::Weight(_) => s.sum,
+        }
+    }
+}
 
 /// A policy as its line gives it, before the measures are known.
 #[derive(Drop)]

@@ -10,12 +10,12 @@ use Rattle.cube_core.proofs.cube.Cube.edit.Goals as goal
 pub returns-clause-content : goal.returns-clause-content
 returns-clause-content g c =
     let changes = difference-told g.P.WeightPolicy.weigh c.self.inside.schema c.self.inside.state c.self.invariant c.args.self.now c.self.view_is c.args.edit.now c.in_ok-plan.plan.batch c.in_ok-plan.ensures.batch in
-    c.in_ok-refreshed.ensures.content ∙ ap (λ b. option_map (apply_batch b) (g.K.Keeper.content c.args.keeper.now)) changes
+    c.in_ok-refreshed.ensures.content ∙ ap (λ b. option_map (apply_batch b) (g.K.Keeper.tells c.args.keeper.now).content) changes
 
 pub returns-clause-journal : goal.returns-clause-journal
 returns-clause-journal g c =
     let changes = difference-told g.P.WeightPolicy.weigh c.self.inside.schema c.self.inside.state c.self.invariant c.args.self.now c.self.view_is c.args.edit.now c.in_ok-plan.plan.batch c.in_ok-plan.ensures.batch in
-    c.in_ok-refreshed.ensures.journal ∙ ap (λ b. option_map (λ batches. batches ++ b ∷ []) (g.K.Keeper.journal c.args.keeper.now)) changes
+    c.in_ok-refreshed.ensures.journal ∙ ap (λ b. option_map (λ batches. batches ++ b ∷ []) (g.K.Keeper.tells c.args.keeper.now).journal) changes
 
 pub returns-clause-facts : goal.returns-clause-facts
 returns-clause-facts g c =

@@ -7,7 +7,7 @@ use Rattle.cube_core.proofs.GrowthTold.{batch-told, keeper-counted, keeper-told,
 use Rattle.cube_core.proofs.cube.Cube.grow.Goals as goal
 
 pub returns-in-Err-clause-count : goal.returns-in-Err-clause-count
-returns-in-Err-clause-count g c = rw c.from.ensures (keeper-counted Receipt (g.K.Keeper.faults c.args.keeper.now) (g.K.Keeper.faults c.commit.new.self) c.in-Err.fault c.in-Err.ensures.count)
+returns-in-Err-clause-count g c = rw c.from.ensures (keeper-counted Receipt (g.K.Keeper.tells c.args.keeper.now).faults (g.K.Keeper.tells c.commit.new.self).faults c.in-Err.fault c.in-Err.ensures.count)
 
 pub returns-in-Err-clause-fault : goal.returns-in-Err-clause-fault
 returns-in-Err-clause-fault g c =
@@ -23,13 +23,13 @@ pub returns-clause-content : goal.returns-clause-content
 returns-clause-content g c =
     let changes =
     batch-told g.P.WeightPolicy.weigh c.self.inside.schema c.self.inside.state c.self.invariant c.args.self.now c.self.view_is c.args.grow.now c.in_ok-schema.schema c.in_ok-schema.ensures.schema c.in_ok-growth.growth.batch c.in_ok-growth.ensures.batch in
-    c.in_default.ensures.applied ∙ ap (λ b. option_map (apply_batch b) (g.K.Keeper.content c.args.keeper.now)) changes
+    c.in_default.ensures.applied ∙ ap (λ b. option_map (apply_batch b) (g.K.Keeper.tells c.args.keeper.now).content) changes
 
 pub returns-clause-journal : goal.returns-clause-journal
 returns-clause-journal g c =
     let changes =
     batch-told g.P.WeightPolicy.weigh c.self.inside.schema c.self.inside.state c.self.invariant c.args.self.now c.self.view_is c.args.grow.now c.in_ok-schema.schema c.in_ok-schema.ensures.schema c.in_ok-growth.growth.batch c.in_ok-growth.ensures.batch in
-    c.in_default.ensures.appended ∙ ap (λ b. option_map (λ batches. batches ++ b ∷ []) (g.K.Keeper.journal c.args.keeper.now)) changes
+    c.in_default.ensures.appended ∙ ap (λ b. option_map (λ batches. batches ++ b ∷ []) (g.K.Keeper.tells c.args.keeper.now).journal) changes
 
 pub returns-clause-accepted : goal.returns-clause-accepted
 returns-clause-accepted g c =
