@@ -122,7 +122,7 @@ impl Drill {
         ensures grows { OnOk result (self.new.refreshed ≤ self.old.refreshed + MAX_FACTS) }
         ensures refuses { OnOk result (self.new.refused ≤ self.old.refused + 1) }
     {
-        let refreshed = edit_cube::<Brand, ByCount>(&mut self.cube, edit, Blank::new(1))?;
+        let refreshed = edit_cube::<Brand>(&mut self.cube, edit, Blank::new(1))?;
         match refreshed {
             Some(count) => self.refreshed += count,
             None => self.refused += 1,

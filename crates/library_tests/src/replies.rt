@@ -8,7 +8,7 @@ use cell_weight::Uniform;
 use cube_base::{Code, Pairs};
 use group_sum::Terms;
 use schema_text::Schema;
-use script_text::{Reply, write_reply};
+use script_text::{Answer, AskWord, IdWord, RegionWord, Reply, write_reply};
 use std::alloc::Global;
 use std::test::Fail;
 
@@ -21,9 +21,12 @@ fn rows_reply(alloc: Global, schema: &Schema) -> Result<Reply, Fail>
     ensures { IfOk result (NamesCells schema.now.dims) }
 {
     let spread = spread_alone(alloc, schema.space(), &Uniform, 0)?;
-    Ok(Reply::Rows {
-        den: spread.den(),
-        rows: Pairs::from(spread.rows().to_vec(alloc)?),
+    Ok(Reply::Told {
+        word: AskWord::OfId(IdWord::Rows),
+        fields: Answer::Rows {
+            den: spread.den(),
+            rows: Pairs::from(spread.rows().to_vec(alloc)?),
+        },
     })
 }
 
@@ -38,14 +41,17 @@ fn is_written(alloc: Global, schema: &Schema, reply: &Reply, text: &str) -> Resu
 /// Whether replies of one field are written.
 fn are_short_written(alloc: Global, schema: &Schema) -> Result<bool, Fail> {
     Ok(
-        is_written(alloc, schema, &Reply::Ok(12), "ok\t12\n")?
-            && is_written(alloc, schema, &Reply::Error(Code::Node), "error\tnode\n")?,
+        is_written(alloc, schema, &Reply::Done(12), "ok\t12\n")?
+            && is_written(alloc, schema, &Reply::Refused(Code::Node), "error\tnode\n")?,
     )
 }
 
 /// Whether a reply without terms is written.
 fn are_terms_written(alloc: Global, schema: &Schema) -> Result<bool, Fail> {
-    let terms = Reply::Terms(Terms::empty(alloc, 1));
+    let terms = Reply::Told {
+        word: AskWord::OfRegion(RegionWord::Terms),
+        fields: Answer::Terms(Terms::empty(alloc, 1)),
+    };
     is_written(alloc, schema, &terms, "terms\t0\n")
 }
 

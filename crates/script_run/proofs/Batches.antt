@@ -76,14 +76,7 @@ batches-no_edit weigh schema state (Err refusal) asks = refl
 batches-no_edit weigh schema state (Ok line.Nothing) asks = refl
 batches-no_edit weigh schema state (Ok (line.Edit edit)) asks = cc
 batches-no_edit weigh schema state (Ok (line.Grow grow)) asks = cc
-batches-no_edit weigh schema state (Ok (line.Count region)) asks = refl
-batches-no_edit weigh schema state (Ok (line.Sum measure region)) asks = refl
-batches-no_edit weigh schema state (Ok (line.Avg measure region)) asks = refl
-batches-no_edit weigh schema state (Ok (line.Pool measure region)) asks = refl
-batches-no_edit weigh schema state (Ok (line.Terms region)) asks = refl
-batches-no_edit weigh schema state (Ok (line.Rows id)) asks = refl
-batches-no_edit weigh schema state (Ok (line.View view)) asks = refl
-batches-no_edit weigh schema state (Ok (line.Worlds region)) asks = refl
+batches-no_edit weigh schema state (Ok (line.Ask asked)) asks = refl
 
 -- so that of a line, before which nothing is gathered where it edits, one of these holds
 pub none_or_nothing : (weigh : CellStat → ℕ) (schema : SchemaValue) (state : State) (read : Result Line Code) (gathered : List (List ℕ)) → IsReadyFor gathered read → (gathered ≡ []) ⊎ (batches_from weigh schema state read ≡ [])

@@ -1,9 +1,9 @@
 -- Of the lines that are held whole, those that are done and those that are left.
 use Rattle.std.proofs.Common.{◌≡◌, ℕ, ◌+◌, ◌-◌, ◌≤◌, Ok, Err, List, [], ◌∷◌, ◌++◌, length, Option, refl, sym, ap, ◌∙◌, append-nil, append_assoc, arith}
 use Rattle.std.specs.Prelude.{⊤}
+use Rattle.cube_base.specs.Outside.{SinkTold}
 use Rattle.cube_model.specs.declared.statistic.CellStat.{CellStat}
-use Rattle.fact_keeper.specs.declared.content.Batch.{Batch}
-use Rattle.fact_keeper.specs.declared.content.Stored.{Stored}
+use Rattle.fact_keeper.specs.Keeper.{KeeperTold}
 use Rattle.line_cutter.specs.Pieces.{behind_line, last_line, rest_of, whole_lines}
 use Rattle.script_run.specs.declared.break_off.BreakOff.{BreakOff}
 use Rattle.script_run.specs.Progress.{Working}
@@ -55,19 +55,19 @@ pub record SomeDone {P : Type 0} (weigh : P → CellStat → ℕ) (held left : L
   pub rest : rest_of left ≡ rest_of held
   pub few : now.done + length left ≤ old.done + length held
 
-module _ {P K Q : Type 0} (weigh : P → CellStat → ℕ) (taken : K → Option (List ℕ)) (write_faults : K → ℕ) (content : Q → Option Stored) (journal : Q → Option (List Batch)) (keep_faults : Q → ℕ) where
+module _ {P K Q : Type 0} (weigh : P → CellStat → ℕ) (tells : K → SinkTold) (keeps_told : Q → KeeperTold) where
   -- the next is done
   pub some_done-next : {T : Type 0} (held left : List (List ℕ)) (line : List ℕ) (old between new : Working P) (out out_between out_after : K) (keeper keeper_between keeper_after : Q) (value : T)
-      → SomeDone weigh held left old between (sink_seen taken write_faults out out_between) (keeper_seen content journal keep_faults keeper keeper_between)
+      → SomeDone weigh held left old between (sink_seen tells out out_between) (keeper_seen keeps_told keeper keeper_between)
       → left ≡ line ∷ behind_line left → (length left ≡ 1 → ⊥)
-      → DoesLines weigh (line ∷ []) between new (sink_seen taken write_faults out_between out_after) (keeper_seen content journal keep_faults keeper_between keeper_after) (Ok value)
-      → SomeDone weigh held (behind_line left) old new (sink_seen taken write_faults out out_after) (keeper_seen content journal keep_faults keeper keeper_after)
+      → DoesLines weigh (line ∷ []) between new (sink_seen tells out_between out_after) (keeper_seen keeps_told keeper_between keeper_after) (Ok value)
+      → SomeDone weigh held (behind_line left) old new (sink_seen tells out out_after) (keeper_seen keeps_told keeper keeper_after)
   some_done-next held left line old between new out out_between out_after keeper keeper_between keeper_after value so_far first more next =
       let size = length_next left line first more in
       record {
         some = so_far.some ++ line ∷ [];
-        does = does_lines-ok weigh (so_far.some ++ line ∷ []) old new (sink_seen taken write_faults out out_after) (keeper_seen content journal keep_faults keeper keeper_after) value tt
-            (does_lines-append weigh taken write_faults content journal keep_faults tt so_far.some (line ∷ []) old between new out out_between out_after keeper keeper_between keeper_after (Ok value) so_far.does next);
+        does = does_lines-ok weigh (so_far.some ++ line ∷ []) old new (sink_seen tells out out_after) (keeper_seen keeps_told keeper keeper_after) value tt
+            (does_lines-append weigh tells keeps_told tt so_far.some (line ∷ []) old between new out out_between out_after keeper keeper_between keeper_after (Ok value) so_far.does next);
         whole = so_far.whole ∙ ap (λ l. so_far.some ++ l) (whole_next left line first more) ∙ sym (append_assoc so_far.some (line ∷ []) (whole_lines (behind_line left)));
         rest = rest_next left ∙ so_far.rest;
         few = omega (arith, so_far.few, next.count);
@@ -75,25 +75,25 @@ module _ {P K Q : Type 0} (weigh : P → CellStat → ℕ) (taken : K → Option
 
   -- it breaks off at the next
   pub some_done-broken : {T : Type 0} (held left : List (List ℕ)) (line : List ℕ) (old between new : Working P) (out out_between out_after : K) (keeper keeper_between keeper_after : Q) (off : BreakOff)
-      → SomeDone weigh held left old between (sink_seen taken write_faults out out_between) (keeper_seen content journal keep_faults keeper keeper_between)
+      → SomeDone weigh held left old between (sink_seen tells out out_between) (keeper_seen keeps_told keeper keeper_between)
       → left ≡ line ∷ behind_line left → (length left ≡ 1 → ⊥)
-      → DoesLines {T = T} weigh (line ∷ []) between new (sink_seen taken write_faults out_between out_after) (keeper_seen content journal keep_faults keeper_between keeper_after) (Err off)
-      → DoesLines {T = T} weigh (whole_lines held) old new (sink_seen taken write_faults out out_after) (keeper_seen content journal keep_faults keeper keeper_after) (Err off)
+      → DoesLines {T = T} weigh (line ∷ []) between new (sink_seen tells out_between out_after) (keeper_seen keeps_told keeper_between keeper_after) (Err off)
+      → DoesLines {T = T} weigh (whole_lines held) old new (sink_seen tells out out_after) (keeper_seen keeps_told keeper keeper_after) (Err off)
   some_done-broken held left line old between new out out_between out_after keeper keeper_between keeper_after off so_far first more next =
-      let sink = sink_seen taken write_faults out out_after in
-      let seen = keeper_seen content journal keep_faults keeper keeper_after in
+      let sink = sink_seen tells out out_after in
+      let seen = keeper_seen keeps_told keeper keeper_after in
       let later = whole_lines (behind_line left) in
       let all : whole_lines held ≡ (so_far.some ++ line ∷ []) ++ later =
       so_far.whole ∙ ap (λ l. so_far.some ++ l) (whole_next left line first more) ∙ sym (append_assoc so_far.some (line ∷ []) later) in
-      let here = does_lines-append weigh taken write_faults content journal keep_faults tt so_far.some (line ∷ []) old between new out out_between out_after keeper keeper_between keeper_after (Err off) so_far.does next in
+      let here = does_lines-append weigh tells keeps_told tt so_far.some (line ∷ []) old between new out out_between out_after keeper keeper_between keeper_after (Err off) so_far.does next in
       rw all (does_lines-cut weigh (so_far.some ++ line ∷ []) later old new sink seen off here)
 
   -- all are done
   pub some_done-all : {T : Type 0} (held left : List (List ℕ)) (old new : Working P) (out out_after : K) (keeper keeper_after : Q) (value : T)
-      → SomeDone weigh held left old new (sink_seen taken write_faults out out_after) (keeper_seen content journal keep_faults keeper keeper_after) → length left ≡ 1
-      → DoesLines weigh (whole_lines held) old new (sink_seen taken write_faults out out_after) (keeper_seen content journal keep_faults keeper keeper_after) (Ok value)
+      → SomeDone weigh held left old new (sink_seen tells out out_after) (keeper_seen keeps_told keeper keeper_after) → length left ≡ 1
+      → DoesLines weigh (whole_lines held) old new (sink_seen tells out out_after) (keeper_seen keeps_told keeper keeper_after) (Ok value)
   some_done-all held left old new out out_after keeper keeper_after value so_far one =
       let all : whole_lines held ≡ so_far.some = so_far.whole ∙ ap (λ l. so_far.some ++ l) (whole_last left one) ∙ append-nil so_far.some in
-      let sink = sink_seen taken write_faults out out_after in
-      let seen = keeper_seen content journal keep_faults keeper keeper_after in
+      let sink = sink_seen tells out out_after in
+      let seen = keeper_seen keeps_told keeper keeper_after in
       rw all (does_lines-ok weigh so_far.some old new sink seen tt value so_far.does)

@@ -1,10 +1,10 @@
 pub mod Batches
 pub mod Doing
+pub mod EndReads
 pub mod FrontRuns
 pub mod HeldLines
 pub mod Keeping
 pub mod KeptLines
-pub mod Measures
 pub mod PieceTurns
 pub mod Refusing
 pub mod ReplyEnds

@@ -13,7 +13,7 @@ use Rattle.cube_core.specs.declared.fault.EditFault.TheVariants as edit_fault
 use Rattle.cube_core.specs.Cube.{CountsEditFault, CubeValue, IsFaultOf, judge_in}
 use Rattle.cube_core.specs.Growth.{IsGrowthFaultOf, judge_growth_in}
 use Rattle.fact_keeper.specs.declared.content.Batch.{Batch}
-use Rattle.fact_keeper.specs.declared.content.Stored.{Stored}
+use Rattle.fact_keeper.specs.Keeper.{KeeperTold}
 use Rattle.script_text.specs.declared.reply.Reply.{Reply}
 use Rattle.script_text.specs.declared.reply.Reply.TheVariants as reply
 use Rattle.script_text.specs.Reply.{NamesCells}
@@ -44,8 +44,8 @@ growth_judged weigh cube grow edit_fault.KeepFault told = told
 growth_judged weigh cube grow edit_fault.Memory told = tt
 
 -- a keeper tells what it told before
-pub told_same : {Q : Type 0} (content : Q → Option Stored) (journal : Q → Option (List Batch)) (old new : Q) → content new ≡ content old → journal new ≡ journal old → told_of content journal new ≡ told_of content journal old
-told_same content journal old new same_content same_journal = rw (same_content, same_journal) refl
+pub told_same : {Q : Type 0} (tells : Q → KeeperTold) (old new : Q) → (tells new).content ≡ (tells old).content → (tells new).journal ≡ (tells old).journal → told_of tells new ≡ told_of tells old
+told_same tells old new same_content same_journal = rw (same_content, same_journal) refl
 
 -- What a line is answered that does this step and commits these batches, or why it is not done, where a cube and a keeper stand so
 -- before it and after it.
@@ -62,7 +62,7 @@ pub record IsAnswered {P : Type 0} (cube cube_after : CubeValue P) (before after
 -- What is judged so is refused, or a keeper failed, or memory was wanting: the cube and the keeper stand as before.
 pub not_done : {P : Type 0} (cube cube_after : CubeValue P) (before after : Told) (faults faults_after : ℕ) (judged : Option Code) (accepted : Step) (batch : Batch) (fault : EditFault)
     → IsJudged judged fault → cube_after ≡ cube → after ≡ before → CountsEditFault {R = Receipt} faults faults_after (Err fault)
-    → IsAnswered cube cube_after before after faults faults_after (option_map_or (λ refusal. replied (state_of cube) (reply.Error refusal)) judged accepted) (if is_none judged then batch ∷ [] else []) (reply_to fault)
+    → IsAnswered cube cube_after before after faults faults_after (option_map_or (λ refusal. replied (state_of cube) (reply.Refused refusal)) judged accepted) (if is_none judged then batch ∷ [] else []) (reply_to fault)
 not_done cube cube_after before after faults faults_after judged accepted batch (edit_fault.Code refusal) told same same_kept counts = record {
   reply = rw told refl;
   state = rw told same;

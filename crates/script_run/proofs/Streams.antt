@@ -2,10 +2,9 @@
 use Rattle.std.proofs.Common.{◌≡◌, ℕ, ◌+◌, ◌≤◌, Result, Ok, Err, List, ◌++◌, length, Option, ◌∙◌, subst, append_assoc, arith, length-append}
 use Rattle.std.specs.Prelude.{IfErr, OnOk}
 use Rattle.std.proofs.lemmas.Result.{IfErr-weaker, on_ok_weaker}
-use Rattle.cube_base.specs.Outside.{Rose}
+use Rattle.cube_base.specs.Outside.{Rose, SinkTold}
 use Rattle.cube_model.specs.declared.statistic.CellStat.{CellStat}
-use Rattle.fact_keeper.specs.declared.content.Batch.{Batch}
-use Rattle.fact_keeper.specs.declared.content.Stored.{Stored}
+use Rattle.fact_keeper.specs.Keeper.{KeeperTold}
 use Rattle.schema_text.specs.Schema.{SchemaValue}
 use Rattle.script_run.specs.declared.break_off.BreakOff.{BreakOff}
 use Rattle.script_run.specs.declared.break_off.BreakOff.TheVariants.{Write, SinkMemory, Memory, Keep}
@@ -73,41 +72,41 @@ does_lines-ok weigh more old new sink keeper value other does = record {
   other_cause = λ keeps. tt;
 }
 
-module _ {P K Q T : Type 0} (weigh : P → CellStat → ℕ) (taken : K → Option (List ℕ)) (write_faults : K → ℕ) (content : Q → Option Stored) (journal : Q → Option (List Batch)) (keep_faults : Q → ℕ) where
+module _ {P K Q T : Type 0} (weigh : P → CellStat → ℕ) (tells : K → SinkTold) (keeps_told : Q → KeeperTold) where
   -- lines are done, and then more
   pub does_lines-append : {Before : Type 0} (value : Before) (some more : List (List ℕ)) (old between new : Working P) (out out_between out_after : K) (keeper keeper_between keeper_after : Q) (result : Result T BreakOff)
-      → DoesLines weigh some old between (sink_seen taken write_faults out out_between) (keeper_seen content journal keep_faults keeper keeper_between) (Ok value)
-      → DoesLines weigh more between new (sink_seen taken write_faults out_between out_after) (keeper_seen content journal keep_faults keeper_between keeper_after) result
-      → DoesLines weigh (some ++ more) old new (sink_seen taken write_faults out out_after) (keeper_seen content journal keep_faults keeper keeper_after) result
+      → DoesLines weigh some old between (sink_seen tells out out_between) (keeper_seen keeps_told keeper keeper_between) (Ok value)
+      → DoesLines weigh more between new (sink_seen tells out_between out_after) (keeper_seen keeps_told keeper_between keeper_after) result
+      → DoesLines weigh (some ++ more) old new (sink_seen tells out out_after) (keeper_seen keeps_told keeper keeper_after) result
   does_lines-append value some more old between new out out_between out_after keeper keeper_between keeper_after result one two = record {
     policy = two.policy ∙ one.policy;
     keeps = two.keeps ∙ one.keeps;
     done = λ schema first lines start has.
-        subst (λ all. OnOk result (HasDone (weigh old.cube.policy) schema first all start (taken out_after) new)) (append_assoc lines some more)
-        (subst (λ p. HasDone (weigh p) schema first (lines ++ some) start (taken out_between) between → OnOk result (HasDone (weigh p) schema first ((lines ++ some) ++ more) start (taken out_after) new))
+        subst (λ all. OnOk result (HasDone (weigh old.cube.policy) schema first all start (tells out_after).taken new)) (append_assoc lines some more)
+        (subst (λ p. HasDone (weigh p) schema first (lines ++ some) start (tells out_between).taken between → OnOk result (HasDone (weigh p) schema first ((lines ++ some) ++ more) start (tells out_after).taken new))
         one.policy (two.done schema first (lines ++ some) start) (one.done schema first lines start has));
     broken = λ schema first lines start has.
-        subst (λ n. IfErr result (BreaksOff (run (weigh old.cube.policy) schema first (lines ++ (some ++ more))).replies (record { taken = start; taken_after = taken out_after; faults = n; faults_after = write_faults out_after }))) one.write
-        (subst (λ all. IfErr result (BreaksOff (run (weigh old.cube.policy) schema first all).replies (seen_since (sink_seen taken write_faults out_between out_after) start))) (append_assoc lines some more)
-        (subst (λ p. HasDone (weigh p) schema first (lines ++ some) start (taken out_between) between
-        → IfErr result (BreaksOff (run (weigh p) schema first ((lines ++ some) ++ more)).replies (seen_since (sink_seen taken write_faults out_between out_after) start)))
+        subst (λ n. IfErr result (BreaksOff (run (weigh old.cube.policy) schema first (lines ++ (some ++ more))).replies (record { taken = start; taken_after = (tells out_after).taken; faults = n; faults_after = (tells out_after).faults }))) one.write
+        (subst (λ all. IfErr result (BreaksOff (run (weigh old.cube.policy) schema first all).replies (seen_since (sink_seen tells out_between out_after) start))) (append_assoc lines some more)
+        (subst (λ p. HasDone (weigh p) schema first (lines ++ some) start (tells out_between).taken between
+        → IfErr result (BreaksOff (run (weigh p) schema first ((lines ++ some) ++ more)).replies (seen_since (sink_seen tells out_between out_after) start)))
         one.policy (two.broken schema first (lines ++ some) start) (one.done schema first lines start has)));
     kept = λ schema first lines start before keeps has kept.
-        subst (λ all. OnOk result (HasKept (weigh old.cube.policy) schema first all before (told_of content journal keeper_after) new.gathered)) (append_assoc lines some more)
-        (subst (λ p. HasDone (weigh p) schema first (lines ++ some) start (taken out_between) between → HasKept (weigh p) schema first (lines ++ some) before (told_of content journal keeper_between) between.gathered
-        → OnOk result (HasKept (weigh p) schema first ((lines ++ some) ++ more) before (told_of content journal keeper_after) new.gathered))
+        subst (λ all. OnOk result (HasKept (weigh old.cube.policy) schema first all before (told_of keeps_told keeper_after) new.gathered)) (append_assoc lines some more)
+        (subst (λ p. HasDone (weigh p) schema first (lines ++ some) start (tells out_between).taken between → HasKept (weigh p) schema first (lines ++ some) before (told_of keeps_told keeper_between) between.gathered
+        → OnOk result (HasKept (weigh p) schema first ((lines ++ some) ++ more) before (told_of keeps_told keeper_after) new.gathered))
         one.policy (two.kept schema first (lines ++ some) start before (one.keeps ∙ keeps)) (one.done schema first lines start has) (one.kept schema first lines start before keeps has kept));
     stopped = λ schema first lines start before keeps has kept.
-        subst (λ all. IfErr result (KeptAt (weigh old.cube.policy) schema first all before (told_of content journal keeper_after))) (append_assoc lines some more)
-        (subst (λ p. HasDone (weigh p) schema first (lines ++ some) start (taken out_between) between → HasKept (weigh p) schema first (lines ++ some) before (told_of content journal keeper_between) between.gathered
-        → IfErr result (KeptAt (weigh p) schema first ((lines ++ some) ++ more) before (told_of content journal keeper_after)))
+        subst (λ all. IfErr result (KeptAt (weigh old.cube.policy) schema first all before (told_of keeps_told keeper_after))) (append_assoc lines some more)
+        (subst (λ p. HasDone (weigh p) schema first (lines ++ some) start (tells out_between).taken between → HasKept (weigh p) schema first (lines ++ some) before (told_of keeps_told keeper_between) between.gathered
+        → IfErr result (KeptAt (weigh p) schema first ((lines ++ some) ++ more) before (told_of keeps_told keeper_after)))
         one.policy (two.stopped schema first (lines ++ some) start before (one.keeps ∙ keeps)) (one.done schema first lines start has) (one.kept schema first lines start before keeps has kept));
     count = on_ok_weaker result (λ (later : new.done ≡ between.done + length more). omega (arith, one.count, length-append some more)) two.count;
     ahead = on_ok_weaker result (λ (later : between.done + length new.gathered ≤ new.done + length between.gathered). omega (arith, one.ahead)) two.ahead;
     behind = IfErr-weaker result (IsBehind between.done (length between.gathered)) (IsBehind old.done (length old.gathered))
         (λ off behind. is_behind-before between.done (length between.gathered) old.done (length old.gathered) off one.ahead behind) two.behind;
-    write = on_ok_weaker result (λ (same : write_faults out_after ≡ write_faults out_between). same ∙ one.write) two.write;
-    keep = on_ok_weaker result (λ (same : keep_faults keeper_after ≡ keep_faults keeper_between). same ∙ one.keep) two.keep;
-    cause = IfErr-weaker result _ _ (λ off cause told. subst (λ n. Rose n (keep_faults keeper_after)) one.keep (cause told)) two.cause;
+    write = on_ok_weaker result (λ (same : (tells out_after).faults ≡ (tells out_between).faults). same ∙ one.write) two.write;
+    keep = on_ok_weaker result (λ (same : (keeps_told keeper_after).faults ≡ (keeps_told keeper_between).faults). same ∙ one.keep) two.keep;
+    cause = IfErr-weaker result _ _ (λ off cause told. subst (λ n. Rose n ((keeps_told keeper_after).faults)) one.keep (cause told)) two.cause;
     other_cause = λ keeps. IfErr-weaker result _ _ (λ off cause not_told. cause not_told ∙ one.keep) (two.other_cause (one.keeps ∙ keeps));
   }

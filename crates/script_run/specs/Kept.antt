@@ -26,7 +26,8 @@ batches_of weigh schema state (line.Edit edit) =
     if is_none (judge (policy_in weigh schema) (shape_of schema) state.dims edit state.facts) then difference (policy_in weigh schema) state.dims edit state.facts ∷ [] else []
 batches_of weigh schema state (line.Grow grow) =
     if is_none (judge_growth (policy_in weigh schema) state.dims state.facts grow) then growth_difference (policy_in weigh schema) (schema_at schema state) (dims_with grow state.dims) state.facts ∷ [] else []
-batches_of weigh schema state said = []
+batches_of weigh schema state line.Nothing = []
+batches_of weigh schema state (line.Ask asked) = []
 
 abbrev pub batches_from : (CellStat → ℕ) → SchemaValue → State → Result Line Code → List Batch
 batches_from weigh schema state (Ok said) = batches_of weigh schema state said

@@ -2,7 +2,8 @@
 use Rattle.std.specs.Prelude.{◌≡◌, ℕ, List, length, drop, ⊤, Option, Some, None, IsSomeAnd}
 use Rattle.std.specs.Io.{StartsWith}
 use Rattle.std.specs.Io.KnownBytes.{Keeps}
-use Rattle.cube_base.specs.Outside.{Rose}
+use Rattle.cube_base.specs.Outside.{Rose, SinkTold, SourceTold}
+use Rattle.fact_keeper.specs.Keeper.{KeeperTold}
 use Rattle.fact_keeper.specs.declared.content.Batch.{Batch}
 use Rattle.fact_keeper.specs.declared.content.Stored.{Stored}
 
@@ -14,12 +15,12 @@ pub record SourceSeen : Type 0 where
   pub faults_after : ℕ
 
 -- what a source tells of a call
-abbrev pub source_seen : {S : Type 0} → (S → Option (List ℕ)) → (S → ℕ) → S → S → SourceSeen
-source_seen left faults source source_after = record {
-  left = left source;
-  left_after = left source_after;
-  faults = faults source;
-  faults_after = faults source_after;
+abbrev pub source_seen : {S : Type 0} → (S → SourceTold) → S → S → SourceSeen
+source_seen tells source source_after = record {
+  left = (tells source).left;
+  left_after = (tells source_after).left;
+  faults = (tells source).faults;
+  faults_after = (tells source_after).faults;
 }
 
 -- no fault of the source was met
@@ -38,12 +39,12 @@ pub record SinkSeen : Type 0 where
   pub faults_after : ℕ
 
 -- what a sink tells of a call
-abbrev pub sink_seen : {K : Type 0} → (K → Option (List ℕ)) → (K → ℕ) → K → K → SinkSeen
-sink_seen taken faults sink sink_after = record {
-  taken = taken sink;
-  taken_after = taken sink_after;
-  faults = faults sink;
-  faults_after = faults sink_after;
+abbrev pub sink_seen : {K : Type 0} → (K → SinkTold) → K → K → SinkSeen
+sink_seen tells sink sink_after = record {
+  taken = (tells sink).taken;
+  taken_after = (tells sink_after).taken;
+  faults = (tells sink).faults;
+  faults_after = (tells sink_after).faults;
 }
 
 -- what a sink tells of several calls: what it had taken at their start, and the faults of the last
@@ -72,8 +73,8 @@ pub record Told : Type 0 where
   pub content : Option Stored
   pub journal : Option (List Batch)
 
-abbrev pub told_of : {Q : Type 0} → (Q → Option Stored) → (Q → Option (List Batch)) → Q → Told
-told_of content journal keeper = record { content = content keeper; journal = journal keeper }
+abbrev pub told_of : {Q : Type 0} → (Q → KeeperTold) → Q → Told
+told_of tells keeper = record { content = (tells keeper).content; journal = (tells keeper).journal }
 
 -- of a keeper before a call and after it, with the number of faults
 pub record KeeperSeen : Type 0 where
@@ -82,12 +83,26 @@ pub record KeeperSeen : Type 0 where
   pub faults : ℕ
   pub faults_after : ℕ
 
-abbrev pub keeper_seen : {Q : Type 0} → (Q → Option Stored) → (Q → Option (List Batch)) → (Q → ℕ) → Q → Q → KeeperSeen
-keeper_seen content journal faults keeper keeper_after = record {
-  told = told_of content journal keeper;
-  told_after = told_of content journal keeper_after;
-  faults = faults keeper;
-  faults_after = faults keeper_after;
+abbrev pub keeper_seen : {Q : Type 0} → (Q → KeeperTold) → Q → Q → KeeperSeen
+keeper_seen tells keeper keeper_after = record {
+  told = told_of tells keeper;
+  told_after = told_of tells keeper_after;
+  faults = (tells keeper).faults;
+  faults_after = (tells keeper_after).faults;
+}
+
+-- what is seen of the source, the sink and the keeper
+pub record SeenAll : Type 0 where
+  pub source : SourceSeen
+  pub sink : SinkSeen
+  pub keeper : KeeperSeen
+
+-- what all three tell of a call
+abbrev pub seen_of : {S K Q : Type 0} → (S → SourceTold) → (K → SinkTold) → (Q → KeeperTold) → S → S → K → K → Q → Q → SeenAll
+seen_of source_tells sink_tells keeper_tells source source_after sink sink_after keeper keeper_after = record {
+  source = source_seen source_tells source source_after;
+  sink = sink_seen sink_tells sink sink_after;
+  keeper = keeper_seen keeper_tells keeper keeper_after;
 }
 
 -- no fault of the keeper was met

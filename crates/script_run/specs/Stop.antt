@@ -18,14 +18,7 @@ abbrev pub edits : Line → Bool
 edits line.Nothing = false
 edits (line.Edit edit) = true
 edits (line.Grow grow) = true
-edits (line.Count region) = false
-edits (line.Sum measure region) = false
-edits (line.Avg measure region) = false
-edits (line.Pool measure region) = false
-edits (line.Terms region) = false
-edits (line.Rows id) = false
-edits (line.View view) = false
-edits (line.Worlds region) = false
+edits (line.Ask asked) = false
 
 -- whether one that was read does; a line that is refused does not
 abbrev pub is_edit : Result Line Code → Bool
@@ -43,7 +36,7 @@ IsStopOf committed before after KeepFault = Rose before after × (length committ
 
 -- the reply to an edit or a growth that a cube refuses, where that has one
 abbrev pub reply_to : EditFault → Result Reply LineStop
-reply_to (edit_fault.Code refusal) = Ok (reply.Error refusal)
-reply_to (edit_fault.Rows would) = Ok (reply.Error code.Rows)
+reply_to (edit_fault.Code refusal) = Ok (reply.Refused refusal)
+reply_to (edit_fault.Rows would) = Ok (reply.Refused code.Rows)
 reply_to edit_fault.KeepFault = Err KeepFault
 reply_to edit_fault.Memory = Err Memory

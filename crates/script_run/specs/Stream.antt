@@ -7,6 +7,7 @@ use Rattle.schema_text.specs.Schema.{SchemaValue}
 use Rattle.text_lines.specs.Text.{lines_of}
 use Rattle.line_cutter.specs.declared.input.InputStop.{InputStop}
 use Rattle.line_cutter.specs.declared.input.InputStop.TheVariants as input_stop
+use Rattle.line_cutter.specs.Input.{EndsOnce}
 use Rattle.line_cutter.specs.Pieces.{ended_lines, lf_count}
 use Rattle.line_cutter.specs.Reading.{PIECE_LIMIT}
 use Rattle.script_run.specs.declared.break_off.BreakOff.{BreakOff}
@@ -16,7 +17,7 @@ use Rattle.script_run.specs.declared.streaming.StreamStop.TheVariants.{Broke, Re
 use Rattle.script_run.specs.Kept.{Commits, HasKept, IsBehind, KeptAt, batches, is_keep}
 use Rattle.script_run.specs.Progress.{BreaksOff, Done, HasDone, Working}
 use Rattle.script_run.specs.Run.{Outcome, State, run}
-use Rattle.script_run.specs.Seen.{KeepFailed, KeeperSeen, NoKeepFault, NoReadFault, NoWriteFault, ReadFailed, SinkSeen, SourceSeen, Told, seen_since}
+use Rattle.script_run.specs.Seen.{KeepFailed, KeeperSeen, NoKeepFault, NoReadFault, NoWriteFault, ReadFailed, SeenAll, SinkSeen, SourceSeen, Told, seen_since}
 use Rattle.script_run.specs.Written.{Answered}
 
 -- What a call does that does these lines behind those that are done: the cube at work, the sink and the keeper before it and after it.
@@ -52,12 +53,6 @@ outcome_on ground lines = run ground.weigh ground.schema ground.first lines
 
 abbrev pub batches_on : Ground → List (List ℕ) → List Batch
 batches_on ground lines = batches ground.weigh ground.schema ground.first lines
-
--- what is seen of the source, the sink and the keeper
-pub record SeenAll : Type 0 where
-  pub source : SourceSeen
-  pub sink : SinkSeen
-  pub keeper : KeeperSeen
 
 -- What these lines commit was committed, where the keeper keeps.
 pub record CommitsOn (ground : Ground) (lines : List (List ℕ)) (keeper : KeeperSeen) : Type 0 where
@@ -119,6 +114,11 @@ pub record StreamedTooMuch (ground : Ground) (text : List ℕ) (room : ℕ) (see
   pub bytes : Consumes seen.source.left seen.source.left_after (taken ++ byte ∷ [])
   pub all : length taken ≡ room
   pub answered : AnsweredTaken ground text taken seen done
+
+-- at most one read gives no byte, and none does of an input that had ended
+abbrev pub EndsFrom : Bool → ℕ → ℕ → Type 0
+EndsFrom true before after = after ≡ before
+EndsFrom false before after = EndsOnce before after
 
 -- why it stops where no piece came, and so many lines are done
 abbrev pub stop_of : InputStop → ℕ → StreamStop

@@ -1,7 +1,8 @@
 -- Where the run of a script that comes in pieces stands between two of them.
 use Rattle.std.specs.Prelude.{◌≡◌, ℕ, ◌+◌, ◌≤◌, true, false, List, ◌++◌, ◌⊎◌, [], length, if◌then◌else◌, IfErr, IfOk, OnOk, Option, Result, Err}
 use Rattle.std.specs.Io.KnownBytes.{Consumes, IsAtEnd}
-use Rattle.cube_base.specs.Outside.{Rose}
+use Rattle.cube_base.specs.Outside.{Rose, SinkTold, SourceTold}
+use Rattle.fact_keeper.specs.Keeper.{KeeperTold}
 use Rattle.cube_model.specs.declared.statistic.CellStat.{CellStat}
 use Rattle.line_cutter.specs.Pieces.{pieces_of, rest_of, whole_lines}
 use Rattle.line_cutter.specs.Reading.{Reading}
@@ -11,8 +12,8 @@ use Rattle.script_run.specs.declared.streaming.StreamStop.{StreamStop}
 use Rattle.script_run.specs.Kept.{Commits, HasKept, IsBehind, KeptAt, batches, is_keep}
 use Rattle.script_run.specs.Progress.{BreaksOff, Done, HasDone, Working}
 use Rattle.script_run.specs.Run.{State, run}
-use Rattle.script_run.specs.Seen.{KeepFailed, KeeperSeen, NoKeepFault, SinkSeen, Told, seen_since}
-use Rattle.script_run.specs.Stream.{EndsInLast, EndsStream, Ground, SeenAll, is_keep_stop}
+use Rattle.script_run.specs.Seen.{KeepFailed, KeeperSeen, NoKeepFault, SeenAll, SinkSeen, Told, seen_since, told_of}
+use Rattle.script_run.specs.Stream.{EndsInLast, EndsStream, Ground, is_keep_stop}
 
 -- what the source, the sink and the keeper tell at one time
 pub record Outside : Type 0 where
@@ -51,14 +52,14 @@ pub record Streaming {P : Type 0} (weigh : P → CellStat → ℕ) (ground : Gro
   pub no_write_fault : now.write_faults ≡ start.write_faults
 
 -- what they tell of their objects
-abbrev pub outside_of : {S K Q : Type 0} → (S → Option (List ℕ)) → (S → ℕ) → (K → Option (List ℕ)) → (K → ℕ) → (Q → Told) → (Q → ℕ) → S → K → Q → Outside
-outside_of left read_faults taken write_faults told keep_faults source sink keeper = record {
-  left = left source;
-  read_faults = read_faults source;
-  taken = taken sink;
-  write_faults = write_faults sink;
-  told = told keeper;
-  keep_faults = keep_faults keeper;
+abbrev pub outside_of : {S K Q : Type 0} → (S → SourceTold) → (K → SinkTold) → (Q → KeeperTold) → S → K → Q → Outside
+outside_of source_tells sink_tells keeper_tells source sink keeper = record {
+  left = (source_tells source).left;
+  read_faults = (source_tells source).faults;
+  taken = (sink_tells sink).taken;
+  write_faults = (sink_tells sink).faults;
+  told = told_of keeper_tells keeper;
+  keep_faults = (keeper_tells keeper).faults;
 }
 
 -- at most so many pieces are still taken

@@ -4,11 +4,11 @@
 mod break_off;
 mod laws;
 mod outbox;
-mod questions;
 mod script;
 mod script_run;
 mod streaming;
 
 pub use break_off::BreakOff;
 pub use laws::{lines_do_what_their_fronts_do, run_in_two_parts};
+pub use script::{LineStop, do_read, is_edit, is_refusal, read};
 pub use streaming::{StreamStop, run_stream};

@@ -89,13 +89,13 @@ impl Outbox {
 
     /// Writes the replies. On an error the sink took a part of them, and they are there as before.
     pub fn send<K: Sink>(&mut self, out: &mut K) -> Result<(), CutOff>
-        ensures bytes { OnOk result (Appends (K.taken out.old) (K.taken out.new) (concat self.old)) }
+        ensures bytes { OnOk result (Appends (K.tells out.old).taken (K.tells out.new).taken (concat self.old)) }
         ensures empty { OnOk result (self.new ≡ []) }
-        ensures count { OnOk result (K.faults out.new ≡ K.faults out.old) }
+        ensures count { OnOk result ((K.tells out.new).faults ≡ (K.tells out.old).faults) }
         ensures same { OnErr result (self.new ≡ self.old) }
         ensures within { IfErr result (λ cut. cut.whole < length self.old) }
-        ensures cut { IfErr result (λ cut. Wrote (K.taken out.old) (K.taken out.new) (Broken self.old (cut.whole + 1))) }
-        ensures cause { IfErr result (λ cut. CountsCut (sink_seen K.taken K.faults out.old out.new) cut.error) }
+        ensures cut { IfErr result (λ cut. Wrote (K.tells out.old).taken (K.tells out.new).taken (Broken self.old (cut.whole + 1))) }
+        ensures cause { IfErr result (λ cut. CountsCut (sink_seen K.tells out.old out.new) cut.error) }
     {
         let mut taken = 0;
         if let Err(error) = write_from(out, &self.text, &mut taken) {

@@ -2,7 +2,8 @@
 ghost use Rattle.std.specs.Prelude.{◌≡◌, ◌<◌, if◌then◌else◌, IfErr, IfOk, IfSome, IsTrue, OnErr, OnOk, Some};
 ghost use Rattle.fact_records.specs.Valid.{IsEditOf};
 ghost use Rattle.schema_text.specs.Growth.{IsGrowOf};
-ghost use Rattle.schema_text.specs.Schema.{shape_of};
+ghost use Rattle.schema_text.specs.Schema.{shape_of, weigh_of};
+ghost use Rattle.fact_keeper.specs.Keeper.{StaysOpen};
 ghost use Rattle.script_text.specs.declared.line.Line.TheVariants as line;
 ghost use Rattle.script_text.specs.LineOf.{IsLineOf};
 ghost use Rattle.script_text.specs.Reply.{NamesCells};
@@ -12,15 +13,14 @@ ghost use Rattle.script_run.specs.Run.{cube_at, edited, growth, refusals_in, sta
 ghost use Rattle.script_run.specs.Seen.{told_of};
 ghost use Rattle.script_run.specs.Stop.{IsStopOf, is_edit, reply_to};
 
-use crate::questions::answer;
-use cell_weight::WeightPolicy;
 use cube_base::{Code, Memory};
 use cube_core::{Cube, EditFault};
 use fact_keeper::Keeper;
 use fact_records::Edit;
 use region_algebra::Grow;
 use region_index::Steps;
-use schema_text::Schema;
+use schema_text::{PolicyWord, Schema};
+use script_answers::reply;
 use script_text::{Line, LineFault, Reply, read_line};
 use std::alloc::Global;
 use std::marker::Brand;
@@ -67,48 +67,48 @@ pub fn is_edit(read: &Result<Line, Code>) -> bool
 
 /// Does a line that was read, commits its batch to the keeper, which must be open, where it is an edit or a growth that is accepted, and
 /// gives its reply, if it has one. An error leaves the cube and what the keeper holds as they were.
-pub fn do_read<P: WeightPolicy + Drop + Copy, Q: Keeper>(
+pub fn do_read<Q: Keeper>(
     alloc: Global,
-    cube: &mut Cube<P>,
+    cube: &mut Cube<PolicyWord>,
     read: &Result<Line, Code>,
     keeper: &mut Q,
 ) -> Result<Option<Reply>, LineStop>
     requires within { IfOk read.now (IsLineOf cube.old.schema) }
-    requires open { IsTrue (Q.is_open keeper.old) }
-    ensures reply { IfOk result (λ reply. reply ≡ (step_from (P.weigh cube.old.policy) cube.old.schema (state_of cube.old) read.now).reply) }
-    ensures state { OnOk result (cube.new ≡ cube_at cube.old (step_from (P.weigh cube.old.policy) cube.old.schema (state_of cube.old) read.now).state) }
+    requires open { IsTrue (Q.tells keeper.old).is_open }
+    ensures reply { IfOk result (λ reply. reply ≡ (step_from (weigh_of cube.old.policy) cube.old.schema (state_of cube.old) read.now).reply) }
+    ensures state { OnOk result (cube.new ≡ cube_at cube.old (step_from (weigh_of cube.old.policy) cube.old.schema (state_of cube.old) read.now).state) }
     ensures cells { IfOk result (λ reply. IfSome reply (NamesCells cube.new.schema.dims)) }
     ensures same { OnErr result (cube.new ≡ cube.old) }
-    ensures kept { OnOk result (Commits (batches_from (P.weigh cube.old.policy) cube.old.schema (state_of cube.old) read.now) (told_of Q.content Q.journal keeper.old) (told_of Q.content Q.journal keeper.new)) }
-    ensures same_kept { OnErr result (told_of Q.content Q.journal keeper.new ≡ told_of Q.content Q.journal keeper.old) }
-    ensures count { OnOk result (Q.faults keeper.new ≡ Q.faults keeper.old) }
-    ensures stop { IfErr result (IsStopOf (batches_from (P.weigh cube.old.policy) cube.old.schema (state_of cube.old) read.now) (Q.faults keeper.old) (Q.faults keeper.new)) }
-    ensures stays_open { IsTrue (Q.is_open keeper.new) }
+    ensures kept { OnOk result (Commits (batches_from (weigh_of cube.old.policy) cube.old.schema (state_of cube.old) read.now) (told_of Q.tells keeper.old) (told_of Q.tells keeper.new)) }
+    ensures same_kept { OnErr result (told_of Q.tells keeper.new ≡ told_of Q.tells keeper.old) }
+    ensures count { OnOk result ((Q.tells keeper.new).faults ≡ (Q.tells keeper.old).faults) }
+    ensures stop { IfErr result (IsStopOf (batches_from (weigh_of cube.old.policy) cube.old.schema (state_of cube.old) read.now) (Q.tells keeper.old).faults (Q.tells keeper.new).faults) }
+    ensures stays_open { StaysOpen (Q.tells keeper.old) (Q.tells keeper.new) }
 {
     match read {
         Ok(said) => do_said(alloc, cube, said, keeper),
-        Err(code) => Ok(Some(Reply::Error(*code))),
+        Err(code) => Ok(Some(Reply::Refused(*code))),
     }
 }
 
 /// Does what a line says.
-fn do_said<P: WeightPolicy + Drop + Copy, Q: Keeper>(
+fn do_said<Q: Keeper>(
     alloc: Global,
-    cube: &mut Cube<P>,
+    cube: &mut Cube<PolicyWord>,
     said: &Line,
     keeper: &mut Q,
 ) -> Result<Option<Reply>, LineStop>
     requires within { IsLineOf cube.old.schema said.now }
-    requires open { IsTrue (Q.is_open keeper.old) }
-    ensures reply { IfOk result (λ reply. reply ≡ (step_of (P.weigh cube.old.policy) cube.old.schema (state_of cube.old) said.now).reply) }
-    ensures state { OnOk result (cube.new ≡ cube_at cube.old (step_of (P.weigh cube.old.policy) cube.old.schema (state_of cube.old) said.now).state) }
+    requires open { IsTrue (Q.tells keeper.old).is_open }
+    ensures reply { IfOk result (λ reply. reply ≡ (step_of (weigh_of cube.old.policy) cube.old.schema (state_of cube.old) said.now).reply) }
+    ensures state { OnOk result (cube.new ≡ cube_at cube.old (step_of (weigh_of cube.old.policy) cube.old.schema (state_of cube.old) said.now).state) }
     ensures cells { IfOk result (λ reply. IfSome reply (NamesCells cube.new.schema.dims)) }
     ensures same { OnErr result (cube.new ≡ cube.old) }
-    ensures kept { OnOk result (Commits (batches_of (P.weigh cube.old.policy) cube.old.schema (state_of cube.old) said.now) (told_of Q.content Q.journal keeper.old) (told_of Q.content Q.journal keeper.new)) }
-    ensures same_kept { OnErr result (told_of Q.content Q.journal keeper.new ≡ told_of Q.content Q.journal keeper.old) }
-    ensures count { OnOk result (Q.faults keeper.new ≡ Q.faults keeper.old) }
-    ensures stop { IfErr result (IsStopOf (batches_of (P.weigh cube.old.policy) cube.old.schema (state_of cube.old) said.now) (Q.faults keeper.old) (Q.faults keeper.new)) }
-    ensures stays_open { IsTrue (Q.is_open keeper.new) }
+    ensures kept { OnOk result (Commits (batches_of (weigh_of cube.old.policy) cube.old.schema (state_of cube.old) said.now) (told_of Q.tells keeper.old) (told_of Q.tells keeper.new)) }
+    ensures same_kept { OnErr result (told_of Q.tells keeper.new ≡ told_of Q.tells keeper.old) }
+    ensures count { OnOk result ((Q.tells keeper.new).faults ≡ (Q.tells keeper.old).faults) }
+    ensures stop { IfErr result (IsStopOf (batches_of (weigh_of cube.old.policy) cube.old.schema (state_of cube.old) said.now) (Q.tells keeper.old).faults (Q.tells keeper.new).faults) }
+    ensures stays_open { StaysOpen (Q.tells keeper.old) (Q.tells keeper.new) }
 {
     match said {
         Line::Edit(edit) => match do_edit(cube, edit, keeper) {
@@ -119,52 +119,53 @@ fn do_said<P: WeightPolicy + Drop + Copy, Q: Keeper>(
             Ok(reply) => Ok(Some(reply)),
             Err(stop) => Err(stop),
         },
-        other => Ok(answer(alloc, cube, other)?),
+        Line::Ask(question) => Ok(Some(reply(alloc, cube, question)?)),
+        Line::Nothing => Ok(None),
     }
 }
 
 /// Does an edit: `ok` with the number of the facts that it refreshed, or why it is refused.
-fn do_edit<P: WeightPolicy + Drop, Q: Keeper>(
-    cube: &mut Cube<P>,
+fn do_edit<Q: Keeper>(
+    cube: &mut Cube<PolicyWord>,
     edit: &Edit,
     keeper: &mut Q,
 ) -> Result<Reply, LineStop>
     requires edit { IsEditOf (shape_of cube.old.schema) cube.old.schema.dims edit.now }
-    requires open { IsTrue (Q.is_open keeper.old) }
-    ensures reply { IfOk result (λ reply. Some reply ≡ (edited (P.weigh cube.old.policy) cube.old.schema (state_of cube.old) edit.now).reply) }
-    ensures state { OnOk result (cube.new ≡ cube_at cube.old (edited (P.weigh cube.old.policy) cube.old.schema (state_of cube.old) edit.now).state) }
+    requires open { IsTrue (Q.tells keeper.old).is_open }
+    ensures reply { IfOk result (λ reply. Some reply ≡ (edited (weigh_of cube.old.policy) cube.old.schema (state_of cube.old) edit.now).reply) }
+    ensures state { OnOk result (cube.new ≡ cube_at cube.old (edited (weigh_of cube.old.policy) cube.old.schema (state_of cube.old) edit.now).state) }
     ensures cells { IfOk result (NamesCells cube.new.schema.dims) }
     ensures same { OnErr result (cube.new ≡ cube.old) }
-    ensures kept { OnOk result (Commits (batches_of (P.weigh cube.old.policy) cube.old.schema (state_of cube.old) (line.Edit edit.now)) (told_of Q.content Q.journal keeper.old) (told_of Q.content Q.journal keeper.new)) }
-    ensures same_kept { OnErr result (told_of Q.content Q.journal keeper.new ≡ told_of Q.content Q.journal keeper.old) }
-    ensures count { OnOk result (Q.faults keeper.new ≡ Q.faults keeper.old) }
-    ensures stop { IfErr result (IsStopOf (batches_of (P.weigh cube.old.policy) cube.old.schema (state_of cube.old) (line.Edit edit.now)) (Q.faults keeper.old) (Q.faults keeper.new)) }
-    ensures stays_open { IsTrue (Q.is_open keeper.new) }
+    ensures kept { OnOk result (Commits (batches_of (weigh_of cube.old.policy) cube.old.schema (state_of cube.old) (line.Edit edit.now)) (told_of Q.tells keeper.old) (told_of Q.tells keeper.new)) }
+    ensures same_kept { OnErr result (told_of Q.tells keeper.new ≡ told_of Q.tells keeper.old) }
+    ensures count { OnOk result ((Q.tells keeper.new).faults ≡ (Q.tells keeper.old).faults) }
+    ensures stop { IfErr result (IsStopOf (batches_of (weigh_of cube.old.policy) cube.old.schema (state_of cube.old) (line.Edit edit.now)) (Q.tells keeper.old).faults (Q.tells keeper.new).faults) }
+    ensures stays_open { StaysOpen (Q.tells keeper.old) (Q.tells keeper.new) }
 {
-    do_edit_by::<Brand, P, Q>(cube, edit, keeper, Blank::new(1))
+    do_edit_by::<Brand, Q>(cube, edit, keeper, Blank::new(1))
 }
 
 /// The same. Its steps are counted in a ledger of their own.
-fn do_edit_by<L: Ledger, P: WeightPolicy + Drop, Q: Keeper>(
-    cube: &mut Cube<P>,
+fn do_edit_by<L: Ledger, Q: Keeper>(
+    cube: &mut Cube<PolicyWord>,
     edit: &Edit,
     keeper: &mut Q,
     blank: Blank,
 ) -> Result<Reply, LineStop>
     requires edit { IsEditOf (shape_of cube.old.schema) cube.old.schema.dims edit.now }
-    requires open { IsTrue (Q.is_open keeper.old) }
+    requires open { IsTrue (Q.tells keeper.old).is_open }
     requires name { blank.name ≡ L.name }
     requires parts { blank.parts ≡ L.parts }
     requires some { 0 < L.parts }
-    ensures reply { IfOk result (λ reply. Some reply ≡ (edited (P.weigh cube.old.policy) cube.old.schema (state_of cube.old) edit.now).reply) }
-    ensures state { OnOk result (cube.new ≡ cube_at cube.old (edited (P.weigh cube.old.policy) cube.old.schema (state_of cube.old) edit.now).state) }
+    ensures reply { IfOk result (λ reply. Some reply ≡ (edited (weigh_of cube.old.policy) cube.old.schema (state_of cube.old) edit.now).reply) }
+    ensures state { OnOk result (cube.new ≡ cube_at cube.old (edited (weigh_of cube.old.policy) cube.old.schema (state_of cube.old) edit.now).state) }
     ensures cells { IfOk result (NamesCells cube.new.schema.dims) }
     ensures same { OnErr result (cube.new ≡ cube.old) }
-    ensures kept { OnOk result (Commits (batches_of (P.weigh cube.old.policy) cube.old.schema (state_of cube.old) (line.Edit edit.now)) (told_of Q.content Q.journal keeper.old) (told_of Q.content Q.journal keeper.new)) }
-    ensures same_kept { OnErr result (told_of Q.content Q.journal keeper.new ≡ told_of Q.content Q.journal keeper.old) }
-    ensures count { OnOk result (Q.faults keeper.new ≡ Q.faults keeper.old) }
-    ensures stop { IfErr result (IsStopOf (batches_of (P.weigh cube.old.policy) cube.old.schema (state_of cube.old) (line.Edit edit.now)) (Q.faults keeper.old) (Q.faults keeper.new)) }
-    ensures stays_open { IsTrue (Q.is_open keeper.new) }
+    ensures kept { OnOk result (Commits (batches_of (weigh_of cube.old.policy) cube.old.schema (state_of cube.old) (line.Edit edit.now)) (told_of Q.tells keeper.old) (told_of Q.tells keeper.new)) }
+    ensures same_kept { OnErr result (told_of Q.tells keeper.new ≡ told_of Q.tells keeper.old) }
+    ensures count { OnOk result ((Q.tells keeper.new).faults ≡ (Q.tells keeper.old).faults) }
+    ensures stop { IfErr result (IsStopOf (batches_of (weigh_of cube.old.policy) cube.old.schema (state_of cube.old) (line.Edit edit.now)) (Q.tells keeper.old).faults (Q.tells keeper.new).faults) }
+    ensures stays_open { StaysOpen (Q.tells keeper.old) (Q.tells keeper.new) }
 {
     let mut steps = Steps::<L>::new(blank);
     match cube.edit(edit, keeper, &mut steps) {
@@ -172,32 +173,32 @@ fn do_edit_by<L: Ledger, P: WeightPolicy + Drop, Q: Keeper>(
             let refreshed = receipt.refreshed.as_slice().len() as u64;
             // Dropped by a call, which is proved once: in place it would be proved on each way out.
             drop(receipt);
-            Ok(Reply::Ok(refreshed))
+            Ok(Reply::Done(refreshed))
         }
         Err(fault) => reply_to(fault),
     }
 }
 
 /// Does a growth: `ok` with the number of the facts that lie otherwise then, or why it is refused.
-fn do_growth<P: WeightPolicy + Drop + Copy, Q: Keeper>(
-    cube: &mut Cube<P>,
+fn do_growth<Q: Keeper>(
+    cube: &mut Cube<PolicyWord>,
     grow: &Grow,
     keeper: &mut Q,
 ) -> Result<Reply, LineStop>
     requires grow { IsGrowOf cube.old.schema.dims grow.now }
-    requires open { IsTrue (Q.is_open keeper.old) }
-    ensures reply { IfOk result (λ reply. Some reply ≡ (growth (P.weigh cube.old.policy) cube.old.schema (state_of cube.old) grow.now).reply) }
-    ensures state { OnOk result (cube.new ≡ cube_at cube.old (growth (P.weigh cube.old.policy) cube.old.schema (state_of cube.old) grow.now).state) }
+    requires open { IsTrue (Q.tells keeper.old).is_open }
+    ensures reply { IfOk result (λ reply. Some reply ≡ (growth (weigh_of cube.old.policy) cube.old.schema (state_of cube.old) grow.now).reply) }
+    ensures state { OnOk result (cube.new ≡ cube_at cube.old (growth (weigh_of cube.old.policy) cube.old.schema (state_of cube.old) grow.now).state) }
     ensures cells { IfOk result (NamesCells cube.new.schema.dims) }
     ensures same { OnErr result (cube.new ≡ cube.old) }
-    ensures kept { OnOk result (Commits (batches_of (P.weigh cube.old.policy) cube.old.schema (state_of cube.old) (line.Grow grow.now)) (told_of Q.content Q.journal keeper.old) (told_of Q.content Q.journal keeper.new)) }
-    ensures same_kept { OnErr result (told_of Q.content Q.journal keeper.new ≡ told_of Q.content Q.journal keeper.old) }
-    ensures count { OnOk result (Q.faults keeper.new ≡ Q.faults keeper.old) }
-    ensures stop { IfErr result (IsStopOf (batches_of (P.weigh cube.old.policy) cube.old.schema (state_of cube.old) (line.Grow grow.now)) (Q.faults keeper.old) (Q.faults keeper.new)) }
-    ensures stays_open { IsTrue (Q.is_open keeper.new) }
+    ensures kept { OnOk result (Commits (batches_of (weigh_of cube.old.policy) cube.old.schema (state_of cube.old) (line.Grow grow.now)) (told_of Q.tells keeper.old) (told_of Q.tells keeper.new)) }
+    ensures same_kept { OnErr result (told_of Q.tells keeper.new ≡ told_of Q.tells keeper.old) }
+    ensures count { OnOk result ((Q.tells keeper.new).faults ≡ (Q.tells keeper.old).faults) }
+    ensures stop { IfErr result (IsStopOf (batches_of (weigh_of cube.old.policy) cube.old.schema (state_of cube.old) (line.Grow grow.now)) (Q.tells keeper.old).faults (Q.tells keeper.new).faults) }
+    ensures stays_open { StaysOpen (Q.tells keeper.old) (Q.tells keeper.new) }
 {
     match cube.grow(grow, keeper) {
-        Ok(grown) => Ok(Reply::Ok(grown.refreshed.as_slice().len() as u64)),
+        Ok(grown) => Ok(Reply::Done(grown.refreshed.as_slice().len() as u64)),
         Err(fault) => reply_to(fault),
     }
 }
@@ -207,8 +208,8 @@ fn reply_to(fault: EditFault) -> Result<Reply, LineStop>
     ensures { result ≡ reply_to fault }
 {
     match fault {
-        EditFault::Code(code) => Ok(Reply::Error(code)),
-        EditFault::Rows { .. } => Ok(Reply::Error(Code::Rows)),
+        EditFault::Code(code) => Ok(Reply::Refused(code)),
+        EditFault::Rows { .. } => Ok(Reply::Refused(Code::Rows)),
         EditFault::KeepFault => Err(LineStop::KeepFault),
         EditFault::Memory => Err(LineStop::Memory),
     }
@@ -218,5 +219,5 @@ fn reply_to(fault: EditFault) -> Result<Reply, LineStop>
 pub fn is_refusal(reply: &Option<Reply>) -> bool
     ensures { (if result then 1 else 0) ≡ refusals_in reply.now }
 {
-    matches!(reply, Some(Reply::Error(_)))
+    matches!(reply, Some(Reply::Refused(_)))
 }

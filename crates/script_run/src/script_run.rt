@@ -3,7 +3,8 @@ ghost use Rattle.std.specs.Prelude.{◌≡◌, ℕ, ◌+◌, ◌<◌, ◌≤◌,
 ghost use Rattle.std.specs.Io.KnownBytes.{Appends};
 ghost use Rattle.std.specs.List.{concat};
 ghost use Rattle.cube_base.specs.Outside.{Rose};
-ghost use Rattle.schema_text.specs.Schema.{SchemaValue};
+ghost use Rattle.schema_text.specs.Schema.{SchemaValue, weigh_of};
+ghost use Rattle.fact_keeper.specs.Keeper.{StaysOpen};
 ghost use Rattle.script_text.specs.LineOf.{IsLineOf};
 ghost use Rattle.script_text.specs.Reply.{NamesCells};
 ghost use Rattle.script_text.specs.ScriptLine.{line_of};
@@ -17,19 +18,19 @@ ghost use Rattle.script_run.specs.Stop.{IsReadyFor, IsStopOf};
 use crate::break_off::BreakOff;
 use crate::outbox::Outbox;
 use crate::script::{LineStop, do_read, is_edit, is_refusal, read};
-use cell_weight::WeightPolicy;
 use cube_base::{Code, Memory, Sink};
 use cube_core::Cube;
 use fact_keeper::Keeper;
+use schema_text::PolicyWord;
 use script_text::{Line, Reply};
 use std::alloc::Global;
 use std::marker::Model;
 
 /// A cube at work: the replies on their way, and how many lines are answered and refused.
 #[derive(Drop)]
-pub struct ScriptRun<P: WeightPolicy + Drop + Copy> {
+pub struct ScriptRun {
     alloc: Global,
-    cube: Cube<P>,
+    cube: Cube<PolicyWord>,
     // Whether the gathered replies are written before each edit and each growth.
     keeps: bool,
     outbox: Outbox,
@@ -37,20 +38,21 @@ pub struct ScriptRun<P: WeightPolicy + Drop + Copy> {
     refused: u64,
 }
 
-impl<P: WeightPolicy + Drop + Copy> Model for ScriptRun<P> {
+impl Model for ScriptRun {
     ghost use Rattle.std.specs.Prelude.{◌≤◌, length};
+    ghost use Rattle.schema_text.specs.declared.word.PolicyWord.{PolicyWord};
     ghost use Rattle.script_run.specs.Progress.{Working};
 
-    ghost Value = { Working P };
+    ghost Value = { Working PolicyWord };
 
     ghost view = { λ r. record { cube = r.cube; keeps = r.keeps; gathered = r.outbox; done = r.done; refused = r.refused } };
 
     ghost invariant = { λ r. (r.refused ≤ r.done) × (length r.outbox ≤ r.done) };
 }
 
-impl<P: WeightPolicy + Drop + Copy> ScriptRun<P> {
+impl ScriptRun {
     /// No line is done yet. `keeps` says whether the gathered replies are written before each edit and each growth.
-    pub fn new(alloc: Global, cube: Cube<P>, keeps: bool) -> Self
+    pub fn new(alloc: Global, cube: Cube<PolicyWord>, keeps: bool) -> Self
         ensures { result ≡ record { cube = cube; keeps = keeps; gathered = []; done = 0; refused = 0 } }
     {
         ScriptRun {
@@ -72,26 +74,26 @@ impl<P: WeightPolicy + Drop + Copy> ScriptRun<P> {
         keeper: &mut Q,
     ) -> Result<(), BreakOff>
         requires few { self.old.done < 2 ^ 62 }
-        requires open { IsTrue (Q.is_open keeper.old) }
-        ensures done { (schema : SchemaValue) (first : State) (lines : List (List ℕ)) (start : Option (List ℕ)) → HasDone (P.weigh self.old.cube.policy) schema first lines start (K.taken out.old) self.old
-            → OnOk result (HasDone (P.weigh self.old.cube.policy) schema first (lines ++ line.now ∷ []) start (K.taken out.new) self.new) }
+        requires open { IsTrue (Q.tells keeper.old).is_open }
+        ensures done { (schema : SchemaValue) (first : State) (lines : List (List ℕ)) (start : Option (List ℕ)) → HasDone (weigh_of self.old.cube.policy) schema first lines start (K.tells out.old).taken self.old
+            → OnOk result (HasDone (weigh_of self.old.cube.policy) schema first (lines ++ line.now ∷ []) start (K.tells out.new).taken self.new) }
         ensures few_gathered { OnOk result (AreFew self.new.gathered) }
         ensures policy { self.new.cube.policy ≡ self.old.cube.policy }
         ensures keeps { self.new.keeps ≡ self.old.keeps }
-        ensures count { OnOk result (K.faults out.new ≡ K.faults out.old) }
-        ensures broken { (schema : SchemaValue) (first : State) (lines : List (List ℕ)) (start : Option (List ℕ)) → HasDone (P.weigh self.old.cube.policy) schema first lines start (K.taken out.old) self.old
-            → IfErr result (BreaksOff (run (P.weigh self.old.cube.policy) schema first (lines ++ line.now ∷ [])).replies (seen_since (sink_seen K.taken K.faults out.old out.new) start)) }
-        ensures kept { (schema : SchemaValue) (first : State) (lines : List (List ℕ)) (start : Option (List ℕ)) (before : Told) → self.old.keeps ≡ true → HasDone (P.weigh self.old.cube.policy) schema first lines start (K.taken out.old) self.old
-            → HasKept (P.weigh self.old.cube.policy) schema first lines before (told_of Q.content Q.journal keeper.old) self.old.gathered → OnOk result (HasKept (P.weigh self.old.cube.policy) schema first (lines ++ line.now ∷ []) before (told_of Q.content Q.journal keeper.new) self.new.gathered) }
-        ensures stopped { (schema : SchemaValue) (first : State) (lines : List (List ℕ)) (start : Option (List ℕ)) (before : Told) → self.old.keeps ≡ true → HasDone (P.weigh self.old.cube.policy) schema first lines start (K.taken out.old) self.old
-            → HasKept (P.weigh self.old.cube.policy) schema first lines before (told_of Q.content Q.journal keeper.old) self.old.gathered → IfErr result (KeptAt (P.weigh self.old.cube.policy) schema first (lines ++ line.now ∷ []) before (told_of Q.content Q.journal keeper.new)) }
-        ensures no_fault { OnOk result (Q.faults keeper.new ≡ Q.faults keeper.old) }
-        ensures cause { IfErr result (λ off. is_keep off ≡ true → Rose (Q.faults keeper.old) (Q.faults keeper.new)) }
-        ensures other_cause { self.old.keeps ≡ true → IfErr result (λ off. is_keep off ≡ false → Q.faults keeper.new ≡ Q.faults keeper.old) }
+        ensures count { OnOk result ((K.tells out.new).faults ≡ (K.tells out.old).faults) }
+        ensures broken { (schema : SchemaValue) (first : State) (lines : List (List ℕ)) (start : Option (List ℕ)) → HasDone (weigh_of self.old.cube.policy) schema first lines start (K.tells out.old).taken self.old
+            → IfErr result (BreaksOff (run (weigh_of self.old.cube.policy) schema first (lines ++ line.now ∷ [])).replies (seen_since (sink_seen K.tells out.old out.new) start)) }
+        ensures kept { (schema : SchemaValue) (first : State) (lines : List (List ℕ)) (start : Option (List ℕ)) (before : Told) → self.old.keeps ≡ true → HasDone (weigh_of self.old.cube.policy) schema first lines start (K.tells out.old).taken self.old
+            → HasKept (weigh_of self.old.cube.policy) schema first lines before (told_of Q.tells keeper.old) self.old.gathered → OnOk result (HasKept (weigh_of self.old.cube.policy) schema first (lines ++ line.now ∷ []) before (told_of Q.tells keeper.new) self.new.gathered) }
+        ensures stopped { (schema : SchemaValue) (first : State) (lines : List (List ℕ)) (start : Option (List ℕ)) (before : Told) → self.old.keeps ≡ true → HasDone (weigh_of self.old.cube.policy) schema first lines start (K.tells out.old).taken self.old
+            → HasKept (weigh_of self.old.cube.policy) schema first lines before (told_of Q.tells keeper.old) self.old.gathered → IfErr result (KeptAt (weigh_of self.old.cube.policy) schema first (lines ++ line.now ∷ []) before (told_of Q.tells keeper.new)) }
+        ensures no_fault { OnOk result ((Q.tells keeper.new).faults ≡ (Q.tells keeper.old).faults) }
+        ensures cause { IfErr result (λ off. is_keep off ≡ true → Rose (Q.tells keeper.old).faults (Q.tells keeper.new).faults) }
+        ensures other_cause { self.old.keeps ≡ true → IfErr result (λ off. is_keep off ≡ false → (Q.tells keeper.new).faults ≡ (Q.tells keeper.old).faults) }
         ensures ahead { OnOk result (self.old.done + length self.new.gathered ≤ self.new.done + length self.old.gathered) }
         ensures counted { OnOk result (self.new.done ≡ self.old.done + 1) }
         ensures behind { IfErr result (IsBehind self.old.done (length self.old.gathered)) }
-        ensures stays_open { IsTrue (Q.is_open keeper.new) }
+        ensures stays_open { StaysOpen (Q.tells keeper.old) (Q.tells keeper.new) }
     {
         let Ok(read) = self.read(line) else {
             return Err(self.give_up(out, 0));
@@ -114,10 +116,10 @@ impl<P: WeightPolicy + Drop + Copy> ScriptRun<P> {
 
     /// Writes the gathered replies, and says how many lines are refused.
     pub fn finish<K: Sink>(&mut self, out: &mut K) -> Result<u64, BreakOff>
-        ensures done { (schema : SchemaValue) (first : State) (lines : List (List ℕ)) (start : Option (List ℕ)) → HasDone (P.weigh self.old.cube.policy) schema first lines start (K.taken out.old) self.old
-            → IfOk result (Done (run (P.weigh self.old.cube.policy) schema first lines) (seen_since (sink_seen K.taken K.faults out.old out.new) start)) }
-        ensures broken { (schema : SchemaValue) (first : State) (lines : List (List ℕ)) (start : Option (List ℕ)) → HasDone (P.weigh self.old.cube.policy) schema first lines start (K.taken out.old) self.old
-            → IfErr result (BreaksOff (run (P.weigh self.old.cube.policy) schema first lines).replies (seen_since (sink_seen K.taken K.faults out.old out.new) start)) }
+        ensures done { (schema : SchemaValue) (first : State) (lines : List (List ℕ)) (start : Option (List ℕ)) → HasDone (weigh_of self.old.cube.policy) schema first lines start (K.tells out.old).taken self.old
+            → IfOk result (Done (run (weigh_of self.old.cube.policy) schema first lines) (seen_since (sink_seen K.tells out.old out.new) start)) }
+        ensures broken { (schema : SchemaValue) (first : State) (lines : List (List ℕ)) (start : Option (List ℕ)) → HasDone (weigh_of self.old.cube.policy) schema first lines start (K.tells out.old).taken self.old
+            → IfErr result (BreaksOff (run (weigh_of self.old.cube.policy) schema first lines).replies (seen_since (sink_seen K.tells out.old out.new) start)) }
         ensures stop { IfErr result (IsGatheredStop self.old.done (length self.old.gathered)) }
     {
         self.send(out)?;
@@ -130,14 +132,14 @@ impl<P: WeightPolicy + Drop + Copy> ScriptRun<P> {
         read: &Result<Line, Code>,
         out: &mut K,
     ) -> Result<(), BreakOff>
-        ensures done { (schema : SchemaValue) (first : State) (lines : List (List ℕ)) (start : Option (List ℕ)) → HasDone (P.weigh self.old.cube.policy) schema first lines start (K.taken out.old) self.old → OnOk result (HasDone (P.weigh self.old.cube.policy) schema first lines start (K.taken out.new) self.new) }
+        ensures done { (schema : SchemaValue) (first : State) (lines : List (List ℕ)) (start : Option (List ℕ)) → HasDone (weigh_of self.old.cube.policy) schema first lines start (K.tells out.old).taken self.old → OnOk result (HasDone (weigh_of self.old.cube.policy) schema first lines start (K.tells out.new).taken self.new) }
         ensures ready { self.old.keeps ≡ true → OnOk result (IsReadyFor self.new.gathered read.now) }
         ensures fewer { OnOk result (length self.new.gathered ≤ length self.old.gathered) }
         ensures same { OnOk result (self.new ≡ record self.old { gathered = self.new.gathered }) }
         ensures policy { self.new.cube.policy ≡ self.old.cube.policy }
         ensures keeps { self.new.keeps ≡ self.old.keeps }
-        ensures count { OnOk result (K.faults out.new ≡ K.faults out.old) }
-        ensures broken { (schema : SchemaValue) (first : State) (lines : List (List ℕ)) (start : Option (List ℕ)) → HasDone (P.weigh self.old.cube.policy) schema first lines start (K.taken out.old) self.old → IfErr result (BreaksOff (run (P.weigh self.old.cube.policy) schema first lines).replies (seen_since (sink_seen K.taken K.faults out.old out.new) start)) }
+        ensures count { OnOk result ((K.tells out.new).faults ≡ (K.tells out.old).faults) }
+        ensures broken { (schema : SchemaValue) (first : State) (lines : List (List ℕ)) (start : Option (List ℕ)) → HasDone (weigh_of self.old.cube.policy) schema first lines start (K.tells out.old).taken self.old → IfErr result (BreaksOff (run (weigh_of self.old.cube.policy) schema first lines).replies (seen_since (sink_seen K.tells out.old out.new) start)) }
         ensures stop { IfErr result (IsGatheredStop self.old.done (length self.old.gathered)) }
     {
         if self.keeps && is_edit(read) {
@@ -163,26 +165,26 @@ impl<P: WeightPolicy + Drop + Copy> ScriptRun<P> {
     ) -> Result<(), BreakOff>
         requires few { self.old.done < 2 ^ 62 }
         requires within { IfOk read.now (IsLineOf self.old.cube.schema) }
-        requires open { IsTrue (Q.is_open keeper.old) }
-        ensures done { (schema : SchemaValue) (first : State) (lines : List (List ℕ)) (start : Option (List ℕ)) (line : List ℕ) → HasDone (P.weigh self.old.cube.policy) schema first lines start (K.taken out.old) self.old → line_of self.old.cube.schema line ≡ read.now
-            → OnOk result (HasDone (P.weigh self.old.cube.policy) schema first (lines ++ line ∷ []) start (K.taken out.new) self.new) }
+        requires open { IsTrue (Q.tells keeper.old).is_open }
+        ensures done { (schema : SchemaValue) (first : State) (lines : List (List ℕ)) (start : Option (List ℕ)) (line : List ℕ) → HasDone (weigh_of self.old.cube.policy) schema first lines start (K.tells out.old).taken self.old → line_of self.old.cube.schema line ≡ read.now
+            → OnOk result (HasDone (weigh_of self.old.cube.policy) schema first (lines ++ line ∷ []) start (K.tells out.new).taken self.new) }
         ensures few_gathered { OnOk result (AreFew self.new.gathered) }
         ensures policy { self.new.cube.policy ≡ self.old.cube.policy }
         ensures keeps { self.new.keeps ≡ self.old.keeps }
-        ensures count { OnOk result (K.faults out.new ≡ K.faults out.old) }
-        ensures broken { (schema : SchemaValue) (first : State) (lines : List (List ℕ)) (start : Option (List ℕ)) (line : List ℕ) → HasDone (P.weigh self.old.cube.policy) schema first lines start (K.taken out.old) self.old → line_of self.old.cube.schema line ≡ read.now
-            → IfErr result (BreaksOff (run (P.weigh self.old.cube.policy) schema first (lines ++ line ∷ [])).replies (seen_since (sink_seen K.taken K.faults out.old out.new) start)) }
-        ensures kept { (schema : SchemaValue) (first : State) (lines : List (List ℕ)) (start : Option (List ℕ)) (line : List ℕ) (before : Told) → IsReadyFor self.old.gathered read.now → HasDone (P.weigh self.old.cube.policy) schema first lines start (K.taken out.old) self.old → line_of self.old.cube.schema line ≡ read.now
-            → HasKept (P.weigh self.old.cube.policy) schema first lines before (told_of Q.content Q.journal keeper.old) self.old.gathered → OnOk result (HasKept (P.weigh self.old.cube.policy) schema first (lines ++ line ∷ []) before (told_of Q.content Q.journal keeper.new) self.new.gathered) }
-        ensures stopped { (schema : SchemaValue) (first : State) (lines : List (List ℕ)) (start : Option (List ℕ)) (line : List ℕ) (before : Told) → IsReadyFor self.old.gathered read.now → HasDone (P.weigh self.old.cube.policy) schema first lines start (K.taken out.old) self.old → line_of self.old.cube.schema line ≡ read.now
-            → HasKept (P.weigh self.old.cube.policy) schema first lines before (told_of Q.content Q.journal keeper.old) self.old.gathered → IfErr result (KeptAt (P.weigh self.old.cube.policy) schema first (lines ++ line ∷ []) before (told_of Q.content Q.journal keeper.new)) }
-        ensures no_fault { OnOk result (Q.faults keeper.new ≡ Q.faults keeper.old) }
-        ensures cause { IfErr result (λ off. is_keep off ≡ true → Rose (Q.faults keeper.old) (Q.faults keeper.new)) }
-        ensures other_cause { IsReadyFor self.old.gathered read.now → IfErr result (λ off. is_keep off ≡ false → Q.faults keeper.new ≡ Q.faults keeper.old) }
+        ensures count { OnOk result ((K.tells out.new).faults ≡ (K.tells out.old).faults) }
+        ensures broken { (schema : SchemaValue) (first : State) (lines : List (List ℕ)) (start : Option (List ℕ)) (line : List ℕ) → HasDone (weigh_of self.old.cube.policy) schema first lines start (K.tells out.old).taken self.old → line_of self.old.cube.schema line ≡ read.now
+            → IfErr result (BreaksOff (run (weigh_of self.old.cube.policy) schema first (lines ++ line ∷ [])).replies (seen_since (sink_seen K.tells out.old out.new) start)) }
+        ensures kept { (schema : SchemaValue) (first : State) (lines : List (List ℕ)) (start : Option (List ℕ)) (line : List ℕ) (before : Told) → IsReadyFor self.old.gathered read.now → HasDone (weigh_of self.old.cube.policy) schema first lines start (K.tells out.old).taken self.old → line_of self.old.cube.schema line ≡ read.now
+            → HasKept (weigh_of self.old.cube.policy) schema first lines before (told_of Q.tells keeper.old) self.old.gathered → OnOk result (HasKept (weigh_of self.old.cube.policy) schema first (lines ++ line ∷ []) before (told_of Q.tells keeper.new) self.new.gathered) }
+        ensures stopped { (schema : SchemaValue) (first : State) (lines : List (List ℕ)) (start : Option (List ℕ)) (line : List ℕ) (before : Told) → IsReadyFor self.old.gathered read.now → HasDone (weigh_of self.old.cube.policy) schema first lines start (K.tells out.old).taken self.old → line_of self.old.cube.schema line ≡ read.now
+            → HasKept (weigh_of self.old.cube.policy) schema first lines before (told_of Q.tells keeper.old) self.old.gathered → IfErr result (KeptAt (weigh_of self.old.cube.policy) schema first (lines ++ line ∷ []) before (told_of Q.tells keeper.new)) }
+        ensures no_fault { OnOk result ((Q.tells keeper.new).faults ≡ (Q.tells keeper.old).faults) }
+        ensures cause { IfErr result (λ off. is_keep off ≡ true → Rose (Q.tells keeper.old).faults (Q.tells keeper.new).faults) }
+        ensures other_cause { IsReadyFor self.old.gathered read.now → IfErr result (λ off. is_keep off ≡ false → (Q.tells keeper.new).faults ≡ (Q.tells keeper.old).faults) }
         ensures ahead { OnOk result (self.old.done + length self.new.gathered ≤ self.new.done + length self.old.gathered) }
         ensures counted { OnOk result (self.new.done ≡ self.old.done + 1) }
         ensures behind { IfErr result (IsBehind self.old.done (length self.old.gathered)) }
-        ensures stays_open { IsTrue (Q.is_open keeper.new) }
+        ensures stays_open { StaysOpen (Q.tells keeper.old) (Q.tells keeper.new) }
     {
         match self.do_on_cube(read, keeper) {
             Ok(reply) => {
@@ -199,24 +201,24 @@ impl<P: WeightPolicy + Drop + Copy> ScriptRun<P> {
     // Answers a line that is refused as it is read. Nothing is done on the cube, and the keeper is not called.
     fn refuse<K: Sink>(&mut self, code: Code, out: &mut K) -> Result<(), BreakOff>
         requires few { self.old.done < 2 ^ 62 }
-        ensures done { (schema : SchemaValue) (first : State) (lines : List (List ℕ)) (start : Option (List ℕ)) (line : List ℕ) → HasDone (P.weigh self.old.cube.policy) schema first lines start (K.taken out.old) self.old → line_of self.old.cube.schema line ≡ Err code
-            → OnOk result (HasDone (P.weigh self.old.cube.policy) schema first (lines ++ line ∷ []) start (K.taken out.new) self.new) }
+        ensures done { (schema : SchemaValue) (first : State) (lines : List (List ℕ)) (start : Option (List ℕ)) (line : List ℕ) → HasDone (weigh_of self.old.cube.policy) schema first lines start (K.tells out.old).taken self.old → line_of self.old.cube.schema line ≡ Err code
+            → OnOk result (HasDone (weigh_of self.old.cube.policy) schema first (lines ++ line ∷ []) start (K.tells out.new).taken self.new) }
         ensures few_gathered { OnOk result (AreFew self.new.gathered) }
         ensures policy { self.new.cube.policy ≡ self.old.cube.policy }
         ensures keeps { self.new.keeps ≡ self.old.keeps }
-        ensures count { OnOk result (K.faults out.new ≡ K.faults out.old) }
-        ensures broken { (schema : SchemaValue) (first : State) (lines : List (List ℕ)) (start : Option (List ℕ)) (line : List ℕ) → HasDone (P.weigh self.old.cube.policy) schema first lines start (K.taken out.old) self.old → line_of self.old.cube.schema line ≡ Err code
-            → IfErr result (BreaksOff (run (P.weigh self.old.cube.policy) schema first (lines ++ line ∷ [])).replies (seen_since (sink_seen K.taken K.faults out.old out.new) start)) }
-        ensures kept { (schema : SchemaValue) (first : State) (lines : List (List ℕ)) (start : Option (List ℕ)) (line : List ℕ) (before now : Told) → HasDone (P.weigh self.old.cube.policy) schema first lines start (K.taken out.old) self.old → line_of self.old.cube.schema line ≡ Err code
-            → HasKept (P.weigh self.old.cube.policy) schema first lines before now self.old.gathered → OnOk result (HasKept (P.weigh self.old.cube.policy) schema first (lines ++ line ∷ []) before now self.new.gathered) }
-        ensures stopped { (schema : SchemaValue) (first : State) (lines : List (List ℕ)) (start : Option (List ℕ)) (line : List ℕ) (before now : Told) → HasDone (P.weigh self.old.cube.policy) schema first lines start (K.taken out.old) self.old → line_of self.old.cube.schema line ≡ Err code
-            → HasKept (P.weigh self.old.cube.policy) schema first lines before now self.old.gathered → IfErr result (KeptAt (P.weigh self.old.cube.policy) schema first (lines ++ line ∷ []) before now) }
+        ensures count { OnOk result ((K.tells out.new).faults ≡ (K.tells out.old).faults) }
+        ensures broken { (schema : SchemaValue) (first : State) (lines : List (List ℕ)) (start : Option (List ℕ)) (line : List ℕ) → HasDone (weigh_of self.old.cube.policy) schema first lines start (K.tells out.old).taken self.old → line_of self.old.cube.schema line ≡ Err code
+            → IfErr result (BreaksOff (run (weigh_of self.old.cube.policy) schema first (lines ++ line ∷ [])).replies (seen_since (sink_seen K.tells out.old out.new) start)) }
+        ensures kept { (schema : SchemaValue) (first : State) (lines : List (List ℕ)) (start : Option (List ℕ)) (line : List ℕ) (before now : Told) → HasDone (weigh_of self.old.cube.policy) schema first lines start (K.tells out.old).taken self.old → line_of self.old.cube.schema line ≡ Err code
+            → HasKept (weigh_of self.old.cube.policy) schema first lines before now self.old.gathered → OnOk result (HasKept (weigh_of self.old.cube.policy) schema first (lines ++ line ∷ []) before now self.new.gathered) }
+        ensures stopped { (schema : SchemaValue) (first : State) (lines : List (List ℕ)) (start : Option (List ℕ)) (line : List ℕ) (before now : Told) → HasDone (weigh_of self.old.cube.policy) schema first lines start (K.tells out.old).taken self.old → line_of self.old.cube.schema line ≡ Err code
+            → HasKept (weigh_of self.old.cube.policy) schema first lines before now self.old.gathered → IfErr result (KeptAt (weigh_of self.old.cube.policy) schema first (lines ++ line ∷ []) before now) }
         ensures no_keep { IfErr result (λ off. is_keep off ≡ false) }
         ensures ahead { OnOk result (self.old.done + length self.new.gathered ≤ self.new.done + length self.old.gathered) }
         ensures counted { OnOk result (self.new.done ≡ self.old.done + 1) }
         ensures behind { IfErr result (IsBehind self.old.done (length self.old.gathered)) }
     {
-        let reply = Some(Reply::Error(code));
+        let reply = Some(Reply::Refused(code));
         let answered = self.answer(&reply, out);
         // Dropped by a call, which is proved once: in place it would be proved on each way out.
         drop(reply);
@@ -230,16 +232,16 @@ impl<P: WeightPolicy + Drop + Copy> ScriptRun<P> {
         keeper: &mut Q,
     ) -> Result<Option<Reply>, LineStop>
         requires within { IfOk read.now (IsLineOf self.old.cube.schema) }
-        requires open { IsTrue (Q.is_open keeper.old) }
-        ensures reply { IfOk result (λ reply. reply ≡ (step_from (P.weigh self.old.cube.policy) self.old.cube.schema (state_of self.old.cube) read.now).reply) }
-        ensures state { OnOk result (self.new ≡ record self.old { cube = cube_at self.old.cube (step_from (P.weigh self.old.cube.policy) self.old.cube.schema (state_of self.old.cube) read.now).state }) }
+        requires open { IsTrue (Q.tells keeper.old).is_open }
+        ensures reply { IfOk result (λ reply. reply ≡ (step_from (weigh_of self.old.cube.policy) self.old.cube.schema (state_of self.old.cube) read.now).reply) }
+        ensures state { OnOk result (self.new ≡ record self.old { cube = cube_at self.old.cube (step_from (weigh_of self.old.cube.policy) self.old.cube.schema (state_of self.old.cube) read.now).state }) }
         ensures cells { IfOk result (λ reply. IfSome reply (NamesCells self.new.cube.schema.dims)) }
         ensures same { OnErr result (self.new ≡ self.old) }
-        ensures kept { OnOk result (Commits (batches_from (P.weigh self.old.cube.policy) self.old.cube.schema (state_of self.old.cube) read.now) (told_of Q.content Q.journal keeper.old) (told_of Q.content Q.journal keeper.new)) }
-        ensures same_kept { OnErr result (told_of Q.content Q.journal keeper.new ≡ told_of Q.content Q.journal keeper.old) }
-        ensures count { OnOk result (Q.faults keeper.new ≡ Q.faults keeper.old) }
-        ensures stop { IfErr result (IsStopOf (batches_from (P.weigh self.old.cube.policy) self.old.cube.schema (state_of self.old.cube) read.now) (Q.faults keeper.old) (Q.faults keeper.new)) }
-        ensures stays_open { IsTrue (Q.is_open keeper.new) }
+        ensures kept { OnOk result (Commits (batches_from (weigh_of self.old.cube.policy) self.old.cube.schema (state_of self.old.cube) read.now) (told_of Q.tells keeper.old) (told_of Q.tells keeper.new)) }
+        ensures same_kept { OnErr result (told_of Q.tells keeper.new ≡ told_of Q.tells keeper.old) }
+        ensures count { OnOk result ((Q.tells keeper.new).faults ≡ (Q.tells keeper.old).faults) }
+        ensures stop { IfErr result (IsStopOf (batches_from (weigh_of self.old.cube.policy) self.old.cube.schema (state_of self.old.cube) read.now) (Q.tells keeper.old).faults (Q.tells keeper.new).faults) }
+        ensures stays_open { StaysOpen (Q.tells keeper.old) (Q.tells keeper.new) }
     {
         do_read(self.alloc, &mut self.cube, read, keeper)
     }
@@ -248,16 +250,16 @@ impl<P: WeightPolicy + Drop + Copy> ScriptRun<P> {
     fn answer<K: Sink>(&mut self, reply: &Option<Reply>, out: &mut K) -> Result<(), BreakOff>
         requires few { self.old.done < 2 ^ 62 }
         requires cells { IfSome reply.now (NamesCells self.old.cube.schema.dims) }
-        ensures gathered { (replies : List (List ℕ)) (start : Option (List ℕ)) → HasGathered replies start (K.taken out.old) self.old.gathered
-            → OnOk result (HasGathered (replies ++ text_of self.old.cube.schema.dims reply.now ∷ []) start (K.taken out.new) self.new.gathered) }
+        ensures gathered { (replies : List (List ℕ)) (start : Option (List ℕ)) → HasGathered replies start (K.tells out.old).taken self.old.gathered
+            → OnOk result (HasGathered (replies ++ text_of self.old.cube.schema.dims reply.now ∷ []) start (K.tells out.new).taken self.new.gathered) }
         ensures answered { OnOk result (self.new ≡ record self.old { gathered = self.new.gathered; done = self.old.done + 1; refused = self.old.refused + refusals_in reply.now }) }
         ensures one_more { OnOk result (length self.new.gathered ≤ length self.old.gathered + 1) }
         ensures few_gathered { OnOk result (AreFew self.new.gathered) }
         ensures policy { self.new.cube.policy ≡ self.old.cube.policy }
         ensures keeps { self.new.keeps ≡ self.old.keeps }
-        ensures count { OnOk result (K.faults out.new ≡ K.faults out.old) }
-        ensures broken { (replies : List (List ℕ)) (start : Option (List ℕ)) → HasGathered replies start (K.taken out.old) self.old.gathered → self.old.done ≡ length replies
-            → IfErr result (BreaksOff (replies ++ text_of self.old.cube.schema.dims reply.now ∷ []) (seen_since (sink_seen K.taken K.faults out.old out.new) start)) }
+        ensures count { OnOk result ((K.tells out.new).faults ≡ (K.tells out.old).faults) }
+        ensures broken { (replies : List (List ℕ)) (start : Option (List ℕ)) → HasGathered replies start (K.tells out.old).taken self.old.gathered → self.old.done ≡ length replies
+            → IfErr result (BreaksOff (replies ++ text_of self.old.cube.schema.dims reply.now ∷ []) (seen_since (sink_seen K.tells out.old out.new) start)) }
         ensures stop { IfErr result (IsGatheredStop (self.old.done + 1) (length self.old.gathered + 1)) }
     {
         if self.outbox.gather(self.cube.schema(), reply).is_err() {
@@ -280,13 +282,13 @@ impl<P: WeightPolicy + Drop + Copy> ScriptRun<P> {
 
     /// Writes the gathered replies.
     pub fn send<K: Sink>(&mut self, out: &mut K) -> Result<(), BreakOff>
-        ensures all { (replies : List (List ℕ)) (start : Option (List ℕ)) → HasGathered replies start (K.taken out.old) self.old.gathered → OnOk result (Appends start (K.taken out.new) (concat replies)) }
+        ensures all { (replies : List (List ℕ)) (start : Option (List ℕ)) → HasGathered replies start (K.tells out.old).taken self.old.gathered → OnOk result (Appends start (K.tells out.new).taken (concat replies)) }
         ensures empty { OnOk result (self.new ≡ record self.old { gathered = [] }) }
-        ensures count { OnOk result (K.faults out.new ≡ K.faults out.old) }
+        ensures count { OnOk result ((K.tells out.new).faults ≡ (K.tells out.old).faults) }
         ensures policy { self.new.cube.policy ≡ self.old.cube.policy }
         ensures keeps { self.new.keeps ≡ self.old.keeps }
-        ensures broken { (replies : List (List ℕ)) (start : Option (List ℕ)) → HasGathered replies start (K.taken out.old) self.old.gathered → self.old.done ≡ length replies
-            → IfErr result (BreaksOff replies (seen_since (sink_seen K.taken K.faults out.old out.new) start)) }
+        ensures broken { (replies : List (List ℕ)) (start : Option (List ℕ)) → HasGathered replies start (K.tells out.old).taken self.old.gathered → self.old.done ≡ length replies
+            → IfErr result (BreaksOff replies (seen_since (sink_seen K.tells out.old out.new) start)) }
         ensures stop { IfErr result (IsGatheredStop self.old.done (length self.old.gathered)) }
     {
         let before = self.done - self.outbox.len();
@@ -302,8 +304,8 @@ impl<P: WeightPolicy + Drop + Copy> ScriptRun<P> {
         requires { self.old.done + more < 2 ^ 64 }
         ensures policy { self.new.cube.policy ≡ self.old.cube.policy }
         ensures keeps { self.new.keeps ≡ self.old.keeps }
-        ensures broken { (replies later : List (List ℕ)) (start : Option (List ℕ)) → HasGathered replies start (K.taken out.old) self.old.gathered → self.old.done ≡ length replies
-            → length later ≤ 1 → more ≡ length later → BreaksOff (replies ++ later) (seen_since (sink_seen K.taken K.faults out.old out.new) start) result }
+        ensures broken { (replies later : List (List ℕ)) (start : Option (List ℕ)) → HasGathered replies start (K.tells out.old).taken self.old.gathered → self.old.done ≡ length replies
+            → length later ≤ 1 → more ≡ length later → BreaksOff (replies ++ later) (seen_since (sink_seen K.tells out.old out.new) start) result }
         ensures stop { (result ≡ break_off.Memory (self.old.done + more)) ⊎ IsGatheredStop self.old.done (length self.old.gathered) result }
     {
         if let Err(off) = self.send(out) {
@@ -318,8 +320,8 @@ impl<P: WeightPolicy + Drop + Copy> ScriptRun<P> {
     fn keep_fault<K: Sink>(&mut self, out: &mut K) -> BreakOff
         ensures policy { self.new.cube.policy ≡ self.old.cube.policy }
         ensures keeps { self.new.keeps ≡ self.old.keeps }
-        ensures broken { (replies : List (List ℕ)) (start : Option (List ℕ)) → HasGathered replies start (K.taken out.old) self.old.gathered → self.old.done ≡ length replies
-            → BreaksOff replies (seen_since (sink_seen K.taken K.faults out.old out.new) start) result }
+        ensures broken { (replies : List (List ℕ)) (start : Option (List ℕ)) → HasGathered replies start (K.tells out.old).taken self.old.gathered → self.old.done ≡ length replies
+            → BreaksOff replies (seen_since (sink_seen K.tells out.old out.new) start) result }
         ensures stop { (result ≡ break_off.Keep self.old.done) ⊎ IsGatheredStop self.old.done (length self.old.gathered) result }
     {
         if let Err(off) = self.send(out) {

@@ -1,5 +1,6 @@
 pub mod Appending
 pub mod Digits
+pub mod LineCases
 pub mod LineSteps
 pub mod NamedRegions
 pub mod ReadBack

@@ -14,26 +14,16 @@ use Rattle.cube_model.specs.Tree.{Dimension, Entry, IsTree, node_named, numbers}
 use Rattle.dim_tree.proofs.Climbing.{both, together}
 use Rattle.dim_tree.proofs.Renumbering.{AreNumbers_of, length-numbers}
 use Rattle.region_algebra.specs.Space.{IsRegion, is_region}
-use Rattle.text_lines.specs.Text.{fields_of}
-use Rattle.text_lines.specs.LineText.{field_at, is_clean, is_long, is_skipped, without_cr}
-use Rattle.fact_records.specs.Fields.{cols_given, fact_given, fact_with, id_given, nodes_named, region_given, result_then}
-use Rattle.fact_records.specs.MeasureFields.{measure_given}
+use Rattle.fact_records.specs.Fields.{cols_given, fact_given, fact_with, id_given, nodes_named, result_then}
 use Rattle.fact_records.specs.Shape.{ShapeValue}
 use Rattle.schema_text.specs.Schema.{SchemaValue, shape_of}
 use Rattle.script_text.specs.declared.line.Line.{Line}
 use Rattle.script_text.specs.declared.line.Line.TheVariants as line
 use Rattle.script_text.specs.declared.word.FactWord.{FactWord}
 use Rattle.script_text.specs.declared.word.FactWord.TheVariants.{Insert, Change}
-use Rattle.script_text.specs.declared.word.IdWord.{IdWord}
-use Rattle.script_text.specs.declared.word.IdWord.TheVariants.{Withdraw, Rows}
-use Rattle.script_text.specs.declared.word.MeasureWord.{MeasureWord}
-use Rattle.script_text.specs.declared.word.MeasureWord.TheVariants.{Sum, Avg, Pool}
-use Rattle.script_text.specs.declared.word.RegionWord.{RegionWord}
-use Rattle.script_text.specs.declared.word.RegionWord.TheVariants.{Count, Terms, Worlds}
-use Rattle.script_text.specs.declared.word.ScriptWord.{ScriptWord}
-use Rattle.script_text.specs.declared.word.ScriptWord.TheVariants.{OfFact, OfId, OfRegion, OfMeasure, OfView, OfGrowth}
-use Rattle.script_text.specs.ScriptLine.{command_line, dim_given, field_count_of, line_given, line_of, new_name_given, parent_given, view_given}
-use Rattle.script_text.specs.ScriptWord.{kind_of, line_of_fact, line_of_id, line_of_measure, line_of_region, word_spelled}
+use Rattle.script_text.specs.ScriptLine.{line_of}
+use Rattle.script_text.specs.ScriptWord.{line_of_fact}
+use Rattle.script_text.proofs.LineCases.{line_of-holds}
 
 -- a node that is found among some has a number below each bound of theirs
 first-below : (bound : ℕ) (first : Entry) (found : Option Entry) (node : ℕ) (b : Bool) → nat_lt first.number bound ≡ true → (option_map (λ e. e.number) found ≡ Some node → node < bound)
@@ -96,111 +86,23 @@ OnFact P (line.Edit (edit.Change fact)) = P fact
 OnFact P (line.Edit (edit.Withdraw id)) = ⊤
 OnFact P (line.Grow grow) = ⊤
 OnFact P line.Nothing = ⊤
-OnFact P (line.Count region) = ⊤
-OnFact P (line.Sum measure region) = ⊤
-OnFact P (line.Avg measure region) = ⊤
-OnFact P (line.Pool measure region) = ⊤
-OnFact P (line.Terms region) = ⊤
-OnFact P (line.Rows id) = ⊤
-OnFact P (line.View view) = ⊤
-OnFact P (line.Worlds region) = ⊤
+OnFact P (line.Ask asked) = ⊤
 
 module _ (schema : SchemaValue) (trees : All IsTree schema.dims) where
   abbrev Lies : Line → Type 0
   Lies said = OnFact (λ fact. IsRegion schema.dims fact.region) said
 
-  of_fact : (word : FactWord) (fact : Result Fact Code) (said : Line) → ((f : Fact) → fact ≡ Ok f → IsRegion schema.dims f.region) → result_then (λ fact. Ok (line_of_fact word fact)) fact ≡ Ok said → Lies said
-  of_fact word (Err why) said named e = cc
-  of_fact Insert (Ok fact) said named e =
-      let same : line.Edit (edit.Put fact) ≡ said = cc in
-      subst Lies same (named fact refl)
-  of_fact Change (Ok fact) said named e =
-      let same : line.Edit (edit.Change fact) ≡ said = cc in
-      subst Lies same (named fact refl)
-
-  of_id : (word : IdWord) (id : Result ℕ Code) (said : Line) → result_then (λ id. Ok (line_of_id word id)) id ≡ Ok said → Lies said
-  of_id word (Err why) said e = cc
-  of_id Withdraw (Ok id) said e =
-      let same : line.Edit (edit.Withdraw id) ≡ said = cc in
-      subst Lies same tt
-  of_id Rows (Ok id) said e =
-      let same : line.Rows id ≡ said = cc in
-      subst Lies same tt
-
-  of_region : (word : RegionWord) (region : Result (List ℕ) Code) (said : Line) → result_then (λ region. Ok (line_of_region word region)) region ≡ Ok said → Lies said
-  of_region word (Err why) said e = cc
-  of_region Count (Ok region) said e =
-      let same : line.Count region ≡ said = cc in
-      subst Lies same tt
-  of_region Terms (Ok region) said e =
-      let same : line.Terms region ≡ said = cc in
-      subst Lies same tt
-  of_region Worlds (Ok region) said e =
-      let same : line.Worlds region ≡ said = cc in
-      subst Lies same tt
-
-  of_measure : (word : MeasureWord) (region : Result (List ℕ) Code) (measure : Result ℕ Code) (said : Line)
-      → result_then (λ region. result_then (λ measure. Ok (line_of_measure word measure region)) measure) region ≡ Ok said → Lies said
-  of_measure word (Err why) measure said e = cc
-  of_measure word (Ok region) (Err why) said e = cc
-  of_measure Sum (Ok region) (Ok measure) said e =
-      let same : line.Sum measure region ≡ said = cc in
-      subst Lies same tt
-  of_measure Avg (Ok region) (Ok measure) said e =
-      let same : line.Avg measure region ≡ said = cc in
-      subst Lies same tt
-  of_measure Pool (Ok region) (Ok measure) said e =
-      let same : line.Pool measure region ≡ said = cc in
-      subst Lies same tt
-
-  of_view : (view : Result ℕ Code) (said : Line) → result_then (λ view. Ok (line.View view)) view ≡ Ok said → Lies said
-  of_view (Err why) said e = cc
-  of_view (Ok view) said e =
-      let same : line.View view ≡ said = cc in
-      subst Lies same tt
-
-  of_growth : (dim : Result ℕ Code) (parent : ℕ → Result ℕ Code) (name : ℕ → Result (List ℕ) Code) (said : Line)
-      → result_then (λ dim. result_then (λ parent. result_then (λ name. Ok (line.Grow (record { dim = dim; parent = parent; name = name }))) (name dim)) (parent dim)) dim ≡ Ok said → Lies said
-  of_growth (Err why) parent name said e = cc
-  of_growth (Ok dim) parent name said e = of_leaf (parent dim) (name dim) e
-    where
-      of_leaf : (parent : Result ℕ Code) (name : Result (List ℕ) Code)
-          → result_then (λ parent. result_then (λ name. Ok (line.Grow (record { dim = dim; parent = parent; name = name }))) name) parent ≡ Ok said → Lies said
-      of_leaf (Err why) name e = cc
-      of_leaf (Ok parent) (Err why) e = cc
-      of_leaf (Ok parent) (Ok name) e =
-          let same : line.Grow (record { dim = dim; parent = parent; name = name }) ≡ said = cc in
-          subst Lies same tt
-
-  line_given-lies : (word : ScriptWord) (fields : List (List ℕ)) (said : Line) → line_given schema word fields ≡ Ok said → Lies said
-  line_given-lies (OfFact word) fields said e = of_fact word (fact_given schema.dims (shape_of schema) fields) said (λ fact is. fact_given-region schema.dims (shape_of schema) fields fact trees is) e
-  line_given-lies (OfId word) fields said e = of_id word (id_given fields) said e
-  line_given-lies (OfRegion word) fields said e = of_region word (region_given schema.dims fields) said e
-  line_given-lies (OfMeasure word) fields said e = of_measure word (region_given schema.dims (drop 1 fields)) (measure_given (shape_of schema) (kind_of word) (field_at fields 0)) said e
-  line_given-lies OfGrowth fields said e = of_growth (dim_given schema (field_at fields 0)) (λ dim. parent_given schema.dims dim (field_at fields 1)) (λ dim. new_name_given schema.dims dim (field_at fields 2)) said e
-  line_given-lies OfView fields said e = of_view (view_given schema (field_at fields 0)) said e
-
-  command_line-lies : (fields : List (List ℕ)) (word : Option ScriptWord) (said : Line) → command_line schema fields word ≡ Ok said → Lies said
-  command_line-lies fields None said e = cc
-  command_line-lies fields (Some word) said e = either (length fields == field_count_of schema word) e
-    where
-      either : (b : Bool) → (if b then line_given schema word (drop 1 fields) else Err code.Fields) ≡ Ok said → Lies said
-      either true e = line_given-lies word (drop 1 fields) said e
-      either false e = cc
+  of_fact : (word : FactWord) (fact : Fact) → IsRegion schema.dims fact.region → Lies (line_of_fact word fact)
+  of_fact Insert fact here = here
+  of_fact Change fact here = here
 
   -- the fact of an accepted line lies at a region of the dimensions
   pub line_of-lies : (bytes : List ℕ) (said : Line) → line_of schema bytes ≡ Ok said → OnFact (λ fact. IsRegion schema.dims fact.region) said
-  unfolding line_of
-  line_of-lies bytes said e = judged (is_skipped bytes) (is_long bytes) (is_clean (without_cr bytes)) e
-    where
-      fields : List (List ℕ)
-      fields = fields_of (without_cr bytes)
-
-      judged : (skipped long clean : Bool)
-          → (if skipped then Ok line.Nothing else (if long then Err code.Long else (if clean then command_line schema fields (word_spelled (field_at fields 0)) else Err code.Text))) ≡ Ok said → Lies said
-      judged true long clean e =
-          let same : line.Nothing ≡ said = cc in
-          subst Lies same tt
-      judged false true clean e = cc
-      judged false false true e = command_line-lies fields (word_spelled (field_at fields 0)) said e
-      judged false false false e = cc
+  line_of-lies bytes said e =
+      line_of-holds schema Lies (record {
+        nothing = tt;
+        fact = λ word fields fact is. of_fact word fact (fact_given-region schema.dims (shape_of schema) fields fact trees is);
+        withdrawal = λ fields id is. tt;
+        growth = λ fields grow is. tt;
+        question = λ asked. tt;
+      }) bytes said e

@@ -3,40 +3,44 @@ use Rattle.std.specs.Prelude.{◌≡◌, ℕ, ◌<◌, List, length, Err, IsOkAn
 use Rattle.cube_model.specs.Facts.{IsId}
 use Rattle.region_algebra.specs.Space.{IsRegion}
 use Rattle.fact_records.specs.declared.measure_reader.MeasureKind.{MeasureKind}
-use Rattle.fact_records.specs.declared.measure_reader.MeasureKind.TheVariants as kind
 use Rattle.fact_records.specs.MeasureFields.{IsMeasureOf}
 use Rattle.fact_records.specs.Valid.{IsEditOf}
 use Rattle.schema_text.specs.Growth.{IsGrowOf}
 use Rattle.schema_text.specs.Schema.{SchemaValue, shape_of}
 use Rattle.script_text.specs.declared.line.Line.{Line}
 use Rattle.script_text.specs.declared.line.Line.TheVariants as line
+use Rattle.script_text.specs.declared.line.Question.{Question}
+use Rattle.script_text.specs.declared.line.Question.TheVariants.{OfRegion, OfMeasure, OfId, OfView}
 use Rattle.script_text.specs.declared.line.LineFault.{LineFault}
 use Rattle.script_text.specs.declared.line.LineFault.TheVariants as fault
 use Rattle.script_text.specs.ScriptLine.{line_of}
+use Rattle.script_text.specs.ScriptWord.{kind_of}
 
 -- a measure of a kind, by its place, and a region
 pub record IsMeasureOver (schema : SchemaValue) (wanted : MeasureKind) (measure : ℕ) (region : List ℕ) : Type 0 where
   pub nodes : IsRegion schema.dims region
   pub known : IsMeasureOf (shape_of schema) wanted measure
 
+-- what a question names is there
+abbrev pub IsQuestionOf : SchemaValue → Question → Type 0
+IsQuestionOf schema (OfRegion word region) = IsRegion schema.dims region
+IsQuestionOf schema (OfMeasure word measure region) = IsMeasureOver schema (kind_of word) measure region
+IsQuestionOf schema (OfId word id) = IsId id
+IsQuestionOf schema (OfView word view) = view < length schema.views
+
 -- what a line names is there
 abbrev pub IsLineOf : SchemaValue → Line → Type 0
 IsLineOf schema line.Nothing = ⊤
 IsLineOf schema (line.Edit change) = IsEditOf (shape_of schema) schema.dims change
 IsLineOf schema (line.Grow grow) = IsGrowOf schema.dims grow
-IsLineOf schema (line.Count region) = IsRegion schema.dims region
-IsLineOf schema (line.Sum measure region) = IsMeasureOver schema kind.Number measure region
-IsLineOf schema (line.Avg measure region) = IsMeasureOver schema kind.Number measure region
-IsLineOf schema (line.Pool measure region) = IsMeasureOver schema kind.Parts measure region
-IsLineOf schema (line.Terms region) = IsRegion schema.dims region
-IsLineOf schema (line.Rows id) = IsId id
-IsLineOf schema (line.View view) = view < length schema.views
-IsLineOf schema (line.Worlds region) = IsRegion schema.dims region
+IsLineOf schema (line.Ask asked) = IsQuestionOf schema asked
 
 -- a line lets a dimension grow
 abbrev pub IsGrowth : Line → Type 0
+IsGrowth line.Nothing = ⊥
+IsGrowth (line.Edit change) = ⊥
 IsGrowth (line.Grow grow) = ⊤
-IsGrowth said = ⊥
+IsGrowth (line.Ask asked) = ⊥
 
 -- where a line is refused, this is its code; memory is wanting for a line that lets a dimension grow, which has a name, and for no other
 abbrev pub IsFaultOf : SchemaValue → List ℕ → LineFault → Type 0

@@ -10,9 +10,13 @@ use Rattle.text_lines.specs.Text.{line_text}
 use Rattle.group_sum.specs.Terms.{TermList}
 use Rattle.region_algebra.specs.Space.{IsRegion}
 use Rattle.cube_model.specs.Tree.{Dimension, entry_of}
+use Rattle.script_text.specs.declared.reply.Answer.{Answer}
+use Rattle.script_text.specs.declared.reply.Answer.TheVariants.{Value, Quotient, Quotients, Terms, Rows, View, Numbers}
 use Rattle.script_text.specs.declared.reply.Reply.{Reply}
-use Rattle.script_text.specs.declared.reply.Reply.TheVariants.{Ok, Error, Count, Sum, Avg, Pool, Terms, Rows, View, Worlds}
+use Rattle.script_text.specs.declared.reply.Reply.TheVariants.{Done, Refused, Told}
+use Rattle.script_text.specs.declared.word.ScriptWord.TheVariants.{Asks}
 use Rattle.script_text.specs.Decimals.{pool_fields, quotient_fields, value_fields}
+use Rattle.script_text.specs.ScriptWord.{spelling_of}
 
 -- the denominator of a term and all its numerators, that of the count first
 abbrev pub term_fields : Term → List (List ℕ)
@@ -47,48 +51,43 @@ entry_fields dims entry = names_of dims entry.0 ++ terms_fields entry.1.terms
 abbrev pub view_fields : List Dimension → List (List ℕ × TermList) → List (List ℕ)
 view_fields dims entries = decimal (length entries) ∷ flat_map (entry_fields dims) entries
 
--- the number of the worlds, their mass, and the total of each column
-abbrev pub worlds_fields : ℕ → ℕ → List ℤ → List (List ℕ)
-worlds_fields worlds mass totals = decimal worlds ∷ decimal mass ∷ map signed_decimal totals
+-- whole numbers, each with its sign
+abbrev pub numbers_fields : List ℤ → List (List ℕ)
+numbers_fields numbers = map signed_decimal numbers
+
+-- the fields of an answer
+abbrev pub fields_of_answer : List Dimension → Answer → List (List ℕ)
+fields_of_answer dims (Value value) = value_fields value
+fields_of_answer dims (Quotient quotient) = quotient_fields quotient
+fields_of_answer dims (Quotients quotients) = pool_fields quotients
+fields_of_answer dims (Terms list) = terms_fields list.terms
+fields_of_answer dims (Rows den rows) = rows_fields dims den rows
+fields_of_answer dims (View entries) = view_fields dims entries
+fields_of_answer dims (Numbers numbers) = numbers_fields numbers
 
 -- the first field of a reply
 abbrev pub word_of_reply : Reply → List ℕ
-word_of_reply (Ok _) = codes "ok"
-word_of_reply (Error _) = codes "error"
-word_of_reply (Count _) = codes "count"
-word_of_reply (Sum _) = codes "sum"
-word_of_reply (Avg _) = codes "avg"
-word_of_reply (Pool _) = codes "pool"
-word_of_reply (Terms _) = codes "terms"
-word_of_reply (Rows _ _) = codes "rows"
-word_of_reply (View _) = codes "view"
-word_of_reply (Worlds _ _ _) = codes "worlds"
+word_of_reply (Done _) = codes "ok"
+word_of_reply (Refused _) = codes "error"
+word_of_reply (Told word _) = spelling_of (Asks word)
 
 -- its further fields
 abbrev pub fields_of_reply : List Dimension → Reply → List (List ℕ)
-fields_of_reply dims (Ok refreshed) = decimal refreshed ∷ []
-fields_of_reply dims (Error code) = word_of code ∷ []
-fields_of_reply dims (Count value) = value_fields value
-fields_of_reply dims (Sum value) = value_fields value
-fields_of_reply dims (Avg quotient) = quotient_fields quotient
-fields_of_reply dims (Pool quotients) = pool_fields quotients
-fields_of_reply dims (Terms list) = terms_fields list.terms
-fields_of_reply dims (Rows den rows) = rows_fields dims den rows
-fields_of_reply dims (View entries) = view_fields dims entries
-fields_of_reply dims (Worlds worlds mass totals) = worlds_fields worlds mass totals
+fields_of_reply dims (Done refreshed) = decimal refreshed ∷ []
+fields_of_reply dims (Refused code) = word_of code ∷ []
+fields_of_reply dims (Told _ fields) = fields_of_answer dims fields
 
 abbrev pub reply_text : List Dimension → Reply → List ℕ
 reply_text dims reply = line_text (word_of_reply reply) (fields_of_reply dims reply)
 
--- the cells and the regions that a reply names are there
+-- the cells and the regions that an answer names are there
+abbrev pub NamesPlaces : List Dimension → Answer → Type 0
+NamesPlaces dims (Rows _ rows) = AreRows dims rows
+NamesPlaces dims (View entries) = All (λ entry. IsRegion dims entry.0) entries
+NamesPlaces dims fields = ⊤
+
+-- and those that a reply names
 abbrev pub NamesCells : List Dimension → Reply → Type 0
-NamesCells dims (Ok _) = ⊤
-NamesCells dims (Error _) = ⊤
-NamesCells dims (Count _) = ⊤
-NamesCells dims (Sum _) = ⊤
-NamesCells dims (Avg _) = ⊤
-NamesCells dims (Pool _) = ⊤
-NamesCells dims (Terms _) = ⊤
-NamesCells dims (Rows _ rows) = AreRows dims rows
-NamesCells dims (View entries) = All (λ entry. IsRegion dims entry.0) entries
-NamesCells dims (Worlds _ _ _) = ⊤
+NamesCells dims (Done _) = ⊤
+NamesCells dims (Refused _) = ⊤
+NamesCells dims (Told _ fields) = NamesPlaces dims fields

@@ -5,33 +5,39 @@ use Rattle.std.specs.Str.{bytes_eq}
 use Rattle.cube_base.specs.declared.code.Code.{Code}
 use Rattle.cube_base.specs.declared.code.Code.TheVariants as code
 use Rattle.cube_base.specs.Name.{is_name}
+use Rattle.cube_model.specs.declared.edit.Edit.TheVariants as edit
 use Rattle.cube_model.specs.Tree.{Dimension, node_named}
 use Rattle.text_lines.specs.Text.{fields_of}
 use Rattle.text_lines.specs.LineText.{without_cr, is_skipped, is_long, is_clean, field_at}
 use Rattle.fact_records.specs.Fields.{fact_given, id_given, region_given, result_then}
 use Rattle.fact_records.specs.MeasureFields.{measure_given}
 use Rattle.schema_text.specs.Schema.{SchemaValue, shape_of, view_named}
+use Rattle.script_text.specs.declared.word.AskWord.{AskWord}
+use Rattle.script_text.specs.declared.word.AskWord.TheVariants.{OfId, OfRegion, OfMeasure, OfView}
 use Rattle.script_text.specs.declared.word.MeasureWord.{MeasureWord}
 use Rattle.script_text.specs.declared.word.ScriptWord.{ScriptWord}
-use Rattle.script_text.specs.declared.word.ScriptWord.TheVariants.{OfFact, OfId, OfRegion, OfMeasure, OfView, OfGrowth}
+use Rattle.script_text.specs.declared.word.ScriptWord.TheVariants.{OfFact, Withdraw, Grow, Asks}
 use Rattle.script_text.specs.declared.line.Line.{Line}
 use Rattle.script_text.specs.declared.line.Line.TheVariants as line
-use Rattle.script_text.specs.ScriptWord.{kind_of, line_of_fact, line_of_id, line_of_measure, line_of_region, word_spelled}
+use Rattle.script_text.specs.declared.line.Question.{Question}
+use Rattle.script_text.specs.declared.line.Question.TheVariants as question
+use Rattle.script_text.specs.ScriptWord.{kind_of, line_of_fact, word_spelled}
 
 -- the number of fields of a line: the word, an id, a measure or a view where the line has one, a node of each dimension and a field of
 -- each measure where it has these
 abbrev pub field_count_of : SchemaValue → ScriptWord → ℕ
 field_count_of schema (OfFact _) = 2 + length schema.dims + length schema.measures
-field_count_of schema (OfId _) = 2
-field_count_of schema (OfRegion _) = 1 + length schema.dims
-field_count_of schema (OfMeasure _) = 2 + length schema.dims
-field_count_of schema OfView = 2
-field_count_of schema OfGrowth = 4
+field_count_of schema Withdraw = 2
+field_count_of schema Grow = 4
+field_count_of schema (Asks (OfRegion _)) = 1 + length schema.dims
+field_count_of schema (Asks (OfMeasure _)) = 2 + length schema.dims
+field_count_of schema (Asks (OfId _)) = 2
+field_count_of schema (Asks (OfView _)) = 2
 
 -- the nodes are judged before the measure, whose name stands before theirs
-abbrev pub measure_line_given : SchemaValue → MeasureWord → List (List ℕ) → Result Line Code
-measure_line_given schema word fields =
-    result_then (λ region. result_then (λ measure. Ok (line_of_measure word measure region)) (measure_given (shape_of schema) (kind_of word) (field_at fields 0)))
+abbrev pub measure_question_given : SchemaValue → MeasureWord → List (List ℕ) → Result Question Code
+measure_question_given schema word fields =
+    result_then (λ region. result_then (λ measure. Ok (question.OfMeasure word measure region)) (measure_given (shape_of schema) (kind_of word) (field_at fields 0)))
     (region_given schema.dims (drop 1 fields))
 
 -- the view that a name says
@@ -55,14 +61,19 @@ growth_given schema fields =
     result_then (λ dim. result_then (λ parent. result_then (λ name. Ok (line.Grow (record { dim = dim; parent = parent; name = name })))
     (new_name_given schema.dims dim (field_at fields 2))) (parent_given schema.dims dim (field_at fields 1))) (dim_given schema (field_at fields 0))
 
+-- what the fields behind the word of a question ask
+abbrev pub question_given : SchemaValue → AskWord → List (List ℕ) → Result Question Code
+question_given schema (OfRegion word) fields = result_then (λ region. Ok (question.OfRegion word region)) (region_given schema.dims fields)
+question_given schema (OfMeasure word) fields = measure_question_given schema word fields
+question_given schema (OfId word) fields = result_then (λ id. Ok (question.OfId word id)) (id_given fields)
+question_given schema (OfView word) fields = result_then (λ view. Ok (question.OfView word view)) (view_given schema (field_at fields 0))
+
 -- what the fields behind a word say
 abbrev pub line_given : SchemaValue → ScriptWord → List (List ℕ) → Result Line Code
 line_given schema (OfFact word) fields = result_then (λ fact. Ok (line_of_fact word fact)) (fact_given schema.dims (shape_of schema) fields)
-line_given schema (OfId word) fields = result_then (λ id. Ok (line_of_id word id)) (id_given fields)
-line_given schema (OfRegion word) fields = result_then (λ region. Ok (line_of_region word region)) (region_given schema.dims fields)
-line_given schema (OfMeasure word) fields = measure_line_given schema word fields
-line_given schema OfGrowth fields = growth_given schema fields
-line_given schema OfView fields = result_then (λ view. Ok (line.View view)) (view_given schema (field_at fields 0))
+line_given schema Withdraw fields = result_then (λ id. Ok (line.Edit (edit.Withdraw id))) (id_given fields)
+line_given schema Grow fields = growth_given schema fields
+line_given schema (Asks word) fields = result_then (λ asked. Ok (line.Ask asked)) (question_given schema word fields)
 
 -- and what all fields of a line of a word say: first their number is judged
 abbrev pub command_line : SchemaValue → List (List ℕ) → Option ScriptWord → Result Line Code

@@ -8,9 +8,14 @@ ghost use Rattle.fact_records.specs.Examples.{fact_at};
 ghost use Rattle.schema_text.specs.Schema.{SchemaValue};
 ghost use Rattle.exact_fraction.specs.declared.quotients.Quotient.TheVariants.{Is, Undefined};
 ghost use Rattle.script_text.specs.declared.line.Line.TheVariants as line;
+ghost use Rattle.script_text.specs.declared.line.Question.TheVariants as question;
+ghost use Rattle.script_text.specs.declared.word.IdWord.TheVariants.{Rows};
+ghost use Rattle.script_text.specs.declared.word.MeasureWord.TheVariants.{Avg, Pool, Sum};
+ghost use Rattle.script_text.specs.declared.word.RegionWord.TheVariants.{Count, Terms, Worlds};
+ghost use Rattle.script_text.specs.declared.word.ViewWord.TheVariants.{View};
 ghost use Rattle.script_text.specs.Decimals.{pool_fields, quotient_fields, units_in, units_text, value_fields};
 ghost use Rattle.script_text.specs.Examples.{counted, graded, line_with, weighed};
-ghost use Rattle.script_text.specs.Reply.{rows_fields, terms_fields, view_fields, worlds_fields};
+ghost use Rattle.script_text.specs.Reply.{numbers_fields, rows_fields, terms_fields, view_fields};
 ghost use Rattle.script_text.specs.ScriptLine.{line_of};
 
 /// A line of more than 4,097 bytes says what its first 4,097 bytes say.
@@ -30,16 +35,16 @@ pub fn worked_lines()
     ensures change { line_of counted (line_with (codes "change") (codes "3" ∷ codes "d" ∷ codes "b" ∷ codes "50" ∷ [])) ≡ Ok (line.Edit (edit.Change (fact_at 3 (3 ∷ 1 ∷ []) 50))) }
     ensures withdraw { line_of counted (line_with (codes "withdraw") (codes "1" ∷ [])) ≡ Ok (line.Edit (edit.Withdraw 1)) }
     ensures terms { map (line_of counted) (line_with (codes "terms") (codes "c" ∷ codes "a" ∷ []) ∷ (line_with (codes "terms") (codes "c" ∷ codes "a" ∷ []) ++ 13 ∷ []) ∷ [])
-        ≡ replicate 2 (Ok (line.Terms (2 ∷ 0 ∷ []))) }
-    ensures rows { line_of counted (line_with (codes "rows") (codes "4" ∷ [])) ≡ Ok (line.Rows 4) }
-    ensures worlds { line_of graded (line_with (codes "worlds") (codes "b" ∷ codes "a" ∷ [])) ≡ Ok (line.Worlds (1 ∷ 0 ∷ [])) }
-    ensures count { line_of graded (line_with (codes "count") (codes "b" ∷ codes "a" ∷ [])) ≡ Ok (line.Count (1 ∷ 0 ∷ [])) }
-    ensures sum { line_of graded (line_with (codes "sum") (codes "n" ∷ codes "b" ∷ codes "a" ∷ [])) ≡ Ok (line.Sum 1 (1 ∷ 0 ∷ [])) }
-    ensures average { line_of graded (line_with (codes "avg") (codes "n" ∷ codes "c" ∷ codes "b" ∷ [])) ≡ Ok (line.Avg 1 (2 ∷ 1 ∷ [])) }
-    ensures pool { line_of graded (line_with (codes "pool") (codes "p" ∷ codes "a" ∷ codes "b" ∷ [])) ≡ Ok (line.Pool 0 (0 ∷ 1 ∷ [])) }
+        ≡ replicate 2 (Ok (line.Ask (question.OfRegion Terms (2 ∷ 0 ∷ [])))) }
+    ensures rows { line_of counted (line_with (codes "rows") (codes "4" ∷ [])) ≡ Ok (line.Ask (question.OfId Rows 4)) }
+    ensures worlds { line_of graded (line_with (codes "worlds") (codes "b" ∷ codes "a" ∷ [])) ≡ Ok (line.Ask (question.OfRegion Worlds (1 ∷ 0 ∷ []))) }
+    ensures count { line_of graded (line_with (codes "count") (codes "b" ∷ codes "a" ∷ [])) ≡ Ok (line.Ask (question.OfRegion Count (1 ∷ 0 ∷ []))) }
+    ensures sum { line_of graded (line_with (codes "sum") (codes "n" ∷ codes "b" ∷ codes "a" ∷ [])) ≡ Ok (line.Ask (question.OfMeasure Sum 1 (1 ∷ 0 ∷ []))) }
+    ensures average { line_of graded (line_with (codes "avg") (codes "n" ∷ codes "c" ∷ codes "b" ∷ [])) ≡ Ok (line.Ask (question.OfMeasure Avg 1 (2 ∷ 1 ∷ []))) }
+    ensures pool { line_of graded (line_with (codes "pool") (codes "p" ∷ codes "a" ∷ codes "b" ∷ [])) ≡ Ok (line.Ask (question.OfMeasure Pool 0 (0 ∷ 1 ∷ []))) }
     ensures growth { map (line_of counted) (line_with (codes "grow") (codes "f" ∷ codes "e" ∷ codes "z" ∷ []) ∷ line_with (codes "grow") (codes "p" ∷ codes "a" ∷ replicate 128 122 ∷ []) ∷ [])
         ≡ Ok (line.Grow (record { dim = 0; parent = 4; name = codes "z" })) ∷ Ok (line.Grow (record { dim = 1; parent = 0; name = replicate 128 122 })) ∷ [] }
-    ensures view { map (line_of counted) (line_with (codes "view") (codes "v" ∷ []) ∷ line_with (codes "view") (codes "w" ∷ []) ∷ []) ≡ Ok (line.View 0) ∷ Ok (line.View 1) ∷ [] }
+    ensures view { map (line_of counted) (line_with (codes "view") (codes "v" ∷ []) ∷ line_with (codes "view") (codes "w" ∷ []) ∷ []) ≡ map (λ view. Ok (line.Ask (question.OfView View view))) (0 ∷ 1 ∷ []) }
     ensures nothing { map (line_of counted) ([] ∷ (13 ∷ []) ∷ codes "#x" ∷ (35 ∷ replicate 5000 255) ∷ []) ≡ replicate 4 (Ok line.Nothing) }
     ensures negative { line_of weighed (line_with (codes "insert") (codes "4" ∷ codes "b" ∷ codes "b" ∷ codes "-5" ∷ codes "5" ∷ []))
         ≡ Ok (line.Edit (edit.Put (record { id = 4; region = 1 ∷ 1 ∷ []; cols = negsuc 4 ∷ pos 5 ∷ [] }))) }
@@ -78,7 +83,7 @@ pub fn worked_refusals()
     ensures one_view { map (line_of counted) (codes "view" ∷ line_with (codes "view") (codes "v" ∷ codes "v" ∷ []) ∷ []) ≡ replicate 2 (Err code.Fields) }
 {}
 
-/// The fields of replies: terms, numbers, quotients, rows and worlds.
+/// The fields of replies: terms, numbers, quotients, rows, views and whole numbers.
 pub fn worked_replies()
     ensures no_terms { terms_fields [] ≡ codes "0" ∷ [] }
     ensures terms { terms_fields (record { den = 1; count = 2; sums = pos 400 ∷ [] } ∷ record { den = 3; count = 2; sums = negsuc 1199 ∷ [] } ∷ [])
@@ -96,6 +101,6 @@ pub fn worked_replies()
         ≡ codes "0.700000000" ∷ codes "0.700000000" ∷ codes "7/10" ∷ codes "0.300000000" ∷ codes "0.300000000" ∷ codes "3/10" ∷ [] }
     ensures no_entries { view_fields small_space [] ≡ codes "0" ∷ [] }
     ensures view { view_fields small_space ((2 ∷ 0 ∷ [], record { columns = 2; terms = record { den = 1; count = 2; sums = pos 400 ∷ [] } ∷ [] }) ∷ []) ≡ codes "1" ∷ codes "c" ∷ codes "a" ∷ codes "1" ∷ codes "1" ∷ codes "2" ∷ codes "400" ∷ [] }
-    ensures worlds { worlds_fields 2 3 (pos 8 ∷ negsuc 2399 ∷ []) ≡ codes "2" ∷ codes "3" ∷ codes "8" ∷ codes "-2400" ∷ [] }
+    ensures numbers { numbers_fields (pos 2 ∷ pos 3 ∷ pos 8 ∷ negsuc 2399 ∷ []) ≡ codes "2" ∷ codes "3" ∷ codes "8" ∷ codes "-2400" ∷ [] }
     ensures rows { rows_fields small_space 3 ((0, 2) ∷ (2, 1) ∷ []) ≡ codes "3" ∷ codes "2" ∷ codes "c" ∷ codes "b" ∷ codes "2" ∷ codes "d" ∷ codes "b" ∷ codes "1" ∷ [] }
 {}

@@ -10,15 +10,15 @@ mod reply_numbers;
 mod reply_rows;
 mod reply_terms;
 mod reply_view;
-mod reply_worlds;
 mod word;
 
 pub use laws::{
     long_line_says_what_its_front_says, printed_bounds_read_back, worked_lines, worked_refusals,
     worked_replies,
 };
-pub use line::{Line, LineFault};
+pub use line::{Line, LineFault, Question};
 pub use line_reader::read_line;
-pub use reply::{Reply, append_reply, write_reply};
+pub use reply::{Answer, Reply, ViewList, append_reply, write_reply};
 pub use reply_fields::append_number;
 pub use reply_numbers::append_exact;
+pub use word::{AskWord, IdWord, MeasureWord, RegionWord, ViewWord};

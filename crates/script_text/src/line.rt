@@ -1,4 +1,8 @@
 //! What a line of a script says.
+ghost use Rattle.std.specs.Prelude.{◌≡◌};
+ghost use Rattle.script_text.specs.ScriptWord.{word_asked};
+
+use crate::word::{AskWord, IdWord, MeasureWord, RegionWord, ViewWord};
 use cube_base::{Code, Memory};
 use cube_model::{Edit, Grow, Region};
 
@@ -7,26 +11,52 @@ use cube_model::{Edit, Grow, Region};
 pub enum Line {
     /// Nothing: it is passed over.
     Nothing,
-    /// `insert|ID|NODE..|VALUE..`, `change|ID|NODE..|VALUE..` or `withdraw|ID`: an edit of the facts.
+    /// An edit of the facts.
     Edit(Edit),
-    /// `grow|DIMENSION|PARENT|NAME`: a leaf that a dimension is to get.
+    /// A leaf that a dimension is to get.
     Grow(Grow),
-    /// `count|NODE..`: how much the facts in a region count.
-    Count(Region),
-    /// `sum|MEASURE|NODE..`: the sum of the number measure at this place over a region.
-    Sum { measure: u32, region: Region },
-    /// `avg|MEASURE|NODE..`: that sum divided by the count.
-    Avg { measure: u32, region: Region },
-    /// `pool|MEASURE|NODE..`: the pooled distribution of the parts measure at this place over a region.
-    Pool { measure: u32, region: Region },
-    /// `terms|NODE..`: what the facts in a region add up to.
-    Terms(Region),
-    /// `rows|ID`: how a fact is spread.
-    Rows(u64),
-    /// `view|NAME`: the view at this place, entry by entry.
-    View(u32),
-    /// `worlds|NODE..`: what all possible worlds of the facts come to in a region.
-    Worlds(Region),
+    /// A question.
+    Ask(Question),
+}
+
+/// What a line asks: its word, and what stands behind that.
+#[derive(Clone, Copy, Debug)]
+pub enum Question {
+    /// Of a region.
+    OfRegion {
+        word: RegionWord,
+        region: Region,
+    },
+    /// Of the measure at a place, over a region.
+    OfMeasure {
+        word: MeasureWord,
+        measure: u32,
+        region: Region,
+    },
+    /// Of an id.
+    OfId {
+        word: IdWord,
+        id: u64,
+    },
+    /// Of the view at a place.
+    OfView {
+        word: ViewWord,
+        view: u32,
+    },
+}
+
+impl Question {
+    /// The word of the question.
+    pub fn word(&self) -> AskWord
+        ensures { result ≡ word_asked self.now }
+    {
+        match self {
+            Question::OfRegion { word, .. } => AskWord::OfRegion(*word),
+            Question::OfMeasure { word, .. } => AskWord::OfMeasure(*word),
+            Question::OfId { word, .. } => AskWord::OfId(*word),
+            Question::OfView { word, .. } => AskWord::OfView(*word),
+        }
+    }
 }
 
 /// Why a line of a script is not read.

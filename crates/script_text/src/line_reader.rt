@@ -4,14 +4,16 @@ ghost use Rattle.std.specs.Str.{bytes_eq};
 ghost use Rattle.cube_base.specs.Name.{is_name};
 ghost use Rattle.text_lines.specs.LineText.{field_at};
 ghost use Rattle.text_lines.specs.Text.{fields_of};
-ghost use Rattle.script_text.specs.LineOf.{IsFaultOf, IsLineOf};
+ghost use Rattle.script_text.specs.LineOf.{IsFaultOf, IsLineOf, IsQuestionOf};
+ghost use Rattle.script_text.specs.declared.word.ScriptWord.TheVariants as asked;
 ghost use Rattle.script_text.specs.LineSteps.{IsReadOf};
-ghost use Rattle.script_text.specs.ScriptLine.{command_line, dim_given, field_count_of, growth_given, line_given, line_of, measure_line_given, new_name_given, parent_given, view_given};
+ghost use Rattle.script_text.specs.ScriptLine.{command_line, dim_given, field_count_of, growth_given, line_given, line_of, measure_question_given, new_name_given, parent_given, question_given, view_given};
 ghost use Rattle.script_text.specs.ScriptWord.{word_spelled};
 
-use crate::line::{Line, LineFault};
-use crate::word::{MeasureWord, ScriptWord, word_spelled};
+use crate::line::{Line, LineFault, Question};
+use crate::word::{AskWord, MeasureWord, ScriptWord, word_spelled};
 use cube_base::{Code, Memory, Name, is_name};
+use cube_model::Edit;
 use fact_records::{read_fact, read_id, read_measure, read_region};
 use region_algebra::{Grow, Space};
 use schema_text::Schema;
@@ -75,10 +77,11 @@ fn count_of(schema: &Schema, word: ScriptWord) -> usize
     let values = schema.shape().len() as usize;
     match word {
         ScriptWord::OfFact(_) => 2 + nodes + values,
-        ScriptWord::OfId(_) | ScriptWord::OfView => 2,
-        ScriptWord::OfRegion(_) => 1 + nodes,
-        ScriptWord::OfMeasure(_) => 2 + nodes,
-        ScriptWord::OfGrowth => 4,
+        ScriptWord::Withdraw => 2,
+        ScriptWord::Grow => 4,
+        ScriptWord::Asks(AskWord::OfRegion(_)) => 1 + nodes,
+        ScriptWord::Asks(AskWord::OfMeasure(_)) => 2 + nodes,
+        ScriptWord::Asks(AskWord::OfId(_) | AskWord::OfView(_)) => 2,
     }
 }
 
@@ -93,31 +96,63 @@ fn read_fields(
     ensures line { IsReadOf (line_given schema.now word fields.old) result }
     ensures within { IfOk result (IsLineOf schema.now) }
 {
-    let space = schema.space();
     match word {
-        ScriptWord::OfFact(word) => Ok(word.line(read_fact(space, schema.shape(), fields)?)),
-        ScriptWord::OfId(word) => Ok(word.line(read_id(fields)?)),
-        ScriptWord::OfRegion(word) => Ok(word.line(read_region(space, fields)?)),
-        ScriptWord::OfMeasure(word) => Ok(read_of_measure(schema, word, fields)?),
-        ScriptWord::OfGrowth => read_growth(alloc, schema, fields),
-        ScriptWord::OfView => Ok(Line::View(read_view(schema, fields.next_field())?)),
+        ScriptWord::OfFact(word) => Ok(word.line(read_fact(
+            schema.space(),
+            schema.shape(),
+            fields,
+        )?)),
+        ScriptWord::Withdraw => Ok(Line::Edit(Edit::Withdraw(read_id(fields)?))),
+        ScriptWord::Grow => read_growth(alloc, schema, fields),
+        ScriptWord::Asks(word) => Ok(Line::Ask(read_question(schema, word, fields)?)),
     }
 }
 
-/// What a measure and the nodes behind it say. The nodes are judged first.
+/// What the fields behind the word of a question ask.
+fn read_question(
+    schema: &Schema,
+    word: AskWord,
+    fields: &mut FieldWalk<'_>,
+) -> Result<Question, Code>
+    requires { length fields.old + 1 ≡ field_count_of schema.now (asked.Asks word) }
+    ensures asked { result ≡ question_given schema.now word fields.old }
+    ensures within { IfOk result (IsQuestionOf schema.now) }
+{
+    match word {
+        AskWord::OfRegion(word) => {
+            let region = read_region(schema.space(), fields)?;
+            Ok(Question::OfRegion { word, region })
+        }
+        AskWord::OfMeasure(word) => read_of_measure(schema, word, fields),
+        AskWord::OfId(word) => {
+            let id = read_id(fields)?;
+            Ok(Question::OfId { word, id })
+        }
+        AskWord::OfView(word) => {
+            let view = read_view(schema, fields.next_field())?;
+            Ok(Question::OfView { word, view })
+        }
+    }
+}
+
+/// What a measure and the nodes behind it ask. The nodes are judged first.
 fn read_of_measure(
     schema: &Schema,
     word: MeasureWord,
     fields: &mut FieldWalk<'_>,
-) -> Result<Line, Code>
+) -> Result<Question, Code>
     requires { length fields.old ≡ 1 + length schema.now.dims }
-    ensures line { result ≡ measure_line_given schema.now word fields.old }
-    ensures within { IfOk result (IsLineOf schema.now) }
+    ensures asked { result ≡ measure_question_given schema.now word fields.old }
+    ensures within { IfOk result (IsQuestionOf schema.now) }
 {
     let name = fields.next_field();
     let region = read_region(schema.space(), fields)?;
     let measure = read_measure(schema.shape(), word.kind(), name)?;
-    Ok(word.line(measure, region))
+    Ok(Question::OfMeasure {
+        word,
+        measure,
+        region,
+    })
 }
 
 /// The view that a name says.

@@ -1,7 +1,8 @@
 //! The fields of a reply.
 ghost use Rattle.std.specs.Prelude.{◌≡◌, ◌∷◌, ◌++◌, OnOk, OnErr};
 ghost use Rattle.std.specs.Fmt.{signed_decimal};
-ghost use Rattle.script_text.specs.ReplySteps.{Keeps};
+ghost use Rattle.script_text.specs.Reply.{numbers_fields};
+ghost use Rattle.script_text.specs.ReplySteps.{Keeps, fields_text};
 
 use cube_base::Memory;
 use itoa::{Buffer, Integer};
@@ -22,6 +23,17 @@ pub fn append_signed(text: &mut Vec<u8>, number: i128) -> Result<(), Memory>
     ensures err { OnErr result (Keeps text.old.items text.new.items) }
 {
     append_number(text, number)
+}
+
+/// Appends TAB and a number with its sign, for each of these.
+pub fn append_numbers(text: &mut Vec<u8>, numbers: &[i128]) -> Result<(), Memory>
+    ensures ok { OnOk result (text.new.items ≡ text.old.items ++ fields_text (numbers_fields numbers.now)) }
+    ensures err { OnErr result (Keeps text.old.items text.new.items) }
+{
+    for number in numbers {
+        append_signed(text, *number)?;
+    }
+    Ok(())
 }
 
 /// Appends TAB and these bytes.

@@ -1,10 +1,10 @@
-//! The words that lines of a script begin with. What a word is stands here and in its definition: its entry by what stands
-//! behind it, its spelling, and the line that it makes.
+//! The words that lines of a script begin with: the kinds of what stands behind them, and how each is spelled.
 ghost use Rattle.std.specs.Prelude.{◌≡◌};
-ghost use Rattle.script_text.specs.ScriptWord.{kind_of, line_of_fact, line_of_id, line_of_measure, line_of_region, word_spelled};
+ghost use Rattle.script_text.specs.ScriptWord.{kind_of, line_of_fact, spelling_of, word_among, word_spelled};
 
 use crate::line::Line;
-use cube_model::{Edit, Fact, Region};
+use ScriptWord::Asks;
+use cube_model::{Edit, Fact};
 use fact_records::MeasureKind;
 
 /// The first field of a line of a script, by what stands behind it.
@@ -12,79 +12,127 @@ use fact_records::MeasureKind;
 pub enum ScriptWord {
     /// An id, a node of each dimension and a field of each measure.
     OfFact(FactWord),
-    /// An id.
-    OfId(IdWord),
-    /// A node of each dimension.
-    OfRegion(RegionWord),
-    /// The name of a measure and a node of each dimension.
-    OfMeasure(MeasureWord),
-    /// The name of a view; its word is `view`.
-    OfView,
-    /// The name of a dimension, a node of it and the name of a new one; its word is `grow`.
-    OfGrowth,
+    /// `withdraw|ID`: the fact of an id is taken out.
+    Withdraw,
+    /// `grow|DIMENSION|PARENT|NAME`: a leaf that a dimension is to get.
+    Grow,
+    /// What a question asks of.
+    Asks(AskWord),
 }
 
 /// A word before a fact.
 #[derive(Clone, Copy, Debug, PartialEq, Eq)]
 pub enum FactWord {
+    /// `insert|ID|NODE..|VALUE..`: a new fact.
     Insert,
+    /// `change|ID|NODE..|VALUE..`: a fact in the place of the one that has its id.
     Change,
 }
 
-/// A word before the id of a fact.
+/// The word of a question, by what it asks of.
 #[derive(Clone, Copy, Debug, PartialEq, Eq)]
-pub enum IdWord {
-    Withdraw,
-    Rows,
+pub enum AskWord {
+    /// A node of each dimension.
+    OfRegion(RegionWord),
+    /// The name of a measure and a node of each dimension.
+    OfMeasure(MeasureWord),
+    /// An id.
+    OfId(IdWord),
+    /// The name of a view.
+    OfView(ViewWord),
 }
 
 /// A word before a region.
 #[derive(Clone, Copy, Debug, PartialEq, Eq)]
 pub enum RegionWord {
+    /// `count|NODE..`: how much the facts in a region count.
     Count,
+    /// `terms|NODE..`: what the facts in a region add up to.
     Terms,
+    /// `worlds|NODE..`: what all possible worlds of the facts come to in a region.
     Worlds,
 }
 
 /// A word before a measure and a region.
 #[derive(Clone, Copy, Debug, PartialEq, Eq)]
 pub enum MeasureWord {
+    /// `sum|MEASURE|NODE..`: the sum of a number measure over a region.
     Sum,
+    /// `avg|MEASURE|NODE..`: that sum divided by the count.
     Avg,
+    /// `pool|MEASURE|NODE..`: the pooled distribution of a parts measure over a region.
     Pool,
+}
+
+/// A word before the id of a fact.
+#[derive(Clone, Copy, Debug, PartialEq, Eq)]
+pub enum IdWord {
+    /// `rows|ID`: how a fact is spread.
+    Rows,
+}
+
+/// A word before the name of a view.
+#[derive(Clone, Copy, Debug, PartialEq, Eq)]
+pub enum ViewWord {
+    /// `view|NAME`: a view, entry by entry.
+    View,
+}
+
+/// All words.
+const WORDS: [ScriptWord; 12] = [
+    ScriptWord::OfFact(FactWord::Insert),
+    ScriptWord::OfFact(FactWord::Change),
+    ScriptWord::Withdraw,
+    ScriptWord::Grow,
+    Asks(AskWord::OfRegion(RegionWord::Count)),
+    Asks(AskWord::OfMeasure(MeasureWord::Sum)),
+    Asks(AskWord::OfMeasure(MeasureWord::Avg)),
+    Asks(AskWord::OfMeasure(MeasureWord::Pool)),
+    Asks(AskWord::OfRegion(RegionWord::Terms)),
+    Asks(AskWord::OfId(IdWord::Rows)),
+    Asks(AskWord::OfView(ViewWord::View)),
+    Asks(AskWord::OfRegion(RegionWord::Worlds)),
+];
+
+impl ScriptWord {
+    /// How the word is spelled.
+    pub fn spelling(self) -> &'static str
+        ensures { result.now ≡ spelling_of self }
+    {
+        match self {
+            ScriptWord::OfFact(FactWord::Insert) => "insert",
+            ScriptWord::OfFact(FactWord::Change) => "change",
+            ScriptWord::Withdraw => "withdraw",
+            ScriptWord::Grow => "grow",
+            Asks(AskWord::OfRegion(RegionWord::Count)) => "count",
+            Asks(AskWord::OfMeasure(MeasureWord::Sum)) => "sum",
+            Asks(AskWord::OfMeasure(MeasureWord::Avg)) => "avg",
+            Asks(AskWord::OfMeasure(MeasureWord::Pool)) => "pool",
+            Asks(AskWord::OfRegion(RegionWord::Terms)) => "terms",
+            Asks(AskWord::OfId(IdWord::Rows)) => "rows",
+            Asks(AskWord::OfView(ViewWord::View)) => "view",
+            Asks(AskWord::OfRegion(RegionWord::Worlds)) => "worlds",
+        }
+    }
 }
 
 /// The word that a field spells.
 pub fn word_spelled(field: &str) -> Option<ScriptWord>
     ensures { result ≡ word_spelled field.now }
 {
-    if field == "insert" {
-        Some(ScriptWord::OfFact(FactWord::Insert))
-    } else if field == "change" {
-        Some(ScriptWord::OfFact(FactWord::Change))
-    } else if field == "withdraw" {
-        Some(ScriptWord::OfId(IdWord::Withdraw))
-    } else if field == "grow" {
-        Some(ScriptWord::OfGrowth)
-    } else if field == "count" {
-        Some(ScriptWord::OfRegion(RegionWord::Count))
-    } else if field == "sum" {
-        Some(ScriptWord::OfMeasure(MeasureWord::Sum))
-    } else if field == "avg" {
-        Some(ScriptWord::OfMeasure(MeasureWord::Avg))
-    } else if field == "pool" {
-        Some(ScriptWord::OfMeasure(MeasureWord::Pool))
-    } else if field == "terms" {
-        Some(ScriptWord::OfRegion(RegionWord::Terms))
-    } else if field == "rows" {
-        Some(ScriptWord::OfId(IdWord::Rows))
-    } else if field == "view" {
-        Some(ScriptWord::OfView)
-    } else if field == "worlds" {
-        Some(ScriptWord::OfRegion(RegionWord::Worlds))
-    } else {
-        None
+    word_among(&WORDS, field)
+}
+
+/// The first of these words that a field spells.
+fn word_among(words: &[ScriptWord], field: &str) -> Option<ScriptWord>
+    ensures { result ≡ word_among words.now field.now }
+{
+    for word in words {
+        if field == word.spelling() {
+            return Some(*word);
+        }
     }
+    None
 }
 
 impl FactWord {
@@ -99,31 +147,6 @@ impl FactWord {
     }
 }
 
-impl IdWord {
-    /// The line of the word and an id.
-    pub fn line(self, id: u64) -> Line
-        ensures { result ≡ line_of_id self id }
-    {
-        match self {
-            IdWord::Withdraw => Line::Edit(Edit::Withdraw(id)),
-            IdWord::Rows => Line::Rows(id),
-        }
-    }
-}
-
-impl RegionWord {
-    /// The line of the word and a region.
-    pub fn line(self, region: Region) -> Line
-        ensures { result ≡ line_of_region self region }
-    {
-        match self {
-            RegionWord::Count => Line::Count(region),
-            RegionWord::Terms => Line::Terms(region),
-            RegionWord::Worlds => Line::Worlds(region),
-        }
-    }
-}
-
 impl MeasureWord {
     /// The kind of the measure that the word takes.
     pub fn kind(self) -> MeasureKind
@@ -132,17 +155,6 @@ impl MeasureWord {
         match self {
             MeasureWord::Sum | MeasureWord::Avg => MeasureKind::Number,
             MeasureWord::Pool => MeasureKind::Parts,
-        }
-    }
-
-    /// The line of the word, a measure and a region.
-    pub fn line(self, measure: u32, region: Region) -> Line
-        ensures { result ≡ line_of_measure self measure region }
-    {
-        match self {
-            MeasureWord::Sum => Line::Sum { measure, region },
-            MeasureWord::Avg => Line::Avg { measure, region },
-            MeasureWord::Pool => Line::Pool { measure, region },
         }
     }
 }

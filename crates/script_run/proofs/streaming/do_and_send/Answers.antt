@@ -1,4 +1,5 @@
 use Rattle.std.proofs.Common.{refl}
+use Rattle.schema_text.specs.Schema.{weigh_of}
 use Rattle.script_run.specs.Seen.{keeper_seen, sink_seen}
 use Rattle.line_cutter.specs.Pieces.{whole_lines}
 use Rattle.script_run.proofs.Sending.{does_lines-sent}
@@ -6,10 +7,10 @@ use Rattle.script_run.proofs.streaming.do_and_send.Goals as goal
 
 pub returns-clause-does : goal.returns-clause-does
 returns-clause-does g c =
-    let first = sink_seen g.K.Sink.taken g.K.Sink.faults c.args.out.now c.do_held.new.out in
-    let later = sink_seen g.K.Sink.taken g.K.Sink.faults c.do_held.new.out c.send.new.out in
-    let keeper = keeper_seen g.Q.Keeper.content g.Q.Keeper.journal g.Q.Keeper.faults c.args.keeper.now c.do_held.new.keeper in
-    does_lines-sent g.P.WeightPolicy.weigh (whole_lines c.args.lines.now.lines) c.args.run.now c.do_held.new.run first later keeper _ refl refl c.in_ok-do_held.ensures.does c.send.new.self c.send.result
+    let first = sink_seen g.K.Sink.tells c.args.out.now c.do_held.new.out in
+    let later = sink_seen g.K.Sink.tells c.do_held.new.out c.send.new.out in
+    let keeper = keeper_seen g.Q.Keeper.tells c.args.keeper.now c.do_held.new.keeper in
+    does_lines-sent weigh_of (whole_lines c.args.lines.now.lines) c.args.run.now c.do_held.new.run first later keeper _ refl refl c.in_ok-do_held.ensures.does c.send.new.self c.send.result
     (record {
       all = c.send.ensures.all;
       empty = c.send.ensures.empty;

@@ -1,5 +1,6 @@
 use Rattle.std.proofs.Common.{length}
-use Rattle.std.specs.Prelude.{IsTrue}
+use Rattle.fact_keeper.specs.Keeper.{StaysOpen}
+use Rattle.schema_text.specs.Schema.{weigh_of}
 use Rattle.script_run.specs.Seen.{keeper_seen, sink_seen}
 use Rattle.script_run.proofs.HeldLines.{SomeDone}
 use Rattle.script_run.proofs.streaming.do_held.Given as goal
@@ -8,8 +9,8 @@ use Rattle.script_run.proofs.streaming.do_held.Given as goal
 abbrev pub invariant-lines : goal.invariant-lines
 invariant-lines g l =
     record {
-      some : SomeDone g.P.WeightPolicy.weigh l.fn.lines.lines l.lines.lines l.fn.run l.run (sink_seen g.K.Sink.taken g.K.Sink.faults l.fn.out l.out) (keeper_seen g.Q.Keeper.content g.Q.Keeper.journal g.Q.Keeper.faults l.fn.keeper l.keeper);
-      stays_open : IsTrue (g.Q.Keeper.is_open l.keeper);
+      some : SomeDone weigh_of l.fn.lines.lines l.lines.lines l.fn.run l.run (sink_seen g.K.Sink.tells l.fn.out l.out) (keeper_seen g.Q.Keeper.tells l.fn.keeper l.keeper);
+      stays_open : StaysOpen (g.Q.Keeper.tells l.fn.keeper) (g.Q.Keeper.tells l.keeper);
     }
 
 -- one line fewer is held

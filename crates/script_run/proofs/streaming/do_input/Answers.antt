@@ -1,8 +1,10 @@
 use Rattle.std.proofs.Common.{◌≡◌, false, refl, sym, ◌∙◌, subst, arith}
 use Rattle.std.proofs.lemmas.Result.{err_from_is_err_and}
 use Rattle.cube_base.specs.Outside.{Rose}
-use Rattle.script_run.specs.Seen.{told_of}
+use Rattle.fact_keeper.proofs.Staying.{stays-refl, stays-trans}
+use Rattle.schema_text.specs.Schema.{weigh_of}
 use Rattle.script_run.specs.StreamTurn.{Outside, outside_of}
+use Rattle.script_run.proofs.EndReads.{ends-begun, ends-over, ends-stopped, ends-turn}
 use Rattle.script_run.proofs.PieceTurns.{all_broke, all_ended, counts_since, few_held}
 use Rattle.script_run.proofs.streaming.do_input.Goals as goal
 
@@ -12,7 +14,9 @@ turns-init g c = record {
   few = omega arith;
   keeps = refl;
   no_keep_fault = refl;
-  stays_open = c.requires.open;
+  stays_open = stays-refl _ c.requires.open;
+  stays_ended = λ ended. ended;
+  ends = ends-begun c.args.pieces.now.is_ended _;
 }
 
 pub do_piece-requires-clause-few : goal.do_piece-requires-clause-few
@@ -33,7 +37,9 @@ turns-preserved g c =
       few = omega (arith, does.few, turn.few);
       keeps = does.keeps ∙ turn.keeps;
       no_keep_fault = does.keep ∙ turn.no_keep_fault;
-      stays_open = c.in_ok-do_piece.ensures.stays_open;
+      stays_open = stays-trans _ _ _ turn.stays_open c.in_ok-do_piece.ensures.stays_open;
+      stays_ended = λ ended. absurd (cc (turn.stays_ended ended, sym c.is_ended.ensures ∙ c.turns-test.true));
+      ends = ends-turn c.args.pieces.now.is_ended c.turns.pieces.is_ended c.do_piece.new.pieces.is_ended _ _ _ (sym c.is_ended.ensures ∙ c.turns-test.true) turn.stays_ended turn.ends c.in_ok-do_piece.ensures.ends;
     }
 
 pub returns-in_err-do_piece-clause-ends : goal.returns-in_err-do_piece-clause-ends
@@ -51,17 +57,16 @@ returns-in_err-do_piece-clause-count g c = λ keeps.
 pub returns-in_err-do_piece-clause-cause : goal.returns-in_err-do_piece-clause-cause
 returns-in_err-do_piece-clause-cause g c =
     let exit = err_from_is_err_and c.from_residual.result c.from_residual.ensures.1 in
-    let after = g.Q.Keeper.faults c.do_piece.new.keeper in
+    let after = (g.Q.Keeper.tells c.do_piece.new.keeper).faults in
     rw (exit.1, exit.2) (λ told. subst (λ n. Rose n after) c.turns.invariant.no_keep_fault (c.in_err-do_piece.ensures.does.cause told))
 
 pub returns-in_err-do_end-clause-ends : goal.returns-in_err-do_end-clause-ends
 returns-in_err-do_end-clause-ends g c = λ ground text room start stands.
     let exit = err_from_is_err_and c.from_residual-in_err-do_end.result c.from_residual-in_err-do_end.ensures.1 in
     let turn = c.turns.invariant in
-    let told = told_of g.Q.Keeper.content g.Q.Keeper.journal in
-    let after : Outside = outside_of g.S.Source.left g.S.Source.faults g.K.Sink.taken g.K.Sink.faults told g.Q.Keeper.faults c.turns.source c.do_end.new.out c.do_end.new.keeper in
+    let after : Outside = outside_of g.S.Source.tells g.K.Sink.tells g.Q.Keeper.tells c.turns.source c.do_end.new.out c.do_end.new.keeper in
     rw (exit.1, exit.2)
-    (all_broke g.P.WeightPolicy.weigh ground text room start _ c.turns.pieces c.turns.lines.lines c.turns.run (turn.stands ground text room start stands) after _ (sym c.is_ended.ensures ∙ c.turns-test.false) refl refl c.in_err-do_end.ensures.ends)
+    (all_broke weigh_of ground text room start _ c.turns.pieces c.turns.lines.lines c.turns.run (turn.stands ground text room start stands) after _ (sym c.is_ended.ensures ∙ c.turns-test.false) refl refl c.in_err-do_end.ensures.ends)
 
 pub returns-in_err-do_end-clause-count : goal.returns-in_err-do_end-clause-count
 returns-in_err-do_end-clause-count g c = λ keeps.
@@ -73,7 +78,7 @@ returns-in_err-do_end-clause-count g c = λ keeps.
 pub returns-in_err-do_end-clause-cause : goal.returns-in_err-do_end-clause-cause
 returns-in_err-do_end-clause-cause g c =
     let exit = err_from_is_err_and c.from_residual-in_err-do_end.result c.from_residual-in_err-do_end.ensures.1 in
-    let after = g.Q.Keeper.faults c.do_end.new.keeper in
+    let after = (g.Q.Keeper.tells c.do_end.new.keeper).faults in
     rw (exit.1, exit.2) (λ told. subst (λ n. Rose n after) c.turns.invariant.no_keep_fault (c.in_err-do_end.ensures.ends.cause told))
 
 pub do_end-requires-clause-few : goal.do_end-requires-clause-few
@@ -82,9 +87,28 @@ do_end-requires-clause-few g c = omega (arith, c.requires.few, c.turns.invariant
 pub returns-clause-ends : goal.returns-clause-ends
 returns-clause-ends g c = λ ground text room start stands.
     let turn = c.turns.invariant in
-    let told = told_of g.Q.Keeper.content g.Q.Keeper.journal in
-    let after : Outside = outside_of g.S.Source.left g.S.Source.faults g.K.Sink.taken g.K.Sink.faults told g.Q.Keeper.faults c.turns.source c.do_end.new.out c.do_end.new.keeper in
-    all_ended g.P.WeightPolicy.weigh ground text room start _ c.turns.pieces c.turns.lines.lines c.turns.run (turn.stands ground text room start stands) after _ (sym c.is_ended.ensures ∙ c.turns-test.false) refl refl c.in_ok-do_end.ensures.ends
+    let after : Outside = outside_of g.S.Source.tells g.K.Sink.tells g.Q.Keeper.tells c.turns.source c.do_end.new.out c.do_end.new.keeper in
+    all_ended weigh_of ground text room start _ c.turns.pieces c.turns.lines.lines c.turns.run (turn.stands ground text room start stands) after _ (sym c.is_ended.ensures ∙ c.turns-test.false) refl refl c.in_ok-do_end.ensures.ends
 
 pub returns-clause-count : goal.returns-clause-count
 returns-clause-count g c = λ keeps. c.in_ok-do_end.ensures.ends.keep ∙ c.turns.invariant.no_keep_fault
+
+pub returns-in_err-do_piece-clause-stays_open : goal.returns-in_err-do_piece-clause-stays_open
+returns-in_err-do_piece-clause-stays_open g c = stays-trans _ _ _ c.turns.invariant.stays_open c.in_err-do_piece.ensures.stays_open
+
+pub returns-in_err-do_piece-clause-ended : goal.returns-in_err-do_piece-clause-ended
+returns-in_err-do_piece-clause-ended g c =
+    let turn = c.turns.invariant in
+    ends-stopped c.args.pieces.now.is_ended c.turns.pieces.is_ended _ _ _ (sym c.is_ended.ensures ∙ c.turns-test.true) turn.stays_ended turn.ends c.in_err-do_piece.ensures.ended
+
+pub returns-in_err-do_end-clause-stays_open : goal.returns-in_err-do_end-clause-stays_open
+returns-in_err-do_end-clause-stays_open g c = stays-trans _ _ _ c.turns.invariant.stays_open c.in_err-do_end.ensures.stays_open
+
+pub returns-in_err-do_end-clause-ended : goal.returns-in_err-do_end-clause-ended
+returns-in_err-do_end-clause-ended g c = ends-over c.args.pieces.now.is_ended c.turns.pieces.is_ended _ _ c.turns.invariant.ends
+
+pub returns-clause-stays_open : goal.returns-clause-stays_open
+returns-clause-stays_open g c = stays-trans _ _ _ c.turns.invariant.stays_open c.in_ok-do_end.ensures.stays_open
+
+pub returns-clause-ended : goal.returns-clause-ended
+returns-clause-ended g c = ends-over c.args.pieces.now.is_ended c.turns.pieces.is_ended _ _ c.turns.invariant.ends

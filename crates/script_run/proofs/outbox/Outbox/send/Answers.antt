@@ -15,7 +15,7 @@ pub returns-in-Err-clause-cut : goal.returns-in-Err-clause-cut
 returns-in-Err-clause-cut g c =
     let texts = c.args.self.now in
     let p = c.write_from.new.sent in
-    let before = g.K.Sink.taken c.args.out.now in
-    let after = g.K.Sink.taken c.write_from.new.out in
+    let before = (g.K.Sink.tells c.args.out.now).taken in
+    let after = (g.K.Sink.tells c.write_from.new.out).taken in
     let all : c.deref.result.now ≡ concat texts = c.deref.ensures.value ∙ c.self.invariant.text_is ∙ ap concat c.self.view_is in
     wrote_part texts before after p c.whole.result (subst (λ t. p < length t) all c.in-Err.ensures.err) (subst (λ t. Appends before after (take p t)) all c.in-Err.ensures.bytes) c.whole.ensures

@@ -2,6 +2,8 @@
 use Rattle.std.proofs.Common.{◌+◌, ◌++◌, ◌∷◌, [], refl, ap, ◌∙◌, subst, inr, arith}
 use Rattle.std.specs.Prelude.{IfErr, OnOk}
 use Rattle.script_text.specs.ScriptLine.{line_of}
+use Rattle.schema_text.specs.Schema.{weigh_of}
+use Rattle.schema_text.specs.declared.word.PolicyWord.{PolicyWord}
 use Rattle.script_run.specs.Kept.{HasKept, KeptAt}
 use Rattle.script_run.specs.Run.{run}
 use Rattle.script_run.specs.Progress.{BreaksOff, HasDone}
@@ -13,7 +15,7 @@ use Rattle.script_run.proofs.script_run.ScriptRun.do_line.Goals as goal
 
 pub returns-in_default-clause-broken : goal.returns-in_default-clause-broken
 returns-in_default-clause-broken g c = λ schema first lines start done.
-    let weigh = g.P.WeightPolicy.weigh c.args.self.now.cube.policy in
+    let weigh = weigh_of c.args.self.now.cube.policy in
     let count = count_done weigh schema first lines start _ _ done in
     breaks_off-no_later weigh schema first lines c.args.line.now _ c.give_up.result (c.give_up.ensures.broken (run weigh schema first lines).replies [] start done.gathered count (omega arith) refl)
 
@@ -46,50 +48,50 @@ returns-in-Err-make_ready-clause-cause g c =
 
 pub returns-clause-done : goal.returns-clause-done
 returns-clause-done g c = λ schema first lines start done.
-    let weigh = g.P.WeightPolicy.weigh in
+    let weigh = weigh_of in
     let line = c.args.line.now in
     let ready = c.make_ready.new.self in
     let is_read = ap (λ w. line_of w.cube.schema line) c.in_default-make_ready.ensures.same ∙ c.in-Ok.ensures.read in
-    subst (λ p. HasDone {P = g.row.P.Denot} (weigh p) schema first lines start (g.K.Sink.taken c.make_ready.new.out) ready
-    → OnOk c.do_read-done.result (HasDone {P = g.row.P.Denot} (weigh p) schema first (lines ++ line ∷ []) start (g.K.Sink.taken c.do_read-done.new.out) c.do_read-done.new.self))
+    subst (λ p. HasDone {P = PolicyWord} (weigh p) schema first lines start (g.K.Sink.tells c.make_ready.new.out).taken ready
+    → OnOk c.do_read-done.result (HasDone {P = PolicyWord} (weigh p) schema first (lines ++ line ∷ []) start (g.K.Sink.tells c.do_read-done.new.out).taken c.do_read-done.new.self))
     c.make_ready.ensures.policy (λ here. c.do_read-done.ensures.done schema first lines start line here is_read) (c.in_default-make_ready.ensures.done schema first lines start done)
 
 pub returns-clause-broken : goal.returns-clause-broken
 returns-clause-broken g c = λ schema first lines start done.
-    let weigh = g.P.WeightPolicy.weigh in
+    let weigh = weigh_of in
     let line = c.args.line.now in
     let ready = c.make_ready.new.self in
     let is_read = ap (λ w. line_of w.cube.schema line) c.in_default-make_ready.ensures.same ∙ c.in-Ok.ensures.read in
-    let sink = sink_seen g.K.Sink.taken g.K.Sink.faults c.make_ready.new.out c.do_read-done.new.out in
+    let sink = sink_seen g.K.Sink.tells c.make_ready.new.out c.do_read-done.new.out in
     let here =
-    subst (λ p. HasDone {P = g.row.P.Denot} (weigh p) schema first lines start (g.K.Sink.taken c.make_ready.new.out) ready
+    subst (λ p. HasDone {P = PolicyWord} (weigh p) schema first lines start (g.K.Sink.tells c.make_ready.new.out).taken ready
     → IfErr c.do_read-done.result (BreaksOff (run (weigh p) schema first (lines ++ line ∷ [])).replies (seen_since sink start)))
     c.make_ready.ensures.policy (λ here. c.do_read-done.ensures.broken schema first lines start line here is_read) (c.in_default-make_ready.ensures.done schema first lines start done) in
-    subst (λ n. IfErr c.do_read-done.result (BreaksOff (run (weigh c.args.self.now.cube.policy) schema first (lines ++ line ∷ [])).replies (record { taken = start; taken_after = g.K.Sink.taken c.do_read-done.new.out; faults = n; faults_after = g.K.Sink.faults c.do_read-done.new.out })))
+    subst (λ n. IfErr c.do_read-done.result (BreaksOff (run (weigh c.args.self.now.cube.policy) schema first (lines ++ line ∷ [])).replies (record { taken = start; taken_after = (g.K.Sink.tells c.do_read-done.new.out).taken; faults = n; faults_after = (g.K.Sink.tells c.do_read-done.new.out).faults })))
     c.in_default-make_ready.ensures.count here
 
 pub returns-clause-kept : goal.returns-clause-kept
 returns-clause-kept g c = λ schema first lines start before keeps done kept.
-    let weigh = g.P.WeightPolicy.weigh in
+    let weigh = weigh_of in
     let line = c.args.line.now in
     let ready = c.make_ready.new.self in
-    let told = told_of g.Q.Keeper.content g.Q.Keeper.journal c.args.keeper.now in
-    let told_after = told_of g.Q.Keeper.content g.Q.Keeper.journal c.do_read-done.new.keeper in
+    let told = told_of g.Q.Keeper.tells c.args.keeper.now in
+    let told_after = told_of g.Q.Keeper.tells c.do_read-done.new.keeper in
     let is_read = ap (λ w. line_of w.cube.schema line) c.in_default-make_ready.ensures.same ∙ c.in-Ok.ensures.read in
-    subst (λ p. HasDone {P = g.row.P.Denot} (weigh p) schema first lines start (g.K.Sink.taken c.make_ready.new.out) ready → HasKept (weigh p) schema first lines before told ready.gathered
+    subst (λ p. HasDone {P = PolicyWord} (weigh p) schema first lines start (g.K.Sink.tells c.make_ready.new.out).taken ready → HasKept (weigh p) schema first lines before told ready.gathered
     → OnOk c.do_read-done.result (HasKept (weigh p) schema first (lines ++ line ∷ []) before told_after c.do_read-done.new.self.gathered))
     c.make_ready.ensures.policy (λ here kept_here. c.do_read-done.ensures.kept schema first lines start line before (c.in_default-make_ready.ensures.ready keeps) here is_read kept_here)
     (c.in_default-make_ready.ensures.done schema first lines start done) (has_kept-fewer _ schema first lines before told _ _ kept c.in_default-make_ready.ensures.fewer)
 
 pub returns-clause-stopped : goal.returns-clause-stopped
 returns-clause-stopped g c = λ schema first lines start before keeps done kept.
-    let weigh = g.P.WeightPolicy.weigh in
+    let weigh = weigh_of in
     let line = c.args.line.now in
     let ready = c.make_ready.new.self in
-    let told = told_of g.Q.Keeper.content g.Q.Keeper.journal c.args.keeper.now in
-    let told_after = told_of g.Q.Keeper.content g.Q.Keeper.journal c.do_read-done.new.keeper in
+    let told = told_of g.Q.Keeper.tells c.args.keeper.now in
+    let told_after = told_of g.Q.Keeper.tells c.do_read-done.new.keeper in
     let is_read = ap (λ w. line_of w.cube.schema line) c.in_default-make_ready.ensures.same ∙ c.in-Ok.ensures.read in
-    subst (λ p. HasDone {P = g.row.P.Denot} (weigh p) schema first lines start (g.K.Sink.taken c.make_ready.new.out) ready → HasKept (weigh p) schema first lines before told ready.gathered
+    subst (λ p. HasDone {P = PolicyWord} (weigh p) schema first lines start (g.K.Sink.tells c.make_ready.new.out).taken ready → HasKept (weigh p) schema first lines before told ready.gathered
     → IfErr c.do_read-done.result (KeptAt (weigh p) schema first (lines ++ line ∷ []) before told_after))
     c.make_ready.ensures.policy (λ here kept_here. c.do_read-done.ensures.stopped schema first lines start line before (c.in_default-make_ready.ensures.ready keeps) here is_read kept_here)
     (c.in_default-make_ready.ensures.done schema first lines start done) (has_kept-fewer _ schema first lines before told _ _ kept c.in_default-make_ready.ensures.fewer)

@@ -10,7 +10,7 @@ returns-in-Err-clause-broken g c = λ replies later start gathered answered few 
 
 pub returns-clause-broken : goal.returns-clause-broken
 returns-clause-broken g c = λ replies later start gathered answered few count.
-    let sink = sink_seen g.K.Sink.taken g.K.Sink.faults c.args.out.now c.send.new.out in
+    let sink = sink_seen g.K.Sink.tells c.args.out.now c.send.new.out in
     let same = ap (λ w. w.done) (c.self.view_is ∙ c.in_default.ensures.empty) in
     breaks_off_whole replies later start sink (c.self.inside.done + c.args.more) (c.in_default.ensures.all replies start gathered) few (omega (arith, same, answered, count)) c.in_default.ensures.count
 

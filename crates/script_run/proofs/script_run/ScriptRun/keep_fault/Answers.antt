@@ -6,7 +6,7 @@ use Rattle.script_run.proofs.script_run.ScriptRun.keep_fault.Goals as goal
 
 pub returns-clause-broken : goal.returns-clause-broken
 returns-clause-broken g c = λ replies start gathered answered.
-    let sink = sink_seen g.K.Sink.taken g.K.Sink.faults c.args.out.now c.send.new.out in
+    let sink = sink_seen g.K.Sink.tells c.args.out.now c.send.new.out in
     let same = ap (λ w. w.done) (c.self.view_is ∙ c.in_default.ensures.empty) in
     breaks_off_keep replies start sink c.self.inside.done (c.in_default.ensures.all replies start gathered) (same ∙ answered) c.in_default.ensures.count
 

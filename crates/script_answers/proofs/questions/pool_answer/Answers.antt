@@ -2,8 +2,8 @@
 use Rattle.std.proofs.Common.{◌+◌, ◌≤◌, subst, sym}
 use Rattle.std.specs.Prelude.{IfSome, slice_get}
 use Rattle.fact_records.specs.Shape.{ShapeValue, width_of}
-use Rattle.script_run.proofs.Measures.{columns-within}
-use Rattle.script_run.proofs.questions.pool_reply.Goals as goal
+use Rattle.script_answers.proofs.Measures.{columns-within}
+use Rattle.script_answers.proofs.questions.pool_answer.Goals as goal
 
 pub pool-requires-clause-columns : goal.pool-requires-clause-columns
 pool-requires-clause-columns c =
