@@ -25,26 +25,17 @@ use Rattle.region_algebra.specs.Growth.{child_fault, size_fault}
 use Rattle.region_algebra.specs.Space.{IsRegion}
 use Rattle.region_algebra.proofs.Growing.{grown_dims-at}
 use Rattle.region_algebra.proofs.Numbers.{number-within}
-use Rattle.text_lines.specs.LineText.{field_at, is_clean, is_long, is_skipped, without_cr}
-use Rattle.text_lines.specs.Text.{fields_of}
-use Rattle.fact_records.specs.Fields.{fact_given, id_given, region_given, result_then}
-use Rattle.fact_records.specs.MeasureFields.{measure_given}
+use Rattle.text_lines.specs.LineText.{field_at}
+use Rattle.fact_records.specs.Fields.{result_then}
 use Rattle.schema_text.specs.Growth.{IsGrowOf, dims_with}
-use Rattle.schema_text.specs.Schema.{SchemaValue, shape_of}
+use Rattle.schema_text.specs.Schema.{SchemaValue}
 use Rattle.script_text.specs.declared.line.Line.{Line}
 use Rattle.script_text.specs.declared.line.Line.TheVariants as line
 use Rattle.script_text.specs.declared.word.FactWord.{FactWord}
 use Rattle.script_text.specs.declared.word.FactWord.TheVariants.{Insert, Change}
-use Rattle.script_text.specs.declared.word.IdWord.{IdWord}
-use Rattle.script_text.specs.declared.word.IdWord.TheVariants.{Withdraw, Rows}
-use Rattle.script_text.specs.declared.word.MeasureWord.{MeasureWord}
-use Rattle.script_text.specs.declared.word.MeasureWord.TheVariants.{Sum, Avg, Pool}
-use Rattle.script_text.specs.declared.word.RegionWord.{RegionWord}
-use Rattle.script_text.specs.declared.word.RegionWord.TheVariants.{Count, Terms, Worlds}
-use Rattle.script_text.specs.declared.word.ScriptWord.{ScriptWord}
-use Rattle.script_text.specs.declared.word.ScriptWord.TheVariants.{OfFact, OfId, OfRegion, OfMeasure, OfView, OfGrowth}
-use Rattle.script_text.specs.ScriptLine.{command_line, dim_given, field_count_of, line_given, line_of, view_given}
-use Rattle.script_text.specs.ScriptWord.{kind_of, line_of_fact, line_of_id, line_of_measure, line_of_region, word_spelled}
+use Rattle.script_text.specs.ScriptLine.{dim_given, growth_given, line_of}
+use Rattle.script_text.specs.ScriptWord.{line_of_fact}
+use Rattle.script_text.proofs.LineCases.{line_of-holds}
 use Rattle.cube_core.specs.Growth.{growth_code, has_large_region, judge_growth}
 use Rattle.cube_core.proofs.Widening.{keep-grown}
 
@@ -60,37 +51,9 @@ named-within dim name node tree found =
     number-within dim place node tree
     (slice_get-map (λ (e : Entry). e.number) dim place ∙ ap (option_map (λ (e : Entry). e.number)) (sym (find_at (λ (e : Entry). bytes_eq e.name name) dim)) ∙ found)
 
--- The line is read as a growth: no other word than that of growths says one, and this one says a leaf.
-module _ (schema : SchemaValue) (trees : All IsTree schema.dims) (grow : Grow) where
-  no_fact : (word : FactWord) (fact : Result Fact Code) → result_then (λ fact. Ok (line_of_fact word fact)) fact ≡ Ok (line.Grow grow) → ⊥
-  no_fact word (Err why) e = cc
-  no_fact Insert (Ok fact) e = cc
-  no_fact Change (Ok fact) e = cc
-
-  no_id : (word : IdWord) (id : Result ℕ Code) → result_then (λ id. Ok (line_of_id word id)) id ≡ Ok (line.Grow grow) → ⊥
-  no_id word (Err why) e = cc
-  no_id Withdraw (Ok id) e = cc
-  no_id Rows (Ok id) e = cc
-
-  no_region : (word : RegionWord) (region : Result (List ℕ) Code) → result_then (λ region. Ok (line_of_region word region)) region ≡ Ok (line.Grow grow) → ⊥
-  no_region word (Err why) e = cc
-  no_region Count (Ok region) e = cc
-  no_region Terms (Ok region) e = cc
-  no_region Worlds (Ok region) e = cc
-
-  no_measure : (word : MeasureWord) (region : Result (List ℕ) Code) (measure : Result ℕ Code)
-      → result_then (λ region. result_then (λ measure. Ok (line_of_measure word measure region)) measure) region ≡ Ok (line.Grow grow) → ⊥
-  no_measure word (Err why) measure e = cc
-  no_measure word (Ok region) (Err why) e = cc
-  no_measure Sum (Ok region) (Ok measure) e = cc
-  no_measure Avg (Ok region) (Ok measure) e = cc
-  no_measure Pool (Ok region) (Ok measure) e = cc
-
-  no_view : (view : Result ℕ Code) → result_then (λ view. Ok (line.View view)) view ≡ Ok (line.Grow grow) → ⊥
-  no_view (Err why) e = cc
-  no_view (Ok view) e = cc
-
-  module _ (above name : List ℕ) where
+-- A line that is read as a growth says a leaf.
+module _ (schema : SchemaValue) (trees : All IsTree schema.dims) where
+  module _ (grow : Grow) (above name : List ℕ) where
     -- a name that was judged, where this node of a dimension is to be the parent
     abbrev of_name : ℕ → ℕ → Option Dimension → Result Line Code
     of_name d parent tree =
@@ -133,35 +96,28 @@ module _ (schema : SchemaValue) (trees : All IsTree schema.dims) (grow : Grow) w
     growth-given (Err why) e = cc
     growth-given (Ok d) e = tree-given d (slice_get schema.dims d) refl e
 
-  line_given-leaf : (word : ScriptWord) (fields : List (List ℕ)) → line_given schema word fields ≡ Ok (line.Grow grow) → IsLeafOf schema.dims grow
-  line_given-leaf (OfFact word) fields e = absurd (no_fact word (fact_given schema.dims (shape_of schema) fields) e)
-  line_given-leaf (OfId word) fields e = absurd (no_id word (id_given fields) e)
-  line_given-leaf (OfRegion word) fields e = absurd (no_region word (region_given schema.dims fields) e)
-  line_given-leaf (OfMeasure word) fields e = absurd (no_measure word (region_given schema.dims (drop 1 fields)) (measure_given (shape_of schema) (kind_of word) (field_at fields 0)) e)
-  line_given-leaf OfView fields e = absurd (no_view (view_given schema (field_at fields 0)) e)
-  line_given-leaf OfGrowth fields e = growth-given (field_at fields 1) (field_at fields 2) (dim_given schema (field_at fields 0)) e
+  -- it is a growth, or says another thing
+  abbrev MayGrow : Line → Type 0
+  MayGrow said = (grow : Grow) → said ≡ line.Grow grow → IsLeafOf schema.dims grow
 
-  command_line-leaf : (fields : List (List ℕ)) (word : Option ScriptWord) → command_line schema fields word ≡ Ok (line.Grow grow) → IsLeafOf schema.dims grow
-  command_line-leaf fields None e = cc
-  command_line-leaf fields (Some word) e = either (length fields == field_count_of schema word) e
-    where
-      either : (b : Bool) → (if b then line_given schema word (drop 1 fields) else Err code.Fields) ≡ Ok (line.Grow grow) → IsLeafOf schema.dims grow
-      either true e = line_given-leaf word (drop 1 fields) e
-      either false e = cc
+  no_fact : (word : FactWord) (fact : Fact) → MayGrow (line_of_fact word fact)
+  no_fact Insert fact grow e = cc
+  no_fact Change fact grow e = cc
 
-  pub line_of-leaf : (bytes : List ℕ) → line_of schema bytes ≡ Ok (line.Grow grow) → IsLeafOf schema.dims grow
-  unfolding line_of
-  line_of-leaf bytes e = judged (is_skipped bytes) (is_long bytes) (is_clean (without_cr bytes)) e
-    where
-      fields : List (List ℕ)
-      fields = fields_of (without_cr bytes)
+  of_growth : (fields : List (List ℕ)) (grow : Grow) → growth_given schema fields ≡ Ok (line.Grow grow) → MayGrow (line.Grow grow)
+  of_growth fields grow is other e =
+      let same : grow ≡ other = cc in
+      subst (IsLeafOf schema.dims) same (growth-given grow (field_at fields 1) (field_at fields 2) (dim_given schema (field_at fields 0)) is)
 
-      judged : (skipped long clean : Bool)
-          → (if skipped then Ok line.Nothing else (if long then Err code.Long else (if clean then command_line schema fields (word_spelled (field_at fields 0)) else Err code.Text))) ≡ Ok (line.Grow grow) → IsLeafOf schema.dims grow
-      judged true long clean e = cc
-      judged false true clean e = cc
-      judged false false true e = command_line-leaf fields (word_spelled (field_at fields 0)) e
-      judged false false false e = cc
+  pub line_of-leaf : (grow : Grow) (bytes : List ℕ) → line_of schema bytes ≡ Ok (line.Grow grow) → IsLeafOf schema.dims grow
+  line_of-leaf grow bytes e =
+      line_of-holds schema MayGrow (record {
+        nothing = λ grow e. cc;
+        fact = λ word fields fact is. no_fact word fact;
+        withdrawal = λ fields id is grow e. cc;
+        growth = λ fields grow is. of_growth fields grow is;
+        question = λ asked grow e. cc;
+      }) bytes (line.Grow grow) e grow refl
 
 -- there is room for a leaf in a dimension of so many nodes: none has its name, and its parent is not too deep
 record HasRoom (same : Option ℕ) (parent : Option Entry) (nodes : ℕ) : Type 0 where

@@ -1,178 +1,112 @@
--- What the ends say of a run over a store that was loaded, and of one where it was not.
-use Rattle.std.proofs.Common.{◌≡◌, ℕ, sym, subst, inl}
-use Rattle.std.specs.Prelude.{IfSome}
-use Rattle.std.specs.Io.KnownBytes.{Keeps}
-use Rattle.std.proofs.KnownBytes.{Keeps-refl}
+-- What the ends say of a store that is not opened or not loaded alike a cube.
+use Rattle.std.proofs.Common.{◌≡◌, ℕ, refl, sym, subst, Some}
+use Rattle.std.specs.Prelude.{◌≢◌}
 use Rattle.fact_keeper.specs.declared.content.Stored.{Stored}
-use Rattle.schema_text.specs.Schema.{SchemaValue}
-use Rattle.text_lines.specs.Text.{lines_of}
-use Rattle.script_run.specs.Seen.{KeeperSeen, NoWriteFault, Told, WroteNothing}
-use Rattle.cube_cli.specs.End.{EndsImport, EndsOpening, EndsRun, EndsTask, EndsTelling, ImportOver, LeftStore, Opened, OpeningOver, RunOver, SaysOfOpening, SaysOfTask, SaysOfTelling, TaskOver, TellingOver, WantedMemory}
-use Rattle.cube_cli.specs.Seen.{Seen, WasNotRead}
-use Rattle.cube_cli.specs.Steps.{EndsAudit, HoldsSchema}
+use Rattle.fact_keeper.specs.Batch.{empty_content}
+use Rattle.schema_text.specs.Schema.{SchemaValue, policy_in, shape_of, weigh_of}
+use Rattle.schema_text.specs.declared.word.PolicyWord.{PolicyWord}
+use Rattle.stored_state.specs.Sound.{IsFinding, IsLoadFault}
+use Rattle.schema_text.specs.declared.schema.SchemaFault.{SchemaFault}
+use Rattle.schema_text.specs.declared.schema.SchemaFault.TheVariants as schema_fault
+use Rattle.stored_state.specs.declared.finding.Finding.{Finding}
+use Rattle.stored_state.specs.declared.finding.Finding.TheVariants as finding
+use Rattle.stored_state.specs.declared.finding.LoadFault.{LoadFault}
+use Rattle.stored_state.specs.declared.finding.LoadFault.TheVariants as load_fault
+use Rattle.script_run.specs.Seen.{KeeperSeen, NoKeepFault, SeenAll}
+use Rattle.cube_cli.specs.declared.command.Command.TheVariants.{Store}
+use Rattle.cube_cli.specs.declared.command.StoreCommand.{StoreCommand}
+use Rattle.cube_cli.specs.declared.command.StoreCommand.TheVariants.{Input, Tell}
 use Rattle.cube_cli.specs.declared.store.InputTask.{InputTask}
 use Rattle.cube_cli.specs.declared.store.InputTask.TheVariants.{Run, Import}
 use Rattle.cube_cli.specs.declared.telling.Telling.{Telling}
+use Rattle.cube_cli.specs.declared.store.OpenStop.{OpenStop}
+use Rattle.cube_cli.specs.declared.store.OpenStop.TheVariants as open_stop
 use Rattle.cube_cli.specs.declared.end.End.{End}
-use Rattle.cube_cli.specs.declared.end.End.TheVariants.{Finished, Usage, Schema, NoCube, HasCube, BadStore, ReadFault, WriteFault, KeepFault, Memory, TooLong, BadRecord, ImportRows}
-use Rattle.cube_cli.proofs.Keepers.{of_given, since_load, told-weaker}
-use Rattle.cube_cli.proofs.Running.{wanted_first}
+use Rattle.cube_cli.specs.declared.end.End.TheVariants.{BadStore, KeepFault, Memory, NoCube}
+use Rattle.cube_cli.specs.Doing.{Fits, doing_of, ends_of}
+use Rattle.cube_cli.specs.End.{SaysOf}
+use Rattle.cube_cli.specs.Kinds.{IsAmong}
+use Rattle.cube_cli.specs.RunEnd.{end_of_load, end_of_open, load_fault_of}
+use Rattle.cube_cli.specs.SchemaAlone.{HasCauseAlone}
+use Rattle.cube_cli.specs.Seen.{Holds, IsUntouched, WasNotCalled}
+use Rattle.cube_cli.specs.Steps.{HoldsSchema, NotOpened, Opened}
+use Rattle.cube_cli.specs.Store.{Finds, FindsBy}
+use Rattle.cube_cli.proofs.First.{IsStill, bad_store, keep_fault, left_all, no_cube, wants_memory}
+use Rattle.cube_cli.proofs.Known.{of_given}
 
--- nothing was read or written, and no fault of these was met
-pub record IsStill (seen : Seen) : Type 0 where
-  pub read : WasNotRead seen.source
-  pub wrote : seen.sink.taken_after ≡ seen.sink.taken
-  pub write : NoWriteFault seen.sink
+-- a command which may give the ends of a store that is not opened
+record MayStop (command : StoreCommand) : Type 0 where
+  no_cube : IsAmong (ends_of (Some (Store command))) NoCube
+  bad_store : (found : Finding) → IsAmong (ends_of (Some (Store command))) (BadStore found)
+  keep_fault : IsAmong (ends_of (Some (Store command))) (KeepFault 0)
+  memory : IsAmong (ends_of (Some (Store command))) (Memory 0)
 
-pub nothing : (seen : Seen) → IsStill seen → WroteNothing seen.sink
-nothing seen still = subst (λ after. Keeps seen.sink.taken after) (sym still.wrote) (Keeps-refl seen.sink.taken)
+may_input : (task : InputTask) → MayStop (Input task)
+may_input Run = record { no_cube = refl; bad_store = λ found. refl; keep_fault = refl; memory = refl }
+may_input Import = record { no_cube = refl; bad_store = λ found. refl; keep_fault = refl; memory = refl }
 
-pub still : (seen : Seen) → WasNotRead seen.source → seen.sink.taken_after ≡ seen.sink.taken → NoWriteFault seen.sink → IsStill seen
-still seen read wrote write = record { read = read; wrote = wrote; write = write }
+may_tell : (telling : Telling) → MayStop (Tell telling)
+may_tell telling = record { no_cube = refl; bad_store = λ found. refl; keep_fault = refl; memory = refl }
 
--- the store was not loaded, or nothing that is sound is in it
-module _ (seen : Seen) (keeper : KeeperSeen) (still : IsStill seen) where
-  ends_run : (end : End) → EndsOpening keeper end → EndsRun seen keeper end
-  ends_run NoCube opening = record { no_fault = record { outside = record { read = still.read.count; write = still.write }; keep = opening.1 }; nothing = record { wrote = nothing seen still; kept = opening.0 }; read = still.read.read }
-  ends_run (BadStore found) opening = record { no_fault = record { outside = record { read = still.read.count; write = still.write }; keep = opening.1 }; nothing = record { wrote = nothing seen still; kept = opening.0 }; read = still.read.read }
-  ends_run (KeepFault done) opening = record { cause = opening.1; outside = record { read = still.read.count; write = still.write } }
-  ends_run (Memory done) opening = record { outside = record { read = still.read.count; write = still.write }; keep = opening.1 }
-  ends_run Usage opening = opening
-  ends_run HasCube opening = opening
-  ends_run (Schema at why) opening = opening
-  ends_run (Finished refused) opening = absurd opening
-  ends_run (ReadFault done) opening = absurd opening
-  ends_run (WriteFault done) opening = absurd opening
-  ends_run (TooLong done) opening = absurd opening
-  ends_run (BadRecord bad) opening = opening
-  ends_run (ImportRows would) opening = opening
+module _ (command : StoreCommand) (may : MayStop command) (seen : SeenAll) (still : IsStill seen) where
+  not_opened : (stop : OpenStop) → NotOpened seen.keeper stop → SaysOf (Some (Store command)) seen (end_of_open stop)
+  not_opened open_stop.NoCube is =
+      no_cube seen (left_all seen still is.0) (ends_of (Some (Store command))) (doing_of (Some (Store command))) (Fits (Some (Store command))) may.no_cube (record { read = still.read.count; write = still.write; keep = is.1 }) is.2
+  not_opened open_stop.Fault is =
+      keep_fault seen (left_all seen still is.0) (ends_of (Some (Store command))) (doing_of (Some (Store command))) (Fits (Some (Store command))) may.keep_fault (record { cause = is.1; read = still.read.count; write = still.write })
+  not_opened (open_stop.Load (load_fault.Bad found)) is =
+      bad_store seen (left_all seen still is.0) (ends_of (Some (Store command))) (doing_of (Some (Store command))) (Fits (Some (Store command))) found (may.bad_store found)
+      (record { read = still.read.count; write = still.write; keep = is.1 }) is.2
+  not_opened (open_stop.Load load_fault.Memory) is =
+      wants_memory seen (left_all seen still is.0) (ends_of (Some (Store command))) (doing_of (Some (Store command))) (Fits (Some (Store command))) may.memory (record { read = still.read.count; write = still.write; keep = is.1 })
 
-  over_run : (end : End) → EndsOpening keeper end → (content : Stored) → OpeningOver content end → RunOver content seen keeper end
-  over_run NoCube opening content over = over
-  over_run (BadStore found) opening content over = over
-  over_run (KeepFault done) opening content over = inl (record { none = opening.2; nothing = record { wrote = nothing seen still; kept = opening.0 }; read = still.read.read })
-  over_run (Memory done) opening content over = subst (λ n. IfSome seen.source.left (λ input. WantedMemory content (lines_of input) n seen keeper)) (sym opening.2) (wanted_first content seen keeper still.wrote opening.0)
-  over_run Usage opening content over = opening
-  over_run HasCube opening content over = opening
-  over_run (Schema at why) opening content over = opening
-  over_run (Finished refused) opening content over = absurd opening
-  over_run (ReadFault done) opening content over = absurd opening
-  over_run (WriteFault done) opening content over = absurd opening
-  over_run (TooLong done) opening content over = absurd opening
-  over_run (BadRecord bad) opening content over = opening
-  over_run (ImportRows would) opening content over = opening
+  -- a content was loaded, and is not that of a cube
+  module _ (schema : SchemaValue) (policy : PolicyWord) (content : Stored) (given : Holds seen.keeper (λ kept. content ≡ kept)) (holds : HoldsSchema schema content) (named : policy ≡ schema.policy) (uncalled : WasNotCalled seen.keeper) where
+    finds_as : (found : Finding) → IsFinding (policy_in (weigh_of policy) schema) (shape_of schema) schema.dims content found → Finds content found
+    finds_as found is =
+        subst (λ r. FindsBy r content found) (sym holds.schema_is) (subst (λ p. IsFinding (policy_in (weigh_of p) schema) (shape_of schema) schema.dims content found) named is)
 
-  ends_import : (end : End) → EndsOpening keeper end → EndsImport seen keeper end
-  ends_import NoCube opening = record { no_fault = record { outside = record { read = still.read.count; write = still.write }; keep = opening.1 }; nothing = record { wrote = nothing seen still; kept = opening.0 }; read = still.read.read }
-  ends_import (BadStore found) opening = record { no_fault = record { outside = record { read = still.read.count; write = still.write }; keep = opening.1 }; nothing = record { wrote = nothing seen still; kept = opening.0 }; read = still.read.read }
-  ends_import (KeepFault done) opening = (record { cause = opening.1; outside = record { read = still.read.count; write = still.write } }, opening.2, record { wrote = nothing seen still; kept = opening.0 })
-  ends_import (Memory done) opening = (record { outside = record { read = still.read.count; write = still.write }; keep = opening.1 }, inl (opening.2, record { wrote = nothing seen still; kept = opening.0 }))
-  ends_import Usage opening = opening
-  ends_import HasCube opening = opening
-  ends_import (Schema at why) opening = opening
-  ends_import (Finished refused) opening = absurd opening
-  ends_import (ReadFault done) opening = absurd opening
-  ends_import (WriteFault done) opening = absurd opening
-  ends_import (TooLong done) opening = absurd opening
-  ends_import (BadRecord bad) opening = absurd opening
-  ends_import (ImportRows would) opening = absurd opening
+    not_loaded : (fault : LoadFault) → IsLoadFault (policy_in (weigh_of policy) schema) (shape_of schema) schema.dims content fault → SaysOf (Some (Store command)) seen (end_of_load fault)
+    not_loaded (load_fault.Bad found) is =
+        not_opened (open_stop.Load (load_fault.Bad found)) (
+          uncalled.kept,
+          uncalled.count,
+          of_given seen.keeper.told.content content (λ kept. (kept ≢ empty_content) × Finds kept found) given (holds.some, finds_as found is),
+        )
+    not_loaded load_fault.Memory is = not_opened (open_stop.Load load_fault.Memory) (uncalled.kept, uncalled.count)
 
-  over_import : (end : End) → EndsOpening keeper end → (content : Stored) → OpeningOver content end → ImportOver content seen keeper end
-  over_import NoCube opening content over = over
-  over_import (BadStore found) opening content over = over
-  over_import (KeepFault done) opening content over = inl (record { none = opening.2; nothing = record { wrote = nothing seen still; kept = opening.0 }; read = still.read.read })
-  over_import (Memory done) opening content over = inl (opening.2, record { wrote = nothing seen still; kept = opening.0 })
-  over_import Usage opening content over = opening
-  over_import HasCube opening content over = opening
-  over_import (Schema at why) opening content over = opening
-  over_import (Finished refused) opening content over = absurd opening
-  over_import (ReadFault done) opening content over = absurd opening
-  over_import (WriteFault done) opening content over = absurd opening
-  over_import (TooLong done) opening content over = absurd opening
-  over_import (BadRecord bad) opening content over = absurd opening
-  over_import (ImportRows would) opening content over = absurd opening
+pub input_not_opened : (task : InputTask) (seen : SeenAll) → IsStill seen → (stop : OpenStop) → NotOpened seen.keeper stop → SaysOf (Some (Store (Input task))) seen (end_of_open stop)
+input_not_opened task seen still stop is = not_opened (Input task) (may_input task) seen still stop is
 
-  ends_telling : (end : End) → EndsOpening keeper end → EndsTelling seen keeper end
-  ends_telling NoCube opening = record { no_fault = record { outside = record { read = still.read.count; write = still.write }; keep = opening.1 }; nothing = record { wrote = nothing seen still; kept = opening.0 }; read = still.read.read }
-  ends_telling (BadStore found) opening = record { no_fault = record { outside = record { read = still.read.count; write = still.write }; keep = opening.1 }; nothing = record { wrote = nothing seen still; kept = opening.0 }; read = still.read.read }
-  ends_telling (KeepFault done) opening = (record { cause = opening.1; outside = record { read = still.read.count; write = still.write } }, record { none = opening.2; nothing = record { wrote = nothing seen still; kept = opening.0 }; read = still.read.read })
-  ends_telling (Memory done) opening = (record { outside = record { read = still.read.count; write = still.write }; keep = opening.1 }, opening.2, record { read = still.read.read; kept = opening.0 })
-  ends_telling Usage opening = opening
-  ends_telling HasCube opening = opening
-  ends_telling (Schema at why) opening = opening
-  ends_telling (Finished refused) opening = absurd opening
-  ends_telling (ReadFault done) opening = opening
-  ends_telling (WriteFault done) opening = absurd opening
-  ends_telling (TooLong done) opening = opening
-  ends_telling (BadRecord bad) opening = opening
-  ends_telling (ImportRows would) opening = opening
+pub tell_not_opened : (telling : Telling) (seen : SeenAll) → IsStill seen → (stop : OpenStop) → NotOpened seen.keeper stop → SaysOf (Some (Store (Tell telling))) seen (end_of_open stop)
+tell_not_opened telling seen still stop is = not_opened (Tell telling) (may_tell telling) seen still stop is
 
-  over_telling : (telling : Telling) (end : End) → EndsOpening keeper end → (content : Stored) → OpeningOver content end → TellingOver telling content seen.sink end
-  over_telling telling NoCube opening content over = over
-  over_telling telling (BadStore found) opening content over = over
-  over_telling telling (KeepFault done) opening content over = tt
-  over_telling telling (Memory done) opening content over = inl (nothing seen still)
-  over_telling telling Usage opening content over = opening
-  over_telling telling HasCube opening content over = opening
-  over_telling telling (Schema at why) opening content over = opening
-  over_telling telling (Finished refused) opening content over = absurd opening
-  over_telling telling (ReadFault done) opening content over = opening
-  over_telling telling (WriteFault done) opening content over = absurd opening
-  over_telling telling (TooLong done) opening content over = opening
-  over_telling telling (BadRecord bad) opening content over = opening
-  over_telling telling (ImportRows would) opening content over = opening
+module _ (seen : SeenAll) (still : IsStill seen) (schema : SchemaValue) (policy : PolicyWord) (content : Stored) (given : Holds seen.keeper (λ kept. content ≡ kept)) (holds : HoldsSchema schema content) (named : policy ≡ schema.policy) (uncalled : WasNotCalled seen.keeper)
+    (fault : LoadFault) (is : IsLoadFault (policy_in (weigh_of policy) schema) (shape_of schema) schema.dims content fault) where
+  pub input_not_loaded : (task : InputTask) → SaysOf (Some (Store (Input task))) seen (end_of_load fault)
+  input_not_loaded task = not_loaded (Input task) (may_input task) seen still schema policy content given holds named uncalled fault is
 
-  ends_task : (task : InputTask) (end : End) → EndsOpening keeper end → EndsTask task seen keeper end
-  ends_task Run end opening = ends_run end opening
-  ends_task Import end opening = ends_import end opening
+  pub tell_not_loaded : (telling : Telling) → SaysOf (Some (Store (Tell telling))) seen (end_of_load fault)
+  tell_not_loaded telling = not_loaded (Tell telling) (may_tell telling) seen still schema policy content given holds named uncalled fault is
 
-  over_task : (task : InputTask) (end : End) → EndsOpening keeper end → (content : Stored) → OpeningOver content end → TaskOver task content seen keeper end
-  over_task Run end opening content over = over_run end opening content over
-  over_task Import end opening content over = over_import end opening content over
+-- a store was loaded, and holds this schema
+pub holds_schema : (schema : SchemaValue) (content : Stored) (keeper : KeeperSeen) → Opened schema content keeper → HoldsSchema schema content
+holds_schema schema content keeper opened = record { schema_is = opened.schema_is; some = opened.some }
 
-  pub task_not_opened : (task : InputTask) (end : End) → SaysOfOpening keeper end → SaysOfTask task seen keeper end
-  task_not_opened task end says =
-      (ends_task task end says.0, told-weaker keeper.told.content (λ content. OpeningOver content end) (λ content. TaskOver task content seen keeper end) (over_task task end says.0) says.1)
+-- or its text is not read as a schema alone
+pub not_read : (keeper : KeeperSeen) (content : Stored) (fault : SchemaFault) → Holds keeper (λ kept. content ≡ kept) → content ≢ empty_content → IsUntouched keeper → NoKeepFault keeper → HasCauseAlone content.schema fault
+    → NotOpened keeper (open_stop.Load (load_fault_of fault))
+not_read keeper content (schema_fault.Bad line why) given some kept count cause =
+    let found : Finding = finding.Schema line why in (
+      kept,
+      count,
+      of_given keeper.told.content content (λ kept. (kept ≢ empty_content) × Finds kept found) given (some, subst (λ r. FindsBy r content found) (sym cause) refl),
+    )
+not_read keeper content schema_fault.Memory given some kept count cause = (kept, count)
 
-  pub telling_not_opened : (telling : Telling) (end : End) → SaysOfOpening keeper end → SaysOfTelling telling seen keeper end
-  telling_not_opened telling end says =
-      (ends_telling end says.0, told-weaker keeper.told.content (λ content. OpeningOver content end) (λ content. TellingOver telling content seen.sink end) (over_telling telling end says.0) says.1)
-
--- the store was loaded, and holds what was given
-module _ (schema : SchemaValue) (content : Stored) (told loaded later : Told) (faults faults_loaded faults_later : ℕ) (opened : Opened schema content (record { told = told; told_after = loaded; faults = faults; faults_after = faults_loaded })) where
-  pub holds : HoldsSchema schema content
-  holds = record { schema_is = opened.schema_is; some = opened.some }
-
-  since_opened : (P : KeeperSeen → Type 0) → P (record { told = loaded; told_after = later; faults = faults_loaded; faults_after = faults_later }) → P (record { told = told; told_after = later; faults = faults; faults_after = faults_later })
-  since_opened P here = since_load P told loaded later faults faults_loaded faults_later opened.kept opened.count here
-
-  pub task_opened : (task : InputTask) (seen : Seen) (end : End) → EndsTask task seen (record { told = loaded; told_after = later; faults = faults_loaded; faults_after = faults_later }) end
-      → (HoldsSchema schema content → TaskOver task content seen (record { told = loaded; told_after = later; faults = faults_loaded; faults_after = faults_later }) end)
-      → SaysOfTask task seen (record { told = told; told_after = later; faults = faults; faults_after = faults_later }) end
-  task_opened task seen end ends over =
-      let keeper : KeeperSeen = record { told = told; told_after = later; faults = faults; faults_after = faults_later } in
-      (since_opened (λ k. EndsTask task seen k end) ends, of_given told.content content (λ c. TaskOver task c seen keeper end) opened.told (since_opened (λ k. TaskOver task content seen k end) (over holds)))
-
--- an audit leaves the store as it was loaded
-module _ (schema : SchemaValue) (content : Stored) (keeper : KeeperSeen) (opened : Opened schema content keeper) (seen : Seen) (still : WasNotRead seen.source) where
-  left : LeftStore seen keeper
-  left = record { read = still.read; kept = opened.kept }
-
-  audited : (end : End) → EndsAudit seen.sink end → EndsTelling seen keeper end
-  audited (BadStore found) audit = record { no_fault = record { outside = record { read = still.count; write = audit.0 }; keep = opened.count }; nothing = record { wrote = audit.1; kept = opened.kept }; read = still.read }
-  audited (Finished refused) audit = (record { outside = record { read = still.count; write = audit.0 }; keep = opened.count }, audit.1, left)
-  audited (WriteFault done) audit = (record { cause = audit.0; read = still.count; keep = opened.count }, audit.1, left)
-  audited (Memory done) audit = (record { outside = record { read = still.count; write = audit.0 }; keep = opened.count }, audit.1, left)
-  audited Usage audit = audit
-  audited HasCube audit = audit
-  audited NoCube audit = absurd audit
-  audited (Schema at why) audit = audit
-  audited (KeepFault done) audit = absurd audit
-  audited (ReadFault done) audit = audit
-  audited (TooLong done) audit = audit
-  audited (BadRecord bad) audit = audit
-  audited (ImportRows would) audit = audit
-
-  pub telling_opened : (telling : Telling) (end : End) → EndsAudit seen.sink end → (HoldsSchema schema content → TellingOver telling content seen.sink end) → SaysOfTelling telling seen keeper end
-  telling_opened telling end ends over =
-      (audited end ends, of_given keeper.told.content content (λ c. TellingOver telling c seen.sink end) opened.told (over (record { schema_is = opened.schema_is; some = opened.some })))
+-- where it is not opened the content stays
+pub opening_kept : (keeper : KeeperSeen) (stop : OpenStop) → NotOpened keeper stop → IsUntouched keeper
+opening_kept keeper open_stop.NoCube is = is.0
+opening_kept keeper open_stop.Fault is = is.0
+opening_kept keeper (open_stop.Load (load_fault.Bad found)) is = is.0
+opening_kept keeper (open_stop.Load load_fault.Memory) is = is.0

@@ -11,7 +11,7 @@ use Rattle.schema_text.specs.Schema.{SchemaValue}
 use Rattle.schema_text.specs.SchemaText.{ReadSchema, schema_of}
 use Rattle.script_run.specs.Run.{Outcome, run_of}
 use Rattle.script_run.specs.Seen.{SourceSeen}
-use Rattle.cube_cli.specs.End.{outcome_of, replies_of, schema_in, script_line_end, script_lines_in, script_of}
+use Rattle.cube_cli.specs.Trying.{outcome_of, replies_of, schema_in, script_line_end, script_lines_in, script_of}
 use Rattle.cube_cli.specs.SchemaLines.{BeginsWith}
 
 -- An input begins with a schema, of which all is in what was taken first; then more was taken.

@@ -42,7 +42,7 @@ use Rattle.fact_groups.specs.Edits.{given}
 use Rattle.fact_groups.proofs.Edits.{All-after}
 use Rattle.stored_state.specs.Sound.{AreGood, fact_fault, fact_told, has_wrong_id, id_before}
 use Rattle.script_run.specs.Run.{State, accepted, edited, empty_state, grown, growth, replied, rows_at, run, schema_at, step, step_from, step_of}
-use Rattle.cube_cli.specs.End.{script_of}
+use Rattle.cube_cli.specs.Trying.{script_of}
 use Rattle.cube_cli.specs.Expectations.{AddsUpAfterEachLine, AddsUpOverStore, AfterEachLine, AfterEachLineOver, AtEachRegion, ExpectsAfterEachLine, ExpectsOverStore, Saying, state_after, state_over_after}
 use Rattle.cube_cli.specs.SchemaAlone.{schema_alone, tail_line, without_tail}
 use Rattle.cube_cli.specs.Store.{IsSoundOver, state_over}
@@ -64,7 +64,7 @@ module _ (weigh : CellStat → ℕ) (schema : SchemaValue) where
   edited-sound : (state : State) (edit : Edit) → IsSound state → OnFact (λ fact. IsRegion state.dims fact.region) (line.Edit edit) → IsSound (edited weigh schema state edit).state
   edited-sound state edit sound here = judged (judge (policy_in weigh schema) (shape_of schema) state.dims edit state.facts)
     where
-      judged : (refusal : Option Code) → IsSound (option_map_or (λ refusal. replied state (reply.Error refusal)) refusal (accepted weigh schema state (after edit state.facts))).state
+      judged : (refusal : Option Code) → IsSound (option_map_or (λ refusal. replied state (reply.Refused refusal)) refusal (accepted weigh schema state (after edit state.facts))).state
       judged (Some refusal) = sound
       judged None = record { trees = sound.trees; named = All-after (λ f. IsRegion state.dims f.region) edit state.facts sound.named (on_given (λ f. IsRegion state.dims f.region) edit here) }
 
@@ -72,7 +72,7 @@ module _ (weigh : CellStat → ℕ) (schema : SchemaValue) where
   growth-sound state grow sound leaf = judged (judge_growth (policy_in weigh schema) state.dims state.facts grow) refl
     where
       judged : (refusal : Option Code) → judge_growth (policy_in weigh schema) state.dims state.facts grow ≡ refusal
-          → IsSound (option_map_or (λ refusal. replied state (reply.Error refusal)) refusal (grown weigh schema state grow)).state
+          → IsSound (option_map_or (λ refusal. replied state (reply.Refused refusal)) refusal (grown weigh schema state grow)).state
       judged (Some refusal) is = sound
       judged None is = record {
         trees = trees-grown state.dims grow sound.trees leaf (policy_in weigh schema) state.facts is;
@@ -84,14 +84,7 @@ module _ (weigh : CellStat → ℕ) (schema : SchemaValue) where
   said-sound state (line.Edit edit) sound here leaf = edited-sound state edit sound here
   said-sound state (line.Grow grow) sound here leaf = growth-sound state grow sound (leaf grow refl)
   said-sound state line.Nothing sound here leaf = sound
-  said-sound state (line.Count region) sound here leaf = sound
-  said-sound state (line.Sum measure region) sound here leaf = sound
-  said-sound state (line.Avg measure region) sound here leaf = sound
-  said-sound state (line.Pool measure region) sound here leaf = sound
-  said-sound state (line.Terms region) sound here leaf = sound
-  said-sound state (line.Rows id) sound here leaf = sound
-  said-sound state (line.View view) sound here leaf = sound
-  said-sound state (line.Worlds region) sound here leaf = sound
+  said-sound state (line.Ask asked) sound here leaf = sound
 
   step-sound : (state : State) (bytes : List ℕ) → IsSound state → IsSound (step weigh schema state bytes).state
   unfolding step

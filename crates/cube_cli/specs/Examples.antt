@@ -2,7 +2,7 @@
 use Rattle.std.specs.Prelude.{◌≡◌, ℕ, List, [], ◌∷◌, ◌++◌, codes, IsSomeAnd}
 use Rattle.std.specs.List.{concat}
 use Rattle.text_lines.specs.Text.{line_text}
-use Rattle.cube_cli.specs.End.{outcome_of}
+use Rattle.cube_cli.specs.Trying.{outcome_of}
 
 -- a state of two cities, with a policy, and lines of measures
 abbrev pub two_cities : List (List ℕ) → List ℕ → List ℕ

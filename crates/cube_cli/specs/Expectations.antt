@@ -11,7 +11,7 @@ use Rattle.text_lines.specs.Text.{lines_of}
 use Rattle.fact_keeper.specs.declared.content.Stored.{Stored}
 use Rattle.world_law.specs.Additive.{AddUpOverChildren}
 use Rattle.cube_core.specs.Expected.{AreExpected}
-use Rattle.cube_cli.specs.End.{schema_in, script_of}
+use Rattle.cube_cli.specs.Trying.{schema_in, script_of}
 use Rattle.cube_cli.specs.SchemaAlone.{schema_alone}
 use Rattle.cube_cli.specs.Store.{IsSoundOver, state_over}
 use Rattle.script_run.specs.Run.{State, rows_at, run, run_of, terms_at}

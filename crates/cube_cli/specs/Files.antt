@@ -1,8 +1,6 @@
 -- Files of facts: what one does over the facts of a store, and what is told of these.
-use Rattle.std.specs.Prelude.{◌≡◌, ℕ, ◌<◌, ◌≤◌, List, [], ◌∷◌, ◌⊎◌, length, codes, Option, Some, None}
+use Rattle.std.specs.Prelude.{◌≡◌, ℕ, ◌≤◌, nat_lt, List, [], ◌∷◌, length, codes, if◌then◌else◌, Option, Some, None}
 use Rattle.std.specs.Fmt.{decimal}
-use Rattle.std.specs.Io.KnownBytes.{Appends}
-use Rattle.cube_base.specs.Outside.{TakesPart}
 use Rattle.text_lines.specs.Text.{line_text}
 use Rattle.cube_model.specs.declared.edit.Fact.{Fact}
 use Rattle.cube_model.specs.Allocation.{Policy, extended, row_count}
@@ -18,13 +16,10 @@ use Rattle.schema_text.specs.Schema.{SchemaValue, shape_of}
 use Rattle.csv_facts.specs.FactFile.{facts_in}
 use Rattle.csv_facts.specs.FactRow.{file_text}
 use Rattle.csv_facts.specs.RecordList.{records_of}
-use Rattle.script_run.specs.Kept.{Commits}
-use Rattle.script_run.specs.Seen.{KeepFailed, KeeperSeen, NoKeepFault, NoWriteFault, SinkSeen, WriteFailed, WroteNothing}
-use Rattle.cube_cli.specs.Store.{IsUntouched}
 use Rattle.cube_cli.specs.declared.telling.Telling.{Telling}
 use Rattle.cube_cli.specs.declared.telling.Telling.TheVariants.{Check, Export}
 use Rattle.cube_cli.specs.declared.end.End.{End}
-use Rattle.cube_cli.specs.declared.end.End.TheVariants.{Finished, Usage, Schema, NoCube, HasCube, BadStore, ReadFault, WriteFault, KeepFault, Memory, TooLong, BadRecord, ImportRows}
+use Rattle.cube_cli.specs.declared.end.End.TheVariants.{BadRecord, ImportRows}
 
 -- a line of a word and two numbers
 abbrev pub count_line : List ℕ → ℕ → ℕ → List ℕ
@@ -63,42 +58,7 @@ pub record IsAccepted (policy : Policy) (schema : SchemaValue) (facts : List Fac
   pub accepted : refused_over schema facts file ≡ None
   pub few : rows_with policy schema facts file ≤ MAX_ROWS
 
--- And its batch was committed.
-pub record Imports (policy : Policy) (schema : SchemaValue) (facts : List Fact) (file : List ℕ) (keeper : KeeperSeen) : Type 0 where
-  pub accepted : IsAccepted policy schema facts file
-  pub kept : Commits (import_batch policy schema facts file ∷ []) keeper.told keeper.told_after
-
--- nothing was written and nothing kept, and neither failed
-pub record ImportedNothing (sink : SinkSeen) (keeper : KeeperSeen) : Type 0 where
-  pub write : NoWriteFault sink
-  pub keep : NoKeepFault keeper
-  pub wrote : WroteNothing sink
-  pub kept : IsUntouched keeper
-
--- What each end says of a file that was to be imported over facts.
-abbrev pub EndsImporting : Policy → SchemaValue → List Fact → List ℕ → SinkSeen → KeeperSeen → End → Type 0
--- all its facts are kept, and the reply is written
-EndsImporting policy schema facts file sink keeper (Finished refused) =
-    NoWriteFault sink × NoKeepFault keeper × (refused ≡ 0) × Imports policy schema facts file keeper × Appends sink.taken sink.taken_after (imported_line policy schema facts file)
--- this is its first record that is refused
-EndsImporting policy schema facts file sink keeper (BadRecord bad) = ImportedNothing sink keeper × (refused_over schema facts file ≡ Some bad)
--- there would be so many rows, which are too many
-EndsImporting policy schema facts file sink keeper (ImportRows would) =
-    ImportedNothing sink keeper × (refused_over schema facts file ≡ None) × (would ≡ rows_with policy schema facts file) × (MAX_ROWS < would)
--- its facts are kept, and the reply is not whole
-EndsImporting policy schema facts file sink keeper (WriteFault done) =
-    WriteFailed sink × NoKeepFault keeper × (done ≡ 1) × Imports policy schema facts file keeper × TakesPart sink.taken sink.taken_after (imported_line policy schema facts file)
--- the keeper failed at its batch
-EndsImporting policy schema facts file sink keeper (KeepFault done) =
-    NoWriteFault sink × KeepFailed keeper × (done ≡ 0) × IsAccepted policy schema facts file × WroteNothing sink × IsUntouched keeper
--- memory was wanting, before its facts were kept or behind
-EndsImporting policy schema facts file sink keeper (Memory done) =
-    ((done ≡ 0) × ImportedNothing sink keeper) ⊎ ((done ≡ 1) × NoWriteFault sink × NoKeepFault keeper × Imports policy schema facts file keeper
-    × (WroteNothing sink ⊎ TakesPart sink.taken sink.taken_after (imported_line policy schema facts file)))
-EndsImporting policy schema facts file sink keeper Usage = ⊥
-EndsImporting policy schema facts file sink keeper (Schema _ _) = ⊥
-EndsImporting policy schema facts file sink keeper NoCube = ⊥
-EndsImporting policy schema facts file sink keeper HasCube = ⊥
-EndsImporting policy schema facts file sink keeper (BadStore _) = ⊥
-EndsImporting policy schema facts file sink keeper (ReadFault _) = ⊥
-EndsImporting policy schema facts file sink keeper (TooLong _) = ⊥
+-- the end of a file that is not accepted: its first record that is refused, or else the number of rows that would be too many
+abbrev pub refused_file : Option RecordAt → ℕ → Option End
+refused_file (Some bad) rows = Some (BadRecord bad)
+refused_file None rows = if nat_lt MAX_ROWS rows then Some (ImportRows rows) else None

@@ -1,8 +1,11 @@
 pub mod Command
+pub mod Doing
 pub mod End
 pub mod Examples
 pub mod Expectations
 pub mod Files
+pub mod Kinds
+pub mod Loaded
 pub mod RunEnd
 pub mod SchemaAlone
 pub mod SchemaLines

@@ -1,17 +1,29 @@
--- The end of a run of the program by that of its script, or by why an input is not taken, a content not loaded or a file not imported.
+-- The end of a run of the program by that of its script, by whether a text was written, or by why an input or its head is not taken, a
+-- store not opened or a file not imported.
 use Rattle.std.specs.Prelude.{ℕ, Result, Ok, Err}
+use Rattle.cube_base.specs.declared.fault.SinkError.{SinkError}
+use Rattle.cube_base.specs.declared.fault.SinkError.TheVariants as sink_error
 use Rattle.cube_core.specs.declared.fault.ImportFault.{ImportFault}
 use Rattle.cube_core.specs.declared.fault.ImportFault.TheVariants as import_fault
+use Rattle.fact_keeper.specs.declared.keeper.KeepError.{KeepError}
+use Rattle.fact_keeper.specs.declared.keeper.KeepError.TheVariants as keep_error
+use Rattle.schema_text.specs.declared.schema.SchemaFault.{SchemaFault}
+use Rattle.schema_text.specs.declared.schema.SchemaFault.TheVariants as schema_fault
 use Rattle.script_run.specs.declared.break_off.BreakOff.{BreakOff}
 use Rattle.script_run.specs.declared.break_off.BreakOff.TheVariants as break_off
 use Rattle.script_run.specs.declared.streaming.StreamStop.{StreamStop}
 use Rattle.script_run.specs.declared.streaming.StreamStop.TheVariants as stream_stop
 use Rattle.cube_cli.specs.declared.end.End.{End}
+use Rattle.cube_cli.specs.declared.schema_lines.HeadStop.{HeadStop}
+use Rattle.cube_cli.specs.declared.schema_lines.HeadStop.TheVariants as head_stop
+use Rattle.cube_cli.specs.declared.store.OpenStop.{OpenStop}
+use Rattle.cube_cli.specs.declared.store.OpenStop.TheVariants as open_stop
 use Rattle.line_cutter.specs.declared.input.InputStop.{InputStop}
 use Rattle.line_cutter.specs.declared.input.InputStop.TheVariants as input_stop
+use Rattle.stored_state.specs.declared.finding.Finding.TheVariants as finding
 use Rattle.stored_state.specs.declared.finding.LoadFault.{LoadFault}
 use Rattle.stored_state.specs.declared.finding.LoadFault.TheVariants as load_fault
-use Rattle.cube_cli.specs.declared.end.End.TheVariants.{BadRecord, BadStore, Finished, ImportRows, ReadFault, TooLong, WriteFault, KeepFault, Memory}
+use Rattle.cube_cli.specs.declared.end.End.TheVariants.{BadRecord, BadStore, Finished, ImportRows, ReadFault, TooLong, WriteFault, KeepFault, Memory, NoCube, Schema}
 
 -- the end where a script broke off
 abbrev pub end_of_break_off : BreakOff → End
@@ -33,10 +45,42 @@ end_of_stop input_stop.Fault = ReadFault 0
 end_of_stop input_stop.TooLong = TooLong 0
 end_of_stop input_stop.Memory = Memory 0
 
+-- the end where it is not a schema alone
+abbrev pub end_of_schema : SchemaFault → End
+end_of_schema (schema_fault.Bad line why) = Schema line why
+end_of_schema schema_fault.Memory = Memory 0
+
+-- the end where its head is not taken
+abbrev pub end_of_head : HeadStop → End
+end_of_head (head_stop.Input stop) = end_of_stop stop
+end_of_head (head_stop.Bad line why) = Schema line why
+
+-- the end where a text was written or not, of a command that refused so many lines and committed so many batches
+abbrev pub end_of_write : {T : Type 0} → Result T SinkError → ℕ → ℕ → End
+end_of_write (Ok _) refused commits = Finished refused
+end_of_write (Err sink_error.Failed) refused commits = WriteFault commits
+end_of_write (Err sink_error.Memory) refused commits = Memory commits
+
+-- the end where a keeper gave or kept nothing
+abbrev pub end_of_keep : KeepError → End
+end_of_keep keep_error.Failed = KeepFault 0
+end_of_keep keep_error.Memory = Memory 0
+
+-- why a content is not loaded whose text is not read as a schema alone
+abbrev pub load_fault_of : SchemaFault → LoadFault
+load_fault_of (schema_fault.Bad line why) = load_fault.Bad (finding.Schema line why)
+load_fault_of schema_fault.Memory = load_fault.Memory
+
 -- the end where a content is not loaded
 abbrev pub end_of_load : LoadFault → End
 end_of_load (load_fault.Bad found) = BadStore found
 end_of_load load_fault.Memory = Memory 0
+
+-- the end where a store is not opened
+abbrev pub end_of_open : OpenStop → End
+end_of_open open_stop.NoCube = NoCube
+end_of_open open_stop.Fault = KeepFault 0
+end_of_open (open_stop.Load fault) = end_of_load fault
 
 -- the end where a file is not imported
 abbrev pub end_of_import : ImportFault → End

@@ -13,8 +13,8 @@ use Rattle.schema_text.specs.Schema.{SchemaValue}
 use Rattle.schema_text.specs.SchemaText.{is_end, schema_of}
 use Rattle.script_run.specs.Seen.{NoReadFault, ReadFailed, SourceSeen}
 use Rattle.cube_cli.specs.Seen.{Took}
-use Rattle.cube_cli.specs.declared.end.End.{End}
-use Rattle.cube_cli.specs.declared.end.End.TheVariants.{Finished, Usage, Schema, NoCube, HasCube, BadStore, ReadFault, WriteFault, KeepFault, Memory, TooLong, BadRecord, ImportRows}
+use Rattle.cube_cli.specs.declared.schema_lines.HeadStop.{HeadStop}
+use Rattle.cube_cli.specs.declared.schema_lines.HeadStop.TheVariants as head_stop
 
 -- how many lines of an input hold its schema: those up to and with the first line `end`, or all; and how many bytes they have
 abbrev pub schema_lines : List ℕ → ℕ
@@ -100,19 +100,8 @@ pub record TookSchema (source : SourceSeen) (room_after : ℕ) (held_after : Lis
 abbrev pub TookToEnd : SourceSeen → List ℕ → Type 0
 TookToEnd source input = TakesAtMost (schema_bytes input + PIECE_LIMIT) source.left source.left_after
 
--- What an end says where no schema was taken.
-abbrev pub EndsBeforeScript : SourceSeen → End → Type 0
-EndsBeforeScript source (Schema line why) = NoReadFault source × TakesAtMost INPUT_LIMIT source.left source.left_after
+-- Why no schema was taken: the input is not taken up to its line `end`, or this is its first line at fault, and why.
+abbrev pub HasHeadCause : SourceSeen → HeadStop → Type 0
+HasHeadCause source (head_stop.Input stop) = StopsBeforeEnd source stop
+HasHeadCause source (head_stop.Bad line why) = NoReadFault source × TakesAtMost INPUT_LIMIT source.left source.left_after
     × IfSome source.left (λ input. (schema_of input ≡ Err (record { line = line; reason = why })) × TookToEnd source input)
-EndsBeforeScript source (ReadFault done) = (done ≡ 0) × StopsBeforeEnd source input_stop.Fault
-EndsBeforeScript source (TooLong done) = (done ≡ 0) × StopsBeforeEnd source input_stop.TooLong
-EndsBeforeScript source (Memory done) = (done ≡ 0) × StopsBeforeEnd source input_stop.Memory
-EndsBeforeScript source Usage = ⊥
-EndsBeforeScript source NoCube = ⊥
-EndsBeforeScript source HasCube = ⊥
-EndsBeforeScript source (BadStore _) = ⊥
-EndsBeforeScript source (BadRecord _) = ⊥
-EndsBeforeScript source (ImportRows _) = ⊥
-EndsBeforeScript source (KeepFault _) = ⊥
-EndsBeforeScript source (Finished _) = ⊥
-EndsBeforeScript source (WriteFault _) = ⊥

@@ -1,5 +1,5 @@
 -- What a stored content is, and what a script does over it.
-use Rattle.std.specs.Prelude.{◌≡◌, ℕ, List, [], ◌∷◌, Option, Some, IfSome, IsOkAnd, Result, Ok, Err}
+use Rattle.std.specs.Prelude.{◌≡◌, ℕ, List, [], ◌∷◌, Option, Some, IsOkAnd, Result, Ok, Err}
 use Rattle.std.specs.Option.{option_map, option_map_or}
 use Rattle.std.specs.Result.{result_ok}
 use Rattle.cube_model.specs.Allocation.{Policy}
@@ -10,9 +10,8 @@ use Rattle.schema_text.specs.SchemaText.{BadLine, schema_text}
 use Rattle.stored_state.specs.declared.finding.Finding.{Finding}
 use Rattle.stored_state.specs.declared.finding.Finding.TheVariants as finding
 use Rattle.stored_state.specs.Sound.{IsFinding, IsSound, facts_told}
-use Rattle.script_run.specs.Kept.{Commits, batches}
+use Rattle.script_run.specs.Kept.{batches}
 use Rattle.script_run.specs.Run.{Outcome, State, run}
-use Rattle.script_run.specs.Seen.{KeeperSeen}
 use Rattle.cube_cli.specs.SchemaAlone.{schema_alone}
 
 -- how cells weigh by the policy of a schema
@@ -43,9 +42,12 @@ state_over schema content = record { dims = schema.dims; facts = facts_told cont
 abbrev pub outcome_over : Stored → List (List ℕ) → Option Outcome
 outcome_over content lines = option_map (λ schema. run (weigh_of schema.policy) schema (state_over schema content) lines) (result_ok (schema_alone content.schema))
 
--- their replies, and the batches that they commit; there are none without a schema
+-- their replies, how many are refused, and the batches that they commit; there is none without a schema
 abbrev pub replies_over : Stored → List (List ℕ) → List (List ℕ)
 replies_over content lines = option_map_or (λ outcome. outcome.replies) (outcome_over content lines) []
+
+abbrev pub count_refused_over : Stored → List (List ℕ) → ℕ
+count_refused_over content lines = option_map_or (λ outcome. outcome.refused) (outcome_over content lines) 0
 
 abbrev pub batches_over : Stored → List (List ℕ) → List Batch
 batches_over content lines = option_map_or (λ schema. batches (weigh_of schema.policy) schema (state_over schema content) lines) (result_ok (schema_alone content.schema)) []
@@ -53,15 +55,3 @@ batches_over content lines = option_map_or (λ schema. batches (weigh_of schema.
 -- the batch of a new store: the one text of a schema that is written
 abbrev pub schema_batch : SchemaValue → Batch
 schema_batch schema = record { schema = Some (schema_text schema); gone = []; facts = []; rows = [] }
-
--- it was committed, of the schema that a text holds alone
-abbrev pub CommitsSchema : List ℕ → KeeperSeen → Type 0
-CommitsSchema text keeper = IsOkAnd (schema_alone text) (λ schema. Commits (schema_batch schema ∷ []) keeper.told keeper.told_after)
-
--- it holds of the content, where the keeper tells it
-abbrev pub Holds : KeeperSeen → (Stored → Type 0) → Type 0
-Holds keeper P = IfSome keeper.told.content P
-
--- content and journal are as they were
-abbrev pub IsUntouched : KeeperSeen → Type 0
-IsUntouched keeper = keeper.told_after ≡ keeper.told

@@ -1,10 +1,12 @@
 //! The commands, and the top call.
 ghost use Rattle.std.specs.Prelude.{◌≡◌, map, string_bytes, IfSome};
+ghost use Rattle.line_cutter.specs.Input.{EndsOnce};
+ghost use Rattle.script_run.specs.Seen.{seen_of};
 ghost use Rattle.cube_cli.specs.Command.{command_of, drill_named, store_command, store_named};
-ghost use Rattle.cube_cli.specs.End.{IsComplete, Says, TookFew};
+ghost use Rattle.cube_cli.specs.Doing.{doing_of};
+ghost use Rattle.cube_cli.specs.End.{IsComplete, Says};
 ghost use Rattle.cube_cli.specs.Expectations.{AddsUpAfterEachLine, AddsUpOverStore, ExpectsAfterEachLine, ExpectsOverStore};
-ghost use Rattle.cube_cli.specs.Seen.{seen_of};
-ghost use Rattle.script_run.specs.Seen.{keeper_seen, source_seen};
+ghost use Rattle.cube_cli.specs.Loaded.{Loads, second_word};
 
 use crate::End;
 use crate::drill::drill;
@@ -74,13 +76,14 @@ pub fn cube<S: Source, K: Sink, Q: Keeper>(
     out: &mut K,
     keeper: &mut Q,
 ) -> End
-    ensures says { Says (map string_bytes words.now) (seen_of S.left S.faults K.taken K.faults source.old source.new out.old out.new) (keeper_seen Q.content Q.journal Q.faults keeper.old keeper.new) result }
-    ensures complete { IsComplete (map string_bytes words.now) (seen_of S.left S.faults K.taken K.faults source.old source.new out.old out.new) (keeper_seen Q.content Q.journal Q.faults keeper.old keeper.new) result }
-    ensures few { TookFew (source_seen S.left S.faults source.old source.new) result }
-    ensures expectations { IfSome (S.left source.old) ExpectsAfterEachLine }
-    ensures children { IfSome (S.left source.old) AddsUpAfterEachLine }
-    ensures expectations_over_store { IfSome (Q.content keeper.old) (λ content. IfSome (S.left source.old) (ExpectsOverStore content)) }
-    ensures children_over_store { IfSome (Q.content keeper.old) (λ content. IfSome (S.left source.old) (AddsUpOverStore content)) }
+    ensures says { Says (map string_bytes words.now) (seen_of S.tells K.tells Q.tells source.old source.new out.old out.new keeper.old keeper.new) result }
+    ensures complete { IsComplete (map string_bytes words.now) (seen_of S.tells K.tells Q.tells source.old source.new out.old out.new keeper.old keeper.new) result }
+    ensures loaded { Loads (doing_of (command_of (map string_bytes words.now))).stores (second_word (map string_bytes words.now)) (Q.tells keeper.old) (Q.tells keeper.new) (seen_of S.tells K.tells Q.tells source.old source.new out.old out.new keeper.old keeper.new) result }
+    ensures ended { EndsOnce (S.tells source.old).ends (S.tells source.new).ends }
+    ensures expectations { IfSome (S.tells source.old).left ExpectsAfterEachLine }
+    ensures children { IfSome (S.tells source.old).left AddsUpAfterEachLine }
+    ensures expectations_over_store { IfSome (Q.tells keeper.old).content (λ content. IfSome (S.tells source.old).left (ExpectsOverStore content)) }
+    ensures children_over_store { IfSome (Q.tells keeper.old).content (λ content. IfSome (S.tells source.old).left (AddsUpOverStore content)) }
 {
     match command_of(words) {
         None => End::Usage,
@@ -149,7 +152,9 @@ fn store_command(word: &[u8]) -> Option<StoreCommand>
 }
 
 // The second of the words, if there is one: the name of a store.
-fn second_of(words: &[String]) -> &str {
+fn second_of(words: &[String]) -> &str
+    ensures { result.now ≡ second_word (map string_bytes words.now) }
+{
     match words {
         [_, name, ..] => name.as_str(),
         _ => "",

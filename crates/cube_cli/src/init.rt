@@ -1,21 +1,26 @@
 //! The command that makes a store.
-ghost use Rattle.std.specs.Prelude.{◌≡◌, IfOk, IsTrue};
+ghost use Rattle.std.specs.Prelude.{◌≡◌, ◌∷◌, [], IfOk, IsTrue, List, ℕ, Ok, OnErr, OnOk, Some};
 ghost use Rattle.fact_keeper.specs.Batch.{empty_content};
-ghost use Rattle.script_run.specs.Seen.{keeper_seen, sink_seen, source_seen};
-ghost use Rattle.cube_cli.specs.End.{EndsInit, InitOver, IsCompleteStore, SaysOfStore, TookFew};
-ghost use Rattle.cube_cli.specs.Seen.{seen_of};
-ghost use Rattle.cube_cli.specs.Steps.{EndsKeeping};
+ghost use Rattle.fact_keeper.specs.Keeper.{CountsKeepFault, StaysOpen};
+ghost use Rattle.line_cutter.specs.Input.{EndsOnce, INPUT_LIMIT, Taken};
+ghost use Rattle.script_run.specs.Kept.{Commits};
+ghost use Rattle.script_run.specs.Seen.{NoReadFault, SourceSeen, keeper_seen, seen_of, sink_seen, told_of};
+ghost use Rattle.cube_cli.specs.declared.command.Command.TheVariants as command;
+ghost use Rattle.cube_cli.specs.declared.command.StoreCommand.TheVariants as store_command;
+ghost use Rattle.cube_cli.specs.End.{SaysOf};
+ghost use Rattle.cube_cli.specs.Loaded.{LoadedOnce};
+ghost use Rattle.cube_cli.specs.SchemaAlone.{schema_alone};
+ghost use Rattle.cube_cli.specs.Seen.{Holds};
 ghost use Rattle.cube_cli.specs.Store.{schema_batch};
-ghost use Rattle.cube_cli.specs.declared.command.StoreCommand.TheVariants as command;
 
 use crate::End;
-use crate::run_end::end_of_stop;
+use crate::run_end::{end_of_keep, end_of_schema, end_of_stop, end_of_write};
 use crate::saying::write_line;
 use crate::schema_alone::read_schema_alone;
 use cube_base::{Ids, Memory, Sink, Source};
 use fact_keeper::{Batch, KeepError, Keeper, KeptFacts, KeptRowsList};
 use line_cutter::{MAX_INPUT, take_input};
-use schema_text::{Schema, SchemaFault, write_schema};
+use schema_text::{Schema, write_schema};
 use std::alloc::Global;
 
 /// The reply: the schema refreshes no fact.
@@ -30,9 +35,9 @@ pub fn init<S: Source, K: Sink, Q: Keeper>(
     out: &mut K,
     keeper: &mut Q,
 ) -> End
-    ensures says { SaysOfStore command.Init (seen_of S.left S.faults K.taken K.faults source.old source.new out.old out.new) (keeper_seen Q.content Q.journal Q.faults keeper.old keeper.new) result }
-    ensures complete { IsCompleteStore command.Init (seen_of S.left S.faults K.taken K.faults source.old source.new out.old out.new) (keeper_seen Q.content Q.journal Q.faults keeper.old keeper.new) result }
-    ensures few { TookFew (source_seen S.left S.faults source.old source.new) result }
+    ensures says { SaysOf (Some (command.Store store_command.Init)) (seen_of S.tells K.tells Q.tells source.old source.new out.old out.new keeper.old keeper.new) result }
+    ensures loaded { LoadedOnce name.now (Q.tells keeper.old) (Q.tells keeper.new) (seen_of S.tells K.tells Q.tells source.old source.new out.old out.new keeper.old keeper.new) result }
+    ensures ended { EndsOnce (S.tells source.old).ends (S.tells source.new).ends }
 {
     match keeper.load(alloc, name) {
         Ok(content) => {
@@ -45,8 +50,7 @@ pub fn init<S: Source, K: Sink, Q: Keeper>(
                 End::HasCube
             }
         }
-        Err(KeepError::Failed) => End::KeepFault { done: 0 },
-        Err(KeepError::Memory) => End::Memory { done: 0 },
+        Err(error) => end_of_keep(error),
     }
 }
 
@@ -57,48 +61,59 @@ fn init_empty<S: Source, K: Sink, Q: Keeper>(
     out: &mut K,
     keeper: &mut Q,
 ) -> End
-    requires { IsTrue (Q.is_open keeper.old) }
-    ensures ends { EndsInit (seen_of S.left S.faults K.taken K.faults source.old source.new out.old out.new) (keeper_seen Q.content Q.journal Q.faults keeper.old keeper.new) result }
-    ensures over { InitOver empty_content result }
-    ensures few { TookFew (source_seen S.left S.faults source.old source.new) result }
+    requires { IsTrue (Q.tells keeper.old).is_open }
+    ensures says { Holds (keeper_seen Q.tells keeper.old keeper.new) (λ kept. kept ≡ empty_content) →
+        SaysOf (Some (command.Store store_command.Init)) (seen_of S.tells K.tells Q.tells source.old source.new out.old out.new keeper.old keeper.new) result }
+    ensures stays_open { StaysOpen (Q.tells keeper.old) (Q.tells keeper.new) }
+    ensures ended { EndsOnce (S.tells source.old).ends (S.tells source.new).ends }
 {
     let input = match take_input(alloc, source, MAX_INPUT) {
         Ok(input) => input,
         Err(stop) => return end_of_stop(stop),
     };
     match read_schema_alone(alloc, &input) {
-        Ok(schema) => {
-            let end = keep_schema(alloc, &schema, out, keeper);
-            // Dropped by a call, which is proved once: in place it would be proved on each way out.
-            drop(schema);
-            end
-        }
-        Err(SchemaFault::Bad { line, code }) => End::Schema { line, code },
-        Err(SchemaFault::Memory) => End::Memory { done: 0 },
+        Ok(schema) => init_schema(alloc, schema, out, keeper),
+        Err(fault) => end_of_schema(fault),
     }
 }
 
-// Keeps a schema in an open store, and answers.
-fn keep_schema<K: Sink, Q: Keeper>(
+// Keeps the schema that a whole input holds alone in such a store, and answers.
+fn init_schema<K: Sink, Q: Keeper>(
     alloc: Global,
-    schema: &Schema,
+    schema: Schema,
     out: &mut K,
     keeper: &mut Q,
 ) -> End
-    requires { IsTrue (Q.is_open keeper.old) }
-    ensures { EndsKeeping schema.now (sink_seen K.taken K.faults out.old out.new) (keeper_seen Q.content Q.journal Q.faults keeper.old keeper.new) result }
+    requires { IsTrue (Q.tells keeper.old).is_open }
+    ensures says { (source : SourceSeen) (input : List ℕ) → Taken INPUT_LIMIT source.left source.left_after input → NoReadFault source → schema_alone input ≡ Ok schema
+        → Holds (keeper_seen Q.tells keeper.old keeper.new) (λ kept. kept ≡ empty_content) →
+        SaysOf (Some (command.Store store_command.Init)) (record { source = source; sink = sink_seen K.tells out.old out.new; keeper = keeper_seen Q.tells keeper.old keeper.new }) result }
+    ensures stays_open { StaysOpen (Q.tells keeper.old) (Q.tells keeper.new) }
+{
+    let kept = keep_schema(alloc, &schema, keeper);
+    // Dropped by a call, which is proved once: in place it would be proved on each way out.
+    drop(schema);
+    match kept {
+        Ok(()) => end_of_write(write_line(out, LINE), 0, 1),
+        Err(error) => end_of_keep(error),
+    }
+}
+
+// Keeps a schema in an open store.
+fn keep_schema<Q: Keeper>(alloc: Global, schema: &Schema, keeper: &mut Q) -> Result<(), KeepError>
+    requires { IsTrue (Q.tells keeper.old).is_open }
+    ensures kept { OnOk result (Commits (schema_batch schema.now ∷ []) (told_of Q.tells keeper.old) (told_of Q.tells keeper.new)) }
+    ensures not_kept { OnErr result (told_of Q.tells keeper.new ≡ told_of Q.tells keeper.old) }
+    ensures count { CountsKeepFault (Q.tells keeper.old).faults (Q.tells keeper.new).faults result }
+    ensures stays_open { StaysOpen (Q.tells keeper.old) (Q.tells keeper.new) }
 {
     let Ok(batch) = schema_batch(alloc, schema) else {
-        return End::Memory { done: 0 };
+        return Err(KeepError::Memory);
     };
     let kept = keeper.commit(&batch);
     // Dropped by a call, which is proved once: in place it would be proved on each way out.
     drop(batch);
-    match kept {
-        Ok(()) => write_line(out, LINE, 0, 1),
-        Err(KeepError::Failed) => End::KeepFault { done: 0 },
-        Err(KeepError::Memory) => End::Memory { done: 0 },
-    }
+    kept
 }
 
 // The batch of a new store.

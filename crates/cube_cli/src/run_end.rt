@@ -1,10 +1,16 @@
-//! The end of the program by that of its script, or by why an input is not taken, a content not loaded or a file not imported.
+//! The end of the program by that of its script, by whether a text was written, or by why an input or its head is not taken, a store not
+//! opened or a file not imported.
 ghost use Rattle.std.specs.Prelude.{◌≡◌};
-ghost use Rattle.cube_cli.specs.RunEnd.{end_of_break_off, end_of_import, end_of_load, end_of_run, end_of_stop};
+ghost use Rattle.cube_cli.specs.RunEnd.{end_of_break_off, end_of_head, end_of_import, end_of_keep, end_of_load, end_of_open, end_of_run, end_of_schema, end_of_stop, end_of_write};
 
 use crate::End;
+use crate::schema_lines::HeadStop;
+use crate::store::OpenStop;
+use cube_base::SinkError;
 use cube_core::{ImportFault, LoadFault};
+use fact_keeper::KeepError;
 use line_cutter::InputStop;
+use schema_text::SchemaFault;
 use script_run::{BreakOff, StreamStop};
 
 /// The end of the program whose script refused so many lines or stopped.
@@ -39,6 +45,58 @@ pub fn end_of_stop(stop: InputStop) -> End
         InputStop::Fault => End::ReadFault { done: 0 },
         InputStop::TooLong => End::TooLong { done: 0 },
         InputStop::Memory => End::Memory { done: 0 },
+    }
+}
+
+/// The end where an input is not a schema alone.
+pub fn end_of_schema(fault: SchemaFault) -> End
+    ensures { result ≡ end_of_schema fault }
+{
+    match fault {
+        SchemaFault::Bad { line, code } => End::Schema { line, code },
+        SchemaFault::Memory => End::Memory { done: 0 },
+    }
+}
+
+/// The end where the head of an input is not taken.
+pub fn end_of_head(stop: HeadStop) -> End
+    ensures { result ≡ end_of_head stop }
+{
+    match stop {
+        HeadStop::Input(stop) => end_of_stop(stop),
+        HeadStop::Bad { line, code } => End::Schema { line, code },
+    }
+}
+
+/// The end where a text was written or not, of a command that refused so many lines and committed so many batches.
+pub fn end_of_write(written: Result<(), SinkError>, refused: u64, commits: u64) -> End
+    ensures { result ≡ end_of_write written refused commits }
+{
+    match written {
+        Ok(()) => End::Finished { refused },
+        Err(SinkError::Failed) => End::WriteFault { done: commits },
+        Err(SinkError::Memory) => End::Memory { done: commits },
+    }
+}
+
+/// The end where a keeper gave or kept nothing.
+pub fn end_of_keep(error: KeepError) -> End
+    ensures { result ≡ end_of_keep error }
+{
+    match error {
+        KeepError::Failed => End::KeepFault { done: 0 },
+        KeepError::Memory => End::Memory { done: 0 },
+    }
+}
+
+/// The end where a store is not opened.
+pub fn end_of_open(stop: OpenStop) -> End
+    ensures { result ≡ end_of_open stop }
+{
+    match stop {
+        OpenStop::NoCube => End::NoCube,
+        OpenStop::Fault => End::KeepFault { done: 0 },
+        OpenStop::Load(fault) => end_of_load(fault),
     }
 }
 

@@ -1,43 +1,51 @@
 //! Taking the schema with which an input begins, which goes on behind it.
-ghost use Rattle.std.specs.Prelude.{◌≡◌, ◌∷◌, ◌++◌, [], false, true, IfErr, IfOk, OnOk};
+ghost use Rattle.std.specs.Prelude.{◌≡◌, ◌∷◌, ◌++◌, [], false, true, IfErr, IfOk, OnErr, OnOk};
 ghost use Rattle.std.specs.Io.KnownBytes.{IsAtEnd};
-ghost use Rattle.line_cutter.specs.Input.{INPUT_LIMIT};
+ghost use Rattle.line_cutter.specs.Input.{EndsOnce, INPUT_LIMIT, ends_if};
 ghost use Rattle.line_cutter.specs.Pieces.{rest_of, whole_lines};
 ghost use Rattle.schema_text.specs.SchemaText.{is_end};
 ghost use Rattle.script_run.specs.Seen.{source_seen};
-ghost use Rattle.cube_cli.specs.SchemaLines.{EndsBeforeScript, StopsBeforeEnd, TookHeld, TookLines, TookSchema};
+ghost use Rattle.cube_cli.specs.SchemaLines.{HasHeadCause, StopsBeforeEnd, TookHeld, TookLines, TookSchema};
 
-use crate::End;
-use crate::run_end::end_of_stop;
-use cube_base::Source;
+use cube_base::{Code, Source};
 use line_cutter::{InputStop, LineCutter, LineInput};
 use schema_text::{Schema, SchemaFault, read_schema};
 use std::alloc::{AllocError, Global};
 use text_lines::{is_text, without_cr};
 
+/// Why the schema with which an input begins is not taken.
+#[derive(Debug, Drop)]
+pub enum HeadStop {
+    /// The input is not taken up to its line `end`.
+    Input(InputStop),
+    /// The schema is refused: its first faulty line, counted from 1, and why.
+    Bad { line: u64, code: Code },
+}
+
 /// Takes the schema with which an input begins, of which nothing was taken yet, up to and with the line `end`: what was taken behind it
-/// is held. Where there is no schema, the answer is how the program ends. A line at fault is told once the line `end` has come, or the
-/// input has ended.
+/// is held. A line at fault is told once the line `end` has come, or the input has ended.
 pub fn take_schema<S: Source>(
     alloc: Global,
     input: &mut LineInput,
     source: &mut S,
-) -> Result<Schema, End>
+) -> Result<Schema, HeadStop>
     requires pieces { input.old.pieces ≡ record { room = INPUT_LIMIT; is_ended = false } }
     requires lines { input.old.lines.lines ≡ [] ∷ [] }
-    ensures took { IfOk result (TookSchema (source_seen S.left S.faults source.old source.new) input.new.pieces.room input.new.lines.lines) }
-    ensures ended { IfOk result (λ _. input.new.pieces.is_ended ≡ true → IsAtEnd (S.left source.new)) }
-    ensures count { IfOk result (λ _. S.faults source.new ≡ S.faults source.old) }
-    ensures none { IfErr result (EndsBeforeScript (source_seen S.left S.faults source.old source.new)) }
+    ensures took { IfOk result (TookSchema (source_seen S.tells source.old source.new) input.new.pieces.room input.new.lines.lines) }
+    ensures ended { IfOk result (λ _. input.new.pieces.is_ended ≡ true → IsAtEnd (S.tells source.new).left) }
+    ensures count { IfOk result (λ _. (S.tells source.new).faults ≡ (S.tells source.old).faults) }
+    ensures none { IfErr result (HasHeadCause (source_seen S.tells source.old source.new)) }
+    ensures ends { OnOk result ((S.tells source.new).ends ≡ ends_if input.new.pieces.is_ended (S.tells source.old).ends) }
+    ensures once { OnErr result (EndsOnce (S.tells source.old).ends (S.tells source.new).ends) }
 {
     let text = match take_lines(alloc, input, source) {
         Ok(text) => text,
-        Err(stop) => return Err(end_of_stop(stop)),
+        Err(stop) => return Err(HeadStop::Input(stop)),
     };
     match read_schema(alloc, &text) {
         Ok((schema, _)) => Ok(schema),
-        Err(SchemaFault::Bad { line, code }) => Err(End::Schema { line, code }),
-        Err(SchemaFault::Memory) => Err(End::Memory { done: 0 }),
+        Err(SchemaFault::Bad { line, code }) => Err(HeadStop::Bad { line, code }),
+        Err(SchemaFault::Memory) => Err(HeadStop::Input(InputStop::Memory)),
     }
 }
 
@@ -50,10 +58,12 @@ fn take_lines<S: Source>(
 ) -> Result<Vec<u8>, InputStop>
     requires pieces { input.old.pieces ≡ record { room = INPUT_LIMIT; is_ended = false } }
     requires lines { input.old.lines.lines ≡ [] ∷ [] }
-    ensures ended { IfOk result (λ _. input.new.pieces.is_ended ≡ true → IsAtEnd (S.left source.new)) }
-    ensures took { IfOk result (λ text. TookLines (source_seen S.left S.faults source.old source.new) input.new.pieces.room input.new.lines.lines text.items) }
-    ensures count { IfOk result (λ _. S.faults source.new ≡ S.faults source.old) }
-    ensures none { IfErr result (StopsBeforeEnd (source_seen S.left S.faults source.old source.new)) }
+    ensures ended { IfOk result (λ _. input.new.pieces.is_ended ≡ true → IsAtEnd (S.tells source.new).left) }
+    ensures took { IfOk result (λ text. TookLines (source_seen S.tells source.old source.new) input.new.pieces.room input.new.lines.lines text.items) }
+    ensures count { IfOk result (λ _. (S.tells source.new).faults ≡ (S.tells source.old).faults) }
+    ensures none { IfErr result (StopsBeforeEnd (source_seen S.tells source.old source.new)) }
+    ensures ends { OnOk result ((S.tells source.new).ends ≡ ends_if input.new.pieces.is_ended (S.tells source.old).ends) }
+    ensures once { OnErr result (EndsOnce (S.tells source.old).ends (S.tells source.new).ends) }
 {
     let mut text = Vec::new(alloc);
     'pieces: while !input.pieces.is_ended() {

@@ -1,18 +1,25 @@
 //! The commands that take an input over a store that is there.
-ghost use Rattle.std.specs.Prelude.{◌≡◌, IfErr, IfOk, IsTrue};
+ghost use Rattle.std.specs.Prelude.{◌≡◌, IfErr, IfOk, IsTrue, MatchResult, Some};
+ghost use Rattle.cube_base.specs.Outside.{next_count};
+ghost use Rattle.fact_keeper.specs.Keeper.{StaysOpen};
 ghost use Rattle.fact_keeper.specs.declared.content.Stored.{Stored};
-ghost use Rattle.script_run.specs.Seen.{keeper_seen, source_seen};
-ghost use Rattle.cube_cli.specs.End.{EndsImport, EndsRun, EndsTask, ImportOver, IsCompleteTask, Opened, RunOver, SaysOfOpening, SaysOfTask, TaskOver, TookFew};
-ghost use Rattle.cube_cli.specs.Seen.{seen_of};
-ghost use Rattle.cube_cli.specs.Steps.{HoldsSchema, IsCubeOf, WeighsAs};
+ghost use Rattle.line_cutter.specs.Input.{EndsOnce};
+ghost use Rattle.script_run.specs.Seen.{keeper_seen, seen_of};
+ghost use Rattle.cube_cli.specs.declared.command.Command.TheVariants as command;
+ghost use Rattle.cube_cli.specs.declared.command.StoreCommand.TheVariants as store_command;
+ghost use Rattle.cube_cli.specs.declared.store.InputTask.TheVariants as task;
+ghost use Rattle.cube_cli.specs.End.{SaysOf};
+ghost use Rattle.cube_cli.specs.Loaded.{LoadedOnce, NamedAt, OpenedBy};
+ghost use Rattle.cube_cli.specs.Seen.{Holds};
+ghost use Rattle.cube_cli.specs.RunEnd.{load_fault_of};
+ghost use Rattle.cube_cli.specs.Steps.{HoldsSchema, IsCubeOf, NotOpened, Opened};
 
 use crate::End;
 use crate::importing::import_file;
-use crate::run_end::{end_of_load, end_of_run, end_of_stop};
+use crate::run_end::{end_of_load, end_of_open, end_of_run, end_of_stop};
 use crate::schema_alone::read_schema_alone;
-use cell_weight::{ByCount, BySum, Uniform, WeightPolicy};
 use cube_base::{Sink, Source};
-use cube_core::{Cube, Finding};
+use cube_core::{Cube, Finding, LoadFault};
 use fact_keeper::{KeepError, Keeper, Stored};
 use line_cutter::{LineInput, MAX_INPUT, take_input};
 use schema_text::{PolicyWord, Schema, SchemaFault};
@@ -37,46 +44,65 @@ pub fn do_input<S: Source, K: Sink, Q: Keeper>(
     out: &mut K,
     keeper: &mut Q,
 ) -> End
-    ensures says { SaysOfTask task (seen_of S.left S.faults K.taken K.faults source.old source.new out.old out.new) (keeper_seen Q.content Q.journal Q.faults keeper.old keeper.new) result }
-    ensures complete { IsCompleteTask task (seen_of S.left S.faults K.taken K.faults source.old source.new out.old out.new) (keeper_seen Q.content Q.journal Q.faults keeper.old keeper.new) result }
-    ensures few { TookFew (source_seen S.left S.faults source.old source.new) result }
+    ensures says { SaysOf (Some (command.Store (store_command.Input task))) (seen_of S.tells K.tells Q.tells source.old source.new out.old out.new keeper.old keeper.new) result }
+    ensures loaded { LoadedOnce name.now (Q.tells keeper.old) (Q.tells keeper.new) (seen_of S.tells K.tells Q.tells source.old source.new out.old out.new keeper.old keeper.new) result }
+    ensures ended { EndsOnce (S.tells source.old).ends (S.tells source.new).ends }
 {
     match open_store(alloc, name, keeper) {
         Ok((schema, content)) => do_store(alloc, task, schema, content, source, out, keeper),
-        Err(end) => end,
+        Err(stop) => end_of_open(stop),
     }
 }
 
-/// Loads the store of a name: its content and the schema in it, or how the program ends without.
+/// Why the store of a name is not opened.
+#[derive(Debug, Drop)]
+pub enum OpenStop {
+    /// There is nothing in it.
+    NoCube,
+    /// The keeper failed.
+    Fault,
+    /// It is not loaded.
+    Load(LoadFault),
+}
+
+/// Loads the store of a name: its content and the schema in it.
 pub fn open_store<Q: Keeper>(
     alloc: Global,
     name: &str,
     keeper: &mut Q,
-) -> Result<(Schema, Stored), End>
-    ensures opened { IfOk result (λ store. Opened store.0 store.1 (keeper_seen Q.content Q.journal Q.faults keeper.old keeper.new)) }
-    ensures open { IfOk result (λ _. IsTrue (Q.is_open keeper.new)) }
-    ensures not_opened { IfErr result (SaysOfOpening (keeper_seen Q.content Q.journal Q.faults keeper.old keeper.new)) }
+) -> Result<(Schema, Stored), OpenStop>
+    ensures opened { IfOk result (λ store. Opened store.0 store.1 (keeper_seen Q.tells keeper.old keeper.new)) }
+    ensures open { IfOk result (λ _. IsTrue (Q.tells keeper.new).is_open) }
+    ensures not_opened { IfErr result (NotOpened (keeper_seen Q.tells keeper.old keeper.new)) }
+    ensures loads { (Q.tells keeper.new).loads ≡ next_count (Q.tells keeper.old).loads }
+    ensures named { MatchResult result (λ _. OpenedBy name.now (Q.tells keeper.new)) (NamedAt name.now (Q.tells keeper.old) (Q.tells keeper.new)) }
 {
     let content = match keeper.load(alloc, name) {
         Ok(content) => content,
-        Err(KeepError::Failed) => return Err(End::KeepFault { done: 0 }),
-        Err(KeepError::Memory) => return Err(End::Memory { done: 0 }),
+        Err(KeepError::Failed) => return Err(OpenStop::Fault),
+        Err(KeepError::Memory) => return Err(OpenStop::Load(LoadFault::Memory)),
     };
     if content.is_empty() {
         // Dropped by a call, which is proved once: in place it would be proved on each way out.
         drop(content);
-        return Err(End::NoCube);
+        return Err(OpenStop::NoCube);
     }
     match read_schema_alone(alloc, content.schema.as_slice()) {
         Ok(schema) => Ok((schema, content)),
-        Err(SchemaFault::Bad { line, code }) => {
+        Err(fault) => {
             drop(content);
-            Err(End::BadStore(Finding::Schema { line, code }))
+            Err(OpenStop::Load(load_fault_of(fault)))
         }
-        Err(SchemaFault::Memory) => {
-            drop(content);
-            Err(End::Memory { done: 0 })
-        }
+    }
+}
+
+// Why a content is not loaded whose text is not read as a schema alone.
+fn load_fault_of(fault: SchemaFault) -> LoadFault
+    ensures { result ≡ load_fault_of fault }
+{
+    match fault {
+        SchemaFault::Bad { line, code } => LoadFault::Bad(Finding::Schema { line, code }),
+        SchemaFault::Memory => LoadFault::Memory,
     }
 }
 
@@ -90,38 +116,12 @@ fn do_store<S: Source, K: Sink, Q: Keeper>(
     out: &mut K,
     keeper: &mut Q,
 ) -> End
-    requires { IsTrue (Q.is_open keeper.old) }
-    ensures ends { EndsTask task (seen_of S.left S.faults K.taken K.faults source.old source.new out.old out.new) (keeper_seen Q.content Q.journal Q.faults keeper.old keeper.new) result }
-    ensures over { HoldsSchema schema content → TaskOver task content (seen_of S.left S.faults K.taken K.faults source.old source.new out.old out.new) (keeper_seen Q.content Q.journal Q.faults keeper.old keeper.new) result }
-    ensures few { TookFew (source_seen S.left S.faults source.old source.new) result }
+    requires { IsTrue (Q.tells keeper.old).is_open }
+    ensures says { Holds (keeper_seen Q.tells keeper.old keeper.new) (λ kept. content ≡ kept) → HoldsSchema schema content → SaysOf (Some (command.Store (store_command.Input task))) (seen_of S.tells K.tells Q.tells source.old source.new out.old out.new keeper.old keeper.new) result }
+    ensures stays_open { StaysOpen (Q.tells keeper.old) (Q.tells keeper.new) }
+    ensures ended { EndsOnce (S.tells source.old).ends (S.tells source.new).ends }
 {
-    match schema.policy() {
-        PolicyWord::Uniform => {
-            do_under(alloc, task, schema, Uniform, content, source, out, keeper)
-        }
-        PolicyWord::Count => do_under(alloc, task, schema, ByCount, content, source, out, keeper),
-        PolicyWord::Weight(_) => {
-            do_under(alloc, task, schema, BySum, content, source, out, keeper)
-        }
-    }
-}
-
-// The same under a policy.
-fn do_under<P: WeightPolicy + Drop + Copy, S: Source, K: Sink, Q: Keeper>(
-    alloc: Global,
-    task: InputTask,
-    schema: Schema,
-    policy: P,
-    content: Stored,
-    source: &mut S,
-    out: &mut K,
-    keeper: &mut Q,
-) -> End
-    requires { IsTrue (Q.is_open keeper.old) }
-    ensures ends { EndsTask task (seen_of S.left S.faults K.taken K.faults source.old source.new out.old out.new) (keeper_seen Q.content Q.journal Q.faults keeper.old keeper.new) result }
-    ensures over { HoldsSchema schema content → WeighsAs (P.weigh policy) schema → TaskOver task content (seen_of S.left S.faults K.taken K.faults source.old source.new out.old out.new) (keeper_seen Q.content Q.journal Q.faults keeper.old keeper.new) result }
-    ensures few { TookFew (source_seen S.left S.faults source.old source.new) result }
-{
+    let policy = schema.policy();
     let loaded = Cube::from_stored(alloc, schema, &content, policy);
     // Dropped by a call, which is proved once: in place it would be proved on each way out.
     drop(content);
@@ -132,18 +132,18 @@ fn do_under<P: WeightPolicy + Drop + Copy, S: Source, K: Sink, Q: Keeper>(
 }
 
 // Does what is to be done with the input on a cube whose content an open store holds.
-fn do_cube<P: WeightPolicy + Drop + Copy, S: Source, K: Sink, Q: Keeper>(
+fn do_cube<S: Source, K: Sink, Q: Keeper>(
     alloc: Global,
     task: InputTask,
-    cube: Cube<P>,
+    cube: Cube<PolicyWord>,
     source: &mut S,
     out: &mut K,
     keeper: &mut Q,
 ) -> End
-    requires { IsTrue (Q.is_open keeper.old) }
-    ensures ends { EndsTask task (seen_of S.left S.faults K.taken K.faults source.old source.new out.old out.new) (keeper_seen Q.content Q.journal Q.faults keeper.old keeper.new) result }
-    ensures over { (content : Stored) → IsCubeOf P.weigh cube content → TaskOver task content (seen_of S.left S.faults K.taken K.faults source.old source.new out.old out.new) (keeper_seen Q.content Q.journal Q.faults keeper.old keeper.new) result }
-    ensures few { TookFew (source_seen S.left S.faults source.old source.new) result }
+    requires { IsTrue (Q.tells keeper.old).is_open }
+    ensures says { (content : Stored) → Holds (keeper_seen Q.tells keeper.old keeper.new) (λ kept. content ≡ kept) → IsCubeOf cube content → SaysOf (Some (command.Store (store_command.Input task))) (seen_of S.tells K.tells Q.tells source.old source.new out.old out.new keeper.old keeper.new) result }
+    ensures stays_open { StaysOpen (Q.tells keeper.old) (Q.tells keeper.new) }
+    ensures ended { EndsOnce (S.tells source.old).ends (S.tells source.new).ends }
 {
     match task {
         InputTask::Run => run_over(alloc, cube, source, out, keeper),
@@ -152,17 +152,17 @@ fn do_cube<P: WeightPolicy + Drop + Copy, S: Source, K: Sink, Q: Keeper>(
 }
 
 // Does the lines of a script as its input comes.
-fn run_over<P: WeightPolicy + Drop + Copy, S: Source, K: Sink, Q: Keeper>(
+fn run_over<S: Source, K: Sink, Q: Keeper>(
     alloc: Global,
-    cube: Cube<P>,
+    cube: Cube<PolicyWord>,
     source: &mut S,
     out: &mut K,
     keeper: &mut Q,
 ) -> End
-    requires { IsTrue (Q.is_open keeper.old) }
-    ensures ends { EndsRun (seen_of S.left S.faults K.taken K.faults source.old source.new out.old out.new) (keeper_seen Q.content Q.journal Q.faults keeper.old keeper.new) result }
-    ensures over { (content : Stored) → IsCubeOf P.weigh cube content → RunOver content (seen_of S.left S.faults K.taken K.faults source.old source.new out.old out.new) (keeper_seen Q.content Q.journal Q.faults keeper.old keeper.new) result }
-    ensures few { TookFew (source_seen S.left S.faults source.old source.new) result }
+    requires { IsTrue (Q.tells keeper.old).is_open }
+    ensures says { (content : Stored) → Holds (keeper_seen Q.tells keeper.old keeper.new) (λ kept. content ≡ kept) → IsCubeOf cube content → SaysOf (Some (command.Store (store_command.Input task.Run))) (seen_of S.tells K.tells Q.tells source.old source.new out.old out.new keeper.old keeper.new) result }
+    ensures stays_open { StaysOpen (Q.tells keeper.old) (Q.tells keeper.new) }
+    ensures ended { EndsOnce (S.tells source.old).ends (S.tells source.new).ends }
 {
     let Ok(input) = LineInput::new(alloc) else {
         // Dropped by a call, which is proved once: in place it would be proved on each way out.
@@ -173,17 +173,17 @@ fn run_over<P: WeightPolicy + Drop + Copy, S: Source, K: Sink, Q: Keeper>(
 }
 
 // Takes the whole input, and puts the facts of it.
-fn import_over<P: WeightPolicy + Drop + Copy, S: Source, K: Sink, Q: Keeper>(
+fn import_over<S: Source, K: Sink, Q: Keeper>(
     alloc: Global,
-    cube: Cube<P>,
+    cube: Cube<PolicyWord>,
     source: &mut S,
     out: &mut K,
     keeper: &mut Q,
 ) -> End
-    requires { IsTrue (Q.is_open keeper.old) }
-    ensures ends { EndsImport (seen_of S.left S.faults K.taken K.faults source.old source.new out.old out.new) (keeper_seen Q.content Q.journal Q.faults keeper.old keeper.new) result }
-    ensures over { (content : Stored) → IsCubeOf P.weigh cube content → ImportOver content (seen_of S.left S.faults K.taken K.faults source.old source.new out.old out.new) (keeper_seen Q.content Q.journal Q.faults keeper.old keeper.new) result }
-    ensures few { TookFew (source_seen S.left S.faults source.old source.new) result }
+    requires { IsTrue (Q.tells keeper.old).is_open }
+    ensures says { (content : Stored) → Holds (keeper_seen Q.tells keeper.old keeper.new) (λ kept. content ≡ kept) → IsCubeOf cube content → SaysOf (Some (command.Store (store_command.Input task.Import))) (seen_of S.tells K.tells Q.tells source.old source.new out.old out.new keeper.old keeper.new) result }
+    ensures stays_open { StaysOpen (Q.tells keeper.old) (Q.tells keeper.new) }
+    ensures ended { EndsOnce (S.tells source.old).ends (S.tells source.new).ends }
 {
     match take_input(alloc, source, MAX_INPUT) {
         Ok(input) => import_file(alloc, cube, &input, out, keeper),

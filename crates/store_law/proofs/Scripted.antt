@@ -80,7 +80,7 @@ module _ (schema : SchemaValue) where
           (ap (judge policy (shape_of schema) state.dims edit) told ∙ none))
 
       by_judge : (refusal : Option Code) → judge policy (shape_of schema) state.dims edit state.facts ≡ refusal
-          → IsKeptAt (option_map_or (λ refusal. replied state (reply.Error refusal)) refusal (accepted weigh schema state (after edit state.facts))).state
+          → IsKeptAt (option_map_or (λ refusal. replied state (reply.Refused refusal)) refusal (accepted weigh schema state (after edit state.facts))).state
           (apply_all (if is_none refusal then difference policy state.dims edit state.facts ∷ [] else []) content)
       by_judge (Some refusal) is = kept
       by_judge None is = record { known = kept.known; read = kept.read; holds = holds state.facts kept.holds.told is }
@@ -100,7 +100,7 @@ module _ (schema : SchemaValue) where
           (ap (λ (fs : List Fact). judge_growth policy state.dims fs grow) told ∙ none))
 
       by_judge : (refusal : Option Code) → judge_growth policy state.dims state.facts grow ≡ refusal
-          → IsKeptAt (option_map_or (λ refusal. replied state (reply.Error refusal)) refusal (grown weigh schema state grow)).state
+          → IsKeptAt (option_map_or (λ refusal. replied state (reply.Refused refusal)) refusal (grown weigh schema state grow)).state
           (apply_all (if is_none refusal then growth_difference policy (schema_at schema state) (dims_with grow state.dims) state.facts ∷ [] else []) content)
       by_judge (Some refusal) is = kept
       by_judge None is =
@@ -116,14 +116,7 @@ module _ (schema : SchemaValue) where
   said-kept state content (line.Edit edit) kept region id leaf = edit-kept state content edit kept (id edit refl) region
   said-kept state content (line.Grow grow) kept region id leaf = growth-kept state content grow kept (leaf grow refl)
   said-kept state content line.Nothing kept region id leaf = kept
-  said-kept state content (line.Count r) kept region id leaf = kept
-  said-kept state content (line.Sum measure r) kept region id leaf = kept
-  said-kept state content (line.Avg measure r) kept region id leaf = kept
-  said-kept state content (line.Pool measure r) kept region id leaf = kept
-  said-kept state content (line.Terms r) kept region id leaf = kept
-  said-kept state content (line.Rows n) kept region id leaf = kept
-  said-kept state content (line.View view) kept region id leaf = kept
-  said-kept state content (line.Worlds r) kept region id leaf = kept
+  said-kept state content (line.Ask asked) kept region id leaf = kept
 
   step-kept : (state : State) (content : Stored) (bytes : List ℕ) → IsKeptAt state content → IsKeptAt (step weigh schema state bytes).state (apply_all (batches_at weigh schema state bytes) content)
   unfolding step batches_at

@@ -11,7 +11,8 @@ use Rattle.stored_state.specs.Sound.{IsSound, facts_told}
 use Rattle.script_run.specs.Kept.{apply_all}
 use Rattle.script_run.specs.Run.{State}
 use Rattle.script_run.specs.Seen.{KeeperSeen}
-use Rattle.cube_cli.specs.Store.{Holds, IsSoundContent, batches_over, outcome_over, replies_over}
+use Rattle.cube_cli.specs.Seen.{Holds}
+use Rattle.cube_cli.specs.Store.{IsSoundContent, batches_over, outcome_over, replies_over}
 
 -- A content holds facts: it tells these and no others, none of them is refused, and the kept rows are those that they make.
 pub record HoldsState (policy : Policy) (shape : ShapeValue) (dims : List Dimension) (facts : List Fact) (content : Stored) : Type 0 where

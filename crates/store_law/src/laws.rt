@@ -5,7 +5,6 @@ ghost use Rattle.cube_cli.specs.End.{Says};
 ghost use Rattle.cube_cli.specs.Files.{IsAccepted, facts_with, import_batch};
 ghost use Rattle.cube_cli.specs.SchemaAlone.{schema_alone};
 ghost use Rattle.cube_cli.specs.Store.{Finds, IsSoundContent, IsSoundOver, policy_of, schema_batch, state_over};
-ghost use Rattle.cube_cli.specs.Seen.{Seen};
 ghost use Rattle.cube_cli.specs.declared.end.End.{End};
 ghost use Rattle.cube_core.specs.Growth.{growth_difference, judge_growth};
 ghost use Rattle.cube_model.specs.Allocation.{Policy, extended, row_count};
@@ -27,7 +26,7 @@ ghost use Rattle.fact_sequence.specs.Refused.{refused_among};
 ghost use Rattle.schema_text.specs.Growth.{IsGrowOf, dims_with};
 ghost use Rattle.schema_text.specs.Schema.{IsSchema, SchemaValue, over_dims, shape_of};
 ghost use Rattle.schema_text.specs.SchemaText.{schema_text};
-ghost use Rattle.script_run.specs.Seen.{KeeperSeen};
+ghost use Rattle.script_run.specs.Seen.{SeenAll};
 ghost use Rattle.stored_state.specs.Sound.{IsSound, facts_told};
 ghost use Rattle.stored_state.specs.declared.finding.Finding.{Finding};
 ghost use Rattle.store_law.specs.Holds.{BeginsSound, GoesOnOver, HoldsState, StaysSound, content_after, state_reached};
@@ -101,6 +100,6 @@ pub fn scripts_go_on_over_what_is_kept()
 /// Whatever the program does, a sound store stays so, and one in which there is nothing is empty or sound: whatever the words of the
 /// command line and whatever `cube` says at the end, at faults too, where the source tells its input and the keeper its content.
 pub fn runs_leave_stores_sound()
-    ensures stays { (words : List (List ℕ)) (seen : Seen) (keeper : KeeperSeen) (end : End) → IsSome seen.source.left → Says words seen keeper end → StaysSound keeper }
-    ensures begins { (words : List (List ℕ)) (seen : Seen) (keeper : KeeperSeen) (end : End) → IsSome seen.source.left → Says words seen keeper end → BeginsSound keeper }
+    ensures stays { (words : List (List ℕ)) (seen : SeenAll) (end : End) → IsSome seen.source.left → Says words seen end → StaysSound seen.keeper }
+    ensures begins { (words : List (List ℕ)) (seen : SeenAll) (end : End) → IsSome seen.source.left → Says words seen end → BeginsSound seen.keeper }
 {}

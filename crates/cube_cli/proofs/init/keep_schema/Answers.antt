@@ -1,14 +1,15 @@
-use Rattle.std.proofs.Common.{[], ◌∷◌, subst}
-use Rattle.fact_keeper.specs.declared.content.Batch.{Batch}
-use Rattle.script_run.specs.Kept.{Commits}
-use Rattle.script_run.specs.Seen.{KeeperSeen, SinkSeen, keeper_seen, sink_seen}
-use Rattle.cube_cli.proofs.Keeping.{kept_line}
+use Rattle.script_run.specs.Seen.{Told, told_of}
+use Rattle.cube_cli.proofs.Keepers.{committed_one, not_committed}
 use Rattle.cube_cli.proofs.init.keep_schema.Goals as goal
 
-pub returns-in-Ok-kept : goal.returns-in-Ok-kept
-returns-in-Ok-kept g c =
-    let keeper : KeeperSeen = keeper_seen g.Q.Keeper.content g.Q.Keeper.journal g.Q.Keeper.faults c.args.keeper.now c.commit-kept.new.self in
-    let sink : SinkSeen = sink_seen g.K.Sink.taken g.K.Sink.faults c.args.out.now c.write_line.new.out in
-    kept_line c.args.schema.now sink keeper c.write_line.result c.write_line.ensures
-    (subst (λ (batch : Batch). Commits (batch ∷ []) keeper.told keeper.told_after) c.in-Ok.ensures (record { content = c.in-Ok-kept.ensures.applied; journal = c.in-Ok-kept.ensures.appended }))
-    c.in-Ok-kept.ensures.count
+pub returns-clause-kept : goal.returns-clause-kept
+returns-clause-kept g c =
+    let before : Told = told_of g.Q.Keeper.tells c.args.keeper.now in
+    let after : Told = told_of g.Q.Keeper.tells c.commit-kept.new.self in
+    committed_one before after c.commit-kept.result c.in-Ok.batch _ c.in-Ok.ensures c.commit-kept.ensures.applied c.commit-kept.ensures.appended
+
+pub returns-clause-not_kept : goal.returns-clause-not_kept
+returns-clause-not_kept g c =
+    let before : Told = told_of g.Q.Keeper.tells c.args.keeper.now in
+    let after : Told = told_of g.Q.Keeper.tells c.commit-kept.new.self in
+    not_committed before after c.commit-kept.result c.commit-kept.ensures.same_content c.commit-kept.ensures.same_journal

@@ -1,5 +1,6 @@
 use Rattle.std.proofs.Common.{◌≡◌, ◌+◌, true, if◌then◌else◌}
 use Rattle.std.specs.Io.KnownBytes.{IsAtEnd}
+use Rattle.line_cutter.specs.Input.{ends_if}
 use Rattle.cube_cli.proofs.SchemaPieces.{IsTaking}
 use Rattle.cube_cli.proofs.schema_lines.take_lines.Given as goal
 
@@ -7,9 +8,10 @@ use Rattle.cube_cli.proofs.schema_lines.take_lines.Given as goal
 -- it did
 abbrev pub invariant-pieces : goal.invariant-pieces
 invariant-pieces g l = record {
-  taking : IsTaking (g.S.Source.left l.fn.source) (g.S.Source.left l.source) l.input.pieces.room l.input.lines.lines l.text.items;
-  count : g.S.Source.faults l.source ≡ g.S.Source.faults l.fn.source;
-  end : l.input.pieces.is_ended ≡ true → IsAtEnd (g.S.Source.left l.source);
+  taking : IsTaking (g.S.Source.tells l.fn.source).left (g.S.Source.tells l.source).left l.input.pieces.room l.input.lines.lines l.text.items;
+  count : (g.S.Source.tells l.source).faults ≡ (g.S.Source.tells l.fn.source).faults;
+  end : l.input.pieces.is_ended ≡ true → IsAtEnd (g.S.Source.tells l.source).left;
+  ends : (g.S.Source.tells l.source).ends ≡ ends_if l.input.pieces.is_ended (g.S.Source.tells l.fn.source).ends;
 }
 
 -- each piece takes of what may still be taken, or is the end of the input

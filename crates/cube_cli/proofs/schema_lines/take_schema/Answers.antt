@@ -7,14 +7,14 @@ use Rattle.cube_cli.proofs.schema_lines.take_schema.Goals as goal
 
 pub returns-in-Ok-read_schema-clause-took : goal.returns-in-Ok-read_schema-clause-took
 returns-in-Ok-read_schema-clause-took g c =
-    let source : SourceSeen = source_seen g.S.Source.left g.S.Source.faults c.args.source.now c.take_lines.new.source in
+    let source : SourceSeen = source_seen g.S.Source.tells c.args.source.now c.take_lines.new.source in
     let read : ReadSchema = record { schema = c.in-Ok-read_schema.schema; size = c.in-Ok-read_schema.field-0-1 } in
     takes_schema source c.take_lines.new.input.pieces.room c.take_lines.new.input.lines.lines c.in-Ok.text.items read c.in-Ok.ensures.took
     (ap schema_of (sym c.deref.ensures.value) ∙ c.in-Ok-read_schema.ensures.read)
 
 pub returns-in-Err-Bad-clause-none : goal.returns-in-Err-Bad-clause-none
 returns-in-Err-Bad-clause-none g c =
-    let source : SourceSeen = source_seen g.S.Source.left g.S.Source.faults c.args.source.now c.take_lines.new.source in
+    let source : SourceSeen = source_seen g.S.Source.tells c.args.source.now c.take_lines.new.source in
     let bad : BadLine = record { line = c.in-Err-Bad.line; reason = c.in-Err-Bad.code } in
     let took = c.in-Ok.ensures.took in (
       c.in-Ok.ensures.count,

@@ -1,34 +1,41 @@
-use Rattle.std.proofs.Common.{refl}
+use Rattle.std.proofs.Common.{◌≡◌, refl, Some}
 use Rattle.std.proofs.KnownBytes.{Keeps-refl}
-use Rattle.script_run.specs.Seen.{KeeperSeen, Told, keeper_seen, told_of}
-use Rattle.cube_cli.specs.Seen.{Seen, seen_of}
-use Rattle.cube_cli.proofs.Completing.{complete_task}
-use Rattle.cube_cli.proofs.Opening.{still, task_not_opened, task_opened}
+use Rattle.script_run.specs.Seen.{SeenAll, SinkSeen, SourceSeen, Told, keeper_seen, seen_of, sink_seen, source_seen, told_of}
+use Rattle.cube_cli.specs.declared.command.Command.TheVariants.{Store}
+use Rattle.cube_cli.specs.declared.command.StoreCommand.TheVariants.{Input}
+use Rattle.cube_cli.specs.End.{SaysOf}
+use Rattle.cube_cli.proofs.Keepers.{since_load, told_since}
+use Rattle.cube_cli.proofs.First.{left_all}
+use Rattle.cube_cli.proofs.Names.{loaded_once, named_at}
+use Rattle.cube_cli.proofs.Opening.{holds_schema, input_not_opened, opening_kept}
 use Rattle.cube_cli.proofs.store.do_input.Goals as goal
 
 pub returns-in-Ok-clause-says : goal.returns-in-Ok-clause-says
 returns-in-Ok-clause-says g c =
-    let seen : Seen = seen_of g.S.Source.left g.S.Source.faults g.K.Sink.taken g.K.Sink.faults c.args.source.now c.do_store.new.source c.args.out.now c.do_store.new.out in
-    let told : Told = told_of g.Q.Keeper.content g.Q.Keeper.journal c.args.keeper.now in
-    let loaded : Told = told_of g.Q.Keeper.content g.Q.Keeper.journal c.open_store.new.keeper in
-    let later : Told = told_of g.Q.Keeper.content g.Q.Keeper.journal c.do_store.new.keeper in
-    let faults = g.Q.Keeper.faults in
-    task_opened c.in-Ok.schema c.in-Ok.content told loaded later (faults c.args.keeper.now) (faults c.open_store.new.keeper) (faults c.do_store.new.keeper) c.in-Ok.ensures.opened c.args.task seen c.do_store.result c.do_store.ensures.ends c.do_store.ensures.over
-
-pub returns-in-Ok-clause-complete : goal.returns-in-Ok-clause-complete
-returns-in-Ok-clause-complete g c =
-    let seen : Seen = seen_of g.S.Source.left g.S.Source.faults g.K.Sink.taken g.K.Sink.faults c.args.source.now c.do_store.new.source c.args.out.now c.do_store.new.out in
-    let keeper : KeeperSeen = keeper_seen g.Q.Keeper.content g.Q.Keeper.journal g.Q.Keeper.faults c.args.keeper.now c.do_store.new.keeper in
-    complete_task seen keeper c.args.task c.do_store.result (returns-in-Ok-clause-says g c)
+    let source : SourceSeen = source_seen g.S.Source.tells c.args.source.now c.do_store.new.source in
+    let sink : SinkSeen = sink_seen g.K.Sink.tells c.args.out.now c.do_store.new.out in
+    let told : Told = told_of g.Q.Keeper.tells c.args.keeper.now in
+    let loaded : Told = told_of g.Q.Keeper.tells c.open_store.new.keeper in
+    let later : Told = told_of g.Q.Keeper.tells c.do_store.new.keeper in
+    let opened = c.in-Ok.ensures.opened in
+    since_load (λ keeper. SaysOf (Some (Store (Input c.args.task))) (record { source = source; sink = sink; keeper = keeper }) c.do_store.result) told loaded later (g.Q.Keeper.tells c.args.keeper.now).faults (g.Q.Keeper.tells c.open_store.new.keeper).faults (g.Q.Keeper.tells c.do_store.new.keeper).faults
+    opened.kept opened.count
+    (c.do_store.ensures.says (told_since told loaded (λ kept. c.in-Ok.content ≡ kept) opened.kept opened.told) (holds_schema c.in-Ok.schema c.in-Ok.content (keeper_seen g.Q.Keeper.tells c.args.keeper.now c.open_store.new.keeper) opened))
 
 pub returns-in-Err-clause-says : goal.returns-in-Err-clause-says
 returns-in-Err-clause-says g c =
-    let seen : Seen = seen_of g.S.Source.left g.S.Source.faults g.K.Sink.taken g.K.Sink.faults c.args.source.now c.args.source.now c.args.out.now c.args.out.now in
-    let keeper : KeeperSeen = keeper_seen g.Q.Keeper.content g.Q.Keeper.journal g.Q.Keeper.faults c.args.keeper.now c.open_store.new.keeper in
-    task_not_opened seen keeper (still seen (record { read = Keeps-refl _; count = refl }) refl refl) c.args.task c.in-Err.end c.in-Err.ensures.not_opened
+    let seen : SeenAll = seen_of g.S.Source.tells g.K.Sink.tells g.Q.Keeper.tells c.args.source.now c.args.source.now c.args.out.now c.args.out.now c.args.keeper.now c.open_store.new.keeper in
+    rw c.end_of_open.ensures (input_not_opened c.args.task seen (record { read = record { read = Keeps-refl _; count = refl }; wrote = Keeps-refl _; write = refl }) c.in-Err.stop c.in-Err.ensures.not_opened)
 
-pub returns-in-Err-clause-complete : goal.returns-in-Err-clause-complete
-returns-in-Err-clause-complete g c =
-    let seen : Seen = seen_of g.S.Source.left g.S.Source.faults g.K.Sink.taken g.K.Sink.faults c.args.source.now c.args.source.now c.args.out.now c.args.out.now in
-    let keeper : KeeperSeen = keeper_seen g.Q.Keeper.content g.Q.Keeper.journal g.Q.Keeper.faults c.args.keeper.now c.open_store.new.keeper in
-    complete_task seen keeper c.args.task c.in-Err.end (returns-in-Err-clause-says g c)
+pub returns-in-Ok-clause-loaded : goal.returns-in-Ok-clause-loaded
+returns-in-Ok-clause-loaded g c =
+    let tells = g.Q.Keeper.tells in
+    loaded_once c.args.name.now (tells c.args.keeper.now) (tells c.open_store.new.keeper) (tells c.do_store.new.keeper) _ _ c.open_store.ensures.loads c.in-Ok.ensures.named c.do_store.ensures.stays_open
+
+pub returns-in-Err-clause-loaded : goal.returns-in-Err-clause-loaded
+returns-in-Err-clause-loaded g c =
+    let tells = g.Q.Keeper.tells in
+    let seen : SeenAll = seen_of g.S.Source.tells g.K.Sink.tells g.Q.Keeper.tells c.args.source.now c.args.source.now c.args.out.now c.args.out.now c.args.keeper.now c.open_store.new.keeper in
+    rw c.end_of_open.ensures
+    (named_at c.args.name.now (tells c.args.keeper.now) (tells c.open_store.new.keeper) seen c.open_store.ensures.loads
+    (record { none = refl; left = left_all seen (record { read = record { read = Keeps-refl _; count = refl }; wrote = Keeps-refl _; write = refl }) (opening_kept seen.keeper c.in-Err.stop c.in-Err.ensures.not_opened) }) c.in-Err.stop c.in-Err.ensures.named)

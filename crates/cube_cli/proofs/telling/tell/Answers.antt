@@ -1,34 +1,31 @@
-use Rattle.std.proofs.Common.{None, refl}
-use Rattle.script_run.specs.Seen.{KeeperSeen, SourceSeen, keeper_seen, sink_seen}
-use Rattle.cube_cli.specs.Seen.{Seen}
-use Rattle.cube_cli.proofs.Completing.{complete_telling}
-use Rattle.cube_cli.proofs.Opening.{still, telling_not_opened, telling_opened}
+use Rattle.std.proofs.Common.{refl}
+use Rattle.std.proofs.KnownBytes.{Keeps-refl}
+use Rattle.script_run.specs.Seen.{KeeperSeen, SeenAll, keeper_seen, sink_seen}
+use Rattle.cube_cli.proofs.First.{left_all}
+use Rattle.cube_cli.proofs.Names.{loaded_only, named_at}
+use Rattle.cube_cli.proofs.Opening.{holds_schema, opening_kept, tell_not_opened}
 use Rattle.cube_cli.proofs.telling.tell.Goals as goal
-
--- a source that tells nothing
-abbrev none_seen : SourceSeen
-none_seen = record { left = None; left_after = None; faults = 0; faults_after = 0 }
 
 pub returns-in-Ok-clause-says : goal.returns-in-Ok-clause-says
 returns-in-Ok-clause-says g c = λ source unread.
-    let seen : Seen = record { source = source; sink = sink_seen g.K.Sink.taken g.K.Sink.faults c.args.out.now c.tell_store.new.out } in
-    let keeper : KeeperSeen = keeper_seen g.Q.Keeper.content g.Q.Keeper.journal g.Q.Keeper.faults c.args.keeper.now c.open_store.new.keeper in
-    telling_opened c.in-Ok.schema c.in-Ok.content keeper c.in-Ok.ensures.opened seen unread c.args.telling c.tell_store.result c.tell_store.ensures.ends c.tell_store.ensures.over
+    let keeper : KeeperSeen = keeper_seen g.Q.Keeper.tells c.args.keeper.now c.open_store.new.keeper in
+    let opened = c.in-Ok.ensures.opened in
+    c.tell_store.ensures source keeper unread (record { kept = opened.kept; count = opened.count }) opened.told (holds_schema c.in-Ok.schema c.in-Ok.content keeper opened)
 
 pub returns-in-Err-clause-says : goal.returns-in-Err-clause-says
 returns-in-Err-clause-says g c = λ source unread.
-    let seen : Seen = record { source = source; sink = sink_seen g.K.Sink.taken g.K.Sink.faults c.args.out.now c.args.out.now } in
-    let keeper : KeeperSeen = keeper_seen g.Q.Keeper.content g.Q.Keeper.journal g.Q.Keeper.faults c.args.keeper.now c.open_store.new.keeper in
-    telling_not_opened seen keeper (still seen unread refl refl) c.args.telling c.in-Err.end c.in-Err.ensures.not_opened
+    let seen : SeenAll = record { source = source; sink = sink_seen g.K.Sink.tells c.args.out.now c.args.out.now; keeper = keeper_seen g.Q.Keeper.tells c.args.keeper.now c.open_store.new.keeper } in
+    rw c.end_of_open.ensures (tell_not_opened c.args.telling seen (record { read = unread; wrote = Keeps-refl _; write = refl }) c.in-Err.stop c.in-Err.ensures.not_opened)
 
-pub returns-in-Ok-clause-complete : goal.returns-in-Ok-clause-complete
-returns-in-Ok-clause-complete g c = λ source.
-    let seen : Seen = record { source = none_seen; sink = sink_seen g.K.Sink.taken g.K.Sink.faults c.args.out.now c.tell_store.new.out } in
-    let keeper : KeeperSeen = keeper_seen g.Q.Keeper.content g.Q.Keeper.journal g.Q.Keeper.faults c.args.keeper.now c.open_store.new.keeper in
-    complete_telling seen keeper c.args.telling c.tell_store.result (returns-in-Ok-clause-says g c none_seen (record { read = tt; count = refl }))
+pub returns-in-Ok-clause-loaded : goal.returns-in-Ok-clause-loaded
+returns-in-Ok-clause-loaded g c = λ source unread.
+    let tells = g.Q.Keeper.tells in
+    loaded_only c.args.name.now (tells c.args.keeper.now) (tells c.open_store.new.keeper) _ _ c.open_store.ensures.loads c.in-Ok.ensures.named
 
-pub returns-in-Err-clause-complete : goal.returns-in-Err-clause-complete
-returns-in-Err-clause-complete g c = λ source.
-    let seen : Seen = record { source = none_seen; sink = sink_seen g.K.Sink.taken g.K.Sink.faults c.args.out.now c.args.out.now } in
-    let keeper : KeeperSeen = keeper_seen g.Q.Keeper.content g.Q.Keeper.journal g.Q.Keeper.faults c.args.keeper.now c.open_store.new.keeper in
-    complete_telling seen keeper c.args.telling c.in-Err.end (returns-in-Err-clause-says g c none_seen (record { read = tt; count = refl }))
+pub returns-in-Err-clause-loaded : goal.returns-in-Err-clause-loaded
+returns-in-Err-clause-loaded g c = λ source unread.
+    let tells = g.Q.Keeper.tells in
+    let seen : SeenAll = record { source = source; sink = sink_seen g.K.Sink.tells c.args.out.now c.args.out.now; keeper = keeper_seen g.Q.Keeper.tells c.args.keeper.now c.open_store.new.keeper } in
+    rw c.end_of_open.ensures
+    (named_at c.args.name.now (tells c.args.keeper.now) (tells c.open_store.new.keeper) seen c.open_store.ensures.loads
+    (record { none = refl; left = left_all seen (record { read = unread; wrote = Keeps-refl _; write = refl }) (opening_kept seen.keeper c.in-Err.stop c.in-Err.ensures.not_opened) }) c.in-Err.stop c.in-Err.ensures.named)

@@ -1,25 +1,22 @@
--- Cells weigh as the policy of the schema says.
-use Rattle.std.proofs.Common.{subst}
+-- Nothing is kept, so that nothing is said of the keeper.
+use Rattle.std.proofs.Common.{None, ◌∙◌}
 use Rattle.schema_text.specs.Schema.{weigh_of}
-use Rattle.schema_text.specs.declared.word.PolicyWord.{PolicyWord}
-use Rattle.script_run.specs.Seen.{SinkSeen, SourceSeen, sink_seen, source_seen}
-use Rattle.cube_cli.specs.Trying.{EndsUnkept}
+use Rattle.script_run.specs.Seen.{KeeperSeen, SinkSeen, SourceSeen, sink_seen, source_seen}
+use Rattle.cube_cli.proofs.Unkept.{cube_ground, ends_unkept, ground_new, no_cause, none_done}
 use Rattle.cube_cli.proofs.trying.run_schema_script.Goals as goal
 
-pub returns-in-Uniform-clause-ends : goal.returns-in-Uniform-clause-ends
-returns-in-Uniform-clause-ends g c = λ text are.
-    let source : SourceSeen = source_seen g.S.Source.left g.S.Source.faults c.args.source.now c.run_under.new.source in
-    let sink : SinkSeen = sink_seen g.K.Sink.taken g.K.Sink.faults c.args.out.now c.run_under.new.out in
-    subst (λ (policy : PolicyWord). EndsUnkept (weigh_of policy) c.args.schema text c.args.input.pieces.room source sink c.run_under.result) c.in-Uniform.ensures.policy (c.run_under.ensures.ends text are)
+pub returns-in_default-clause-ends : goal.returns-in_default-clause-ends
+returns-in_default-clause-ends g c = λ text are.
+    none_done (weigh_of c.args.schema.policy) c.args.schema text c.args.input.pieces.room (g.S.Source.tells c.args.source.now).left (g.S.Source.tells c.args.source.now).faults (g.K.Sink.tells c.args.out.now).taken (g.K.Sink.tells c.args.out.now).faults
 
-pub returns-in-Count-clause-ends : goal.returns-in-Count-clause-ends
-returns-in-Count-clause-ends g c = λ text are.
-    let source : SourceSeen = source_seen g.S.Source.left g.S.Source.faults c.args.source.now c.run_under-in-Count.new.source in
-    let sink : SinkSeen = sink_seen g.K.Sink.taken g.K.Sink.faults c.args.out.now c.run_under-in-Count.new.out in
-    subst (λ (policy : PolicyWord). EndsUnkept (weigh_of policy) c.args.schema text c.args.input.pieces.room source sink c.run_under-in-Count.result) c.in-Count.ensures.policy (c.run_under-in-Count.ensures.ends text are)
+pub returns-clause-ends : goal.returns-clause-ends
+returns-clause-ends g c = λ text are.
+    let source : SourceSeen = source_seen g.S.Source.tells c.args.source.now c.run_stream.new.source in
+    let sink : SinkSeen = sink_seen g.K.Sink.tells c.args.out.now c.run_stream.new.out in
+    let keeper : KeeperSeen = record { told = record { content = None; journal = None }; told_after = record { content = None; journal = None }; faults = 0; faults_after = 0 } in
+    ends_unkept (cube_ground weigh_of c.in-Ok.cube) (weigh_of c.args.schema.policy) c.args.schema text c.args.input.pieces.room source sink keeper c.run_stream.result
+    (ground_new weigh_of c.in-Ok.cube c.args.schema.policy c.args.schema (c.in-Ok.ensures.policy ∙ c.policy-policy.ensures.policy) c.in-Ok.ensures.schema c.in-Ok.ensures.facts)
+    (c.run_stream.ensures.ends text are)
 
-pub returns-in-Weight-clause-ends : goal.returns-in-Weight-clause-ends
-returns-in-Weight-clause-ends g c = λ text are.
-    let source : SourceSeen = source_seen g.S.Source.left g.S.Source.faults c.args.source.now c.run_under-in-Weight.new.source in
-    let sink : SinkSeen = sink_seen g.K.Sink.taken g.K.Sink.faults c.args.out.now c.run_under-in-Weight.new.out in
-    subst (λ (policy : PolicyWord). EndsUnkept (weigh_of policy) c.args.schema text c.args.input.pieces.room source sink c.run_under-in-Weight.result) c.in-Weight.ensures.policy (c.run_under-in-Weight.ensures.ends text are)
+pub returns-clause-no_keep : goal.returns-clause-no_keep
+returns-clause-no_keep g c = no_cause c.run_stream.result c.run_stream.ensures.cause

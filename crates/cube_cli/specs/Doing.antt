@@ -1,0 +1,161 @@
+-- What each command does: the ends that it may give, what it takes and keeps, and what it makes of an input and a content.
+use Rattle.std.specs.Prelude.{◌≡◌, ℕ, Bool, true, false, List, [], ◌∷◌, codes, take, ⊤, Option, Some, None, Result, Ok, Err}
+use Rattle.std.specs.Option.{option_map_or}
+use Rattle.std.specs.Result.{result_ok}
+use Rattle.cube_model.specs.declared.edit.Fact.{Fact}
+use Rattle.cube_model.specs.Allocation.{Policy}
+use Rattle.drill_run.specs.Doing.{drill_of}
+use Rattle.drill_run.specs.Summary.{summary_of}
+use Rattle.fact_keeper.specs.Batch.{empty_content}
+use Rattle.fact_keeper.specs.declared.content.Batch.{Batch}
+use Rattle.fact_keeper.specs.declared.content.Stored.{Stored}
+use Rattle.line_cutter.specs.Pieces.{lf_count, line_end}
+use Rattle.schema_text.specs.Schema.{SchemaValue}
+use Rattle.schema_text.specs.SchemaText.{BadLine, schema_of}
+use Rattle.stored_state.specs.Sound.{facts_told}
+use Rattle.text_lines.specs.Text.{line_text, lines_of}
+use Rattle.cube_cli.specs.declared.command.Command.{Command}
+use Rattle.cube_cli.specs.declared.command.Command.TheVariants.{Drill, Store, Try}
+use Rattle.cube_cli.specs.declared.command.StoreCommand.TheVariants.{Init, Input, Tell}
+use Rattle.cube_cli.specs.declared.end.End.{End}
+use Rattle.cube_cli.specs.declared.end.End.TheVariants as ends
+use Rattle.cube_cli.specs.declared.store.InputTask.TheVariants.{Run, Import}
+use Rattle.cube_cli.specs.declared.telling.Telling.{Telling}
+use Rattle.cube_cli.specs.Files.{import_batch, imported_line, refused_file, refused_over, rows_with, text_told}
+use Rattle.cube_cli.specs.Kinds.{EndKind, Finished, Usage, Schema, NoCube, HasCube, BadStore, ReadFault, WriteFault, KeepFault, Memory, TooLong, BadRecord, ImportRows}
+use Rattle.cube_cli.specs.SchemaAlone.{schema_alone}
+use Rattle.cube_cli.specs.SchemaLines.{has_end, schema_bytes}
+use Rattle.cube_cli.specs.Store.{IsSoundContent, batches_over, count_refused_over, policy_of, replies_over, schema_batch}
+use Rattle.cube_cli.specs.Trying.{count_refused, replies_of, script_line_end, script_lines_in}
+
+-- What is made of an input whose lines are done as they come: the end that it has instead where its head is refused, how many bytes that
+-- head has, and whether all of it is among some; the replies to the lines, how many are refused, what the first so many commit, and what
+-- all do; how many lines end in what was taken, and how many bytes the input has up to and with the LF of the n-th.
+pub record LineWork : Type 0 where
+  pub refusal : Option End
+  pub head : ℕ
+  pub has_head : List ℕ → Bool
+  pub replies : List (List ℕ)
+  pub refused : ℕ
+  pub kept : ℕ → List Batch
+  pub all_kept : List Batch
+  pub lines_in : List ℕ → ℕ
+  pub line_end : ℕ → ℕ
+
+-- What is made of one that is done at once: the end that it has instead where it is refused, the text that is written, and the batches
+-- that are committed before.
+pub record OneWork : Type 0 where
+  pub refusal : Option End
+  pub text : List ℕ
+  pub kept : List Batch
+
+-- how an input is done: by its lines, or at once, with so many lines refused and so many batches committed
+pub data Works : Type 0 where
+  ByLines : (List ℕ → Stored → LineWork) → Works
+  AtOnce : ℕ → ℕ → (List ℕ → Stored → OneWork) → Works
+
+-- whether a command takes the input, whether it calls the keeper, whether it may commit, whether what it does depends on the content that
+-- the store held, and what it does
+pub record Doing : Type 0 where
+  pub reads : Bool
+  pub stores : Bool
+  pub keeps : Bool
+  pub over : Bool
+  pub works : Works
+
+-- the end of a schema that is refused
+abbrev pub refused_schema : {T : Type 0} → Result T BadLine → Option End
+refused_schema (Ok _) = None
+refused_schema (Err bad) = Some (ends.Schema bad.line bad.reason)
+
+-- the lines behind a schema, done on a cube that is not kept
+abbrev pub try_work : List ℕ → Stored → LineWork
+try_work input content = record {
+  refusal = refused_schema (schema_of input);
+  head = schema_bytes input;
+  has_head = has_end;
+  replies = replies_of input;
+  refused = count_refused input;
+  kept = λ n. [];
+  all_kept = [];
+  lines_in = script_lines_in input;
+  line_end = script_line_end input;
+}
+
+-- the lines of a script over a content, which has no head
+abbrev pub run_work : List ℕ → Stored → LineWork
+run_work input content = record {
+  refusal = None;
+  head = 0;
+  has_head = λ taken. true;
+  replies = replies_over content (lines_of input);
+  refused = count_refused_over content (lines_of input);
+  kept = λ n. batches_over content (take n (lines_of input));
+  all_kept = batches_over content (lines_of input);
+  lines_in = lf_count;
+  line_end = line_end input;
+}
+
+-- the reply of `init`
+abbrev pub INIT_LINE : List ℕ
+INIT_LINE = line_text (codes "ok") (codes "0" ∷ [])
+
+-- a schema alone, of which the one text is kept
+abbrev pub init_work : List ℕ → Stored → OneWork
+init_work input content = record {
+  refusal = refused_schema (schema_alone input);
+  text = INIT_LINE;
+  kept = option_map_or (λ schema. schema_batch schema ∷ []) (result_ok (schema_alone input)) [];
+}
+
+-- a file of facts, put into those of a content whose schema is read
+abbrev pub file_work : Policy → SchemaValue → List Fact → List ℕ → OneWork
+file_work policy schema facts file = record {
+  refusal = refused_file (refused_over schema facts file) (rows_with policy schema facts file);
+  text = imported_line policy schema facts file;
+  kept = import_batch policy schema facts file ∷ [];
+}
+
+-- a text alone
+abbrev pub text_work : List ℕ → OneWork
+text_work text = record { refusal = None; text = text; kept = [] }
+
+-- what is made with the schema of a content, where that is read
+abbrev pub with_schema : (SchemaValue → OneWork) → Stored → OneWork
+with_schema work content = option_map_or work (result_ok (schema_alone content.schema)) (text_work [])
+
+abbrev pub import_work : List ℕ → Stored → OneWork
+import_work input content = with_schema (λ schema. file_work (policy_of schema) schema (facts_told content) input) content
+
+-- what `check` and `export` tell of a content
+abbrev pub telling_work : Telling → List ℕ → Stored → OneWork
+telling_work telling input content = with_schema (λ schema. text_work (text_told telling (policy_of schema) schema (facts_told content))) content
+
+-- what the command does
+abbrev pub doing_of : Option Command → Doing
+doing_of None = record { reads = false; stores = false; keeps = false; over = false; works = AtOnce 0 0 (λ input content. text_work []) }
+doing_of (Some Try) = record { reads = true; stores = false; keeps = false; over = false; works = ByLines try_work }
+doing_of (Some (Drill n)) = record { reads = false; stores = false; keeps = false; over = false; works = AtOnce (drill_of n).refused 0 (λ input content. text_work (summary_of n)) }
+doing_of (Some (Store Init)) = record { reads = true; stores = true; keeps = true; over = false; works = AtOnce 0 1 init_work }
+doing_of (Some (Store (Input Run))) = record { reads = true; stores = true; keeps = true; over = true; works = ByLines run_work }
+doing_of (Some (Store (Input Import))) = record { reads = true; stores = true; keeps = true; over = true; works = AtOnce 0 1 import_work }
+doing_of (Some (Store (Tell telling))) = record { reads = false; stores = true; keeps = false; over = true; works = AtOnce 0 0 (telling_work telling) }
+
+-- the ends that it may give
+abbrev pub ends_of : Option Command → List EndKind
+ends_of None = Usage ∷ []
+ends_of (Some Try) = Finished ∷ Schema ∷ ReadFault ∷ TooLong ∷ WriteFault ∷ Memory ∷ []
+ends_of (Some (Drill n)) = Finished ∷ WriteFault ∷ Memory ∷ []
+ends_of (Some (Store Init)) = HasCube ∷ Schema ∷ Finished ∷ ReadFault ∷ TooLong ∷ WriteFault ∷ KeepFault ∷ Memory ∷ []
+ends_of (Some (Store (Input Run))) = NoCube ∷ BadStore ∷ Finished ∷ ReadFault ∷ TooLong ∷ WriteFault ∷ KeepFault ∷ Memory ∷ []
+ends_of (Some (Store (Input Import))) = NoCube ∷ BadStore ∷ BadRecord ∷ ImportRows ∷ Finished ∷ ReadFault ∷ TooLong ∷ WriteFault ∷ KeepFault ∷ Memory ∷ []
+ends_of (Some (Store (Tell telling))) = NoCube ∷ BadStore ∷ Finished ∷ WriteFault ∷ KeepFault ∷ Memory ∷ []
+
+-- what the store must hold for it to go on
+abbrev pub Fits : Option Command → Stored → Type 0
+Fits None content = ⊤
+Fits (Some Try) content = ⊤
+Fits (Some (Drill n)) content = ⊤
+Fits (Some (Store Init)) content = content ≡ empty_content
+Fits (Some (Store (Input task))) content = IsSoundContent content
+Fits (Some (Store (Tell telling))) content = IsSoundContent content

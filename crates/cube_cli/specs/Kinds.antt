@@ -1,0 +1,40 @@
+-- The kinds of ends, and whether an end is of one among some.
+use Rattle.std.specs.Prelude.{Bool, true, false, IsTrue, List}
+use Rattle.std.specs.List.{list_any}
+use Rattle.cube_cli.specs.declared.end.End.{End}
+use Rattle.cube_cli.specs.declared.end.End.TheVariants as ends
+
+pub data EndKind : Type 0 where
+  Finished : EndKind
+  Usage : EndKind
+  Schema : EndKind
+  NoCube : EndKind
+  HasCube : EndKind
+  BadStore : EndKind
+  ReadFault : EndKind
+  WriteFault : EndKind
+  KeepFault : EndKind
+  Memory : EndKind
+  TooLong : EndKind
+  BadRecord : EndKind
+  ImportRows : EndKind
+
+abbrev pub is_kind : EndKind → End → Bool
+is_kind Finished (ends.Finished _) = true
+is_kind Usage ends.Usage = true
+is_kind Schema (ends.Schema _ _) = true
+is_kind NoCube ends.NoCube = true
+is_kind HasCube ends.HasCube = true
+is_kind BadStore (ends.BadStore _) = true
+is_kind ReadFault (ends.ReadFault _) = true
+is_kind WriteFault (ends.WriteFault _) = true
+is_kind KeepFault (ends.KeepFault _) = true
+is_kind Memory (ends.Memory _) = true
+is_kind TooLong (ends.TooLong _) = true
+is_kind BadRecord (ends.BadRecord _) = true
+is_kind ImportRows (ends.ImportRows _) = true
+is_kind kind end = false
+
+-- an end is of one of these kinds
+abbrev pub IsAmong : List EndKind → End → Type 0
+IsAmong kinds end = IsTrue (list_any (λ kind. is_kind kind end) kinds)
