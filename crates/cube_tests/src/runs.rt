@@ -1,5 +1,5 @@
 //! Runs over a source and a sink in memory.
-use cube_base::{Bytes, Code, Failed, Ids, MemSink, MemSource, Source};
+use cube_base::{Bytes, Code, Ids, MemSink, MemSource};
 use cube_cli::{End, cube};
 use fact_keeper::{MemKeeper, Stored};
 use std::alloc::{AllocError, Global};
@@ -96,53 +96,23 @@ fn words_of(alloc: Global, words: &[&str]) -> Result<Vec<String>, AllocError> {
         .try_collect(alloc)
 }
 
-/// A source in memory, and behind its bytes so many more, each an `x`. It is the one kind of source here, since each kind has the
-/// whole program linked and proved once more.
-#[derive(Drop)]
-pub struct Padded {
-    pub input: MemSource,
-    pub more: usize,
-}
-
-impl Source for Padded {
-    ghost use Rattle.std.specs.Prelude.{None};
-
-    ghost left = { λ s. None };
-
-    ghost faults = { λ s. s.input.faults };
-
-    fn read(&mut self, into: &mut [u8]) -> Result<usize, Failed> {
-        let count = self.input.read(into)?;
-        if count > 0 {
-            return Ok(count);
-        }
-        let count = into.len().min(self.more);
-        into[..count].fill(b'x');
-        self.more -= count;
-        Ok(count)
-    }
-}
-
 /// A source of an input.
 pub fn source_of(
     alloc: Global,
     input: &[u8],
     step: usize,
     fails: u64,
-) -> Result<Padded, AllocError> {
+) -> Result<MemSource, AllocError> {
     let fails = Ids::from(Vec::from_slice(alloc, &[fails])?);
     let bytes = Bytes::from(Vec::from_slice(alloc, input)?);
-    Ok(Padded {
-        input: MemSource::new(alloc, bytes, step.max(1), fails),
-        more: 0,
-    })
+    Ok(MemSource::new(alloc, bytes, step.max(1), fails))
 }
 
 /// Runs the words over a source and a keeper.
 pub fn run_from(
     alloc: Global,
     words: &[&str],
-    source: &mut Padded,
+    source: &mut MemSource,
     outside: &Outside,
     keeper: &mut MemKeeper,
 ) -> Result<Outcome, AllocError> {
@@ -150,7 +120,7 @@ pub fn run_from(
     let write_fails = Ids::from(Vec::from_slice(alloc, &[outside.write_fails])?);
     let mut sink = MemSink::new(alloc, outside.write_step.max(1), write_fails);
     let end = cube(alloc, &words, source, &mut sink, keeper);
-    Ok((end, sink, source.input.left().len()))
+    Ok((end, sink, source.left().len()))
 }
 
 /// The same over an input.

@@ -1,8 +1,7 @@
 //! Scripts that come in pieces: what is done of them where a call fails, and how much of an input is taken.
-use crate::runs::{Ending, Outside, REPAIRS, WHOLE, ending_of, run_from, source_of};
-use crate::stored::{keeper_of, run_stored, without_facts};
-use cube_base::{Failed, Ids, MemSink, Memory, Source};
-use cube_cli::cube;
+use crate::runs::{Ending, Outside, REPAIRS, WHOLE};
+use crate::stored::{run_stored, without_facts};
+use cube_base::Memory;
 use fact_keeper::MemKeeper;
 use std::alloc::Global;
 
@@ -102,41 +101,4 @@ fn answers_before(alloc: Global) -> Result<bool, Memory> {
 #[test]
 fn an_answer_comes_before_the_next_piece(rt: HostRuntime) {
     assert!(rt; answers_before(rt.alloc()) == Ok(true));
-}
-
-/// The bytes of a comment that has no end, and how its run ends.
-const ENDLESS: [(usize, Ending); 2] = [
-    (1 << 30, Ending::Finished { refused: 0 }),
-    ((1 << 30) + 1, Ending::TooLong { done: 0 }),
-];
-
-/// Whether the run of a comment of so many bytes ends so, and writes nothing.
-fn ends_long_over(
-    alloc: Global,
-    keeper: &mut MemKeeper,
-    bytes: usize,
-    end: Ending,
-) -> Result<bool, Memory> {
-    let mut source = source_of(alloc, b"#", 1, 0)?;
-    source.more = bytes.saturating_sub(1);
-    let (ended, sink, _) = run_from(alloc, &["run", "s"], &mut source, &WHOLE, keeper)?;
-    Ok(ending_of(&ended) == end && sink.bytes().is_empty())
-}
-
-/// Whether it does so over a store of repairs.
-fn ends_long(alloc: Global, row: &(usize, Ending)) -> Result<bool, Memory> {
-    let (bytes, end) = *row;
-    let mut keeper = keeper_of(alloc, REPAIRS, &[], &[], &[])?;
-    let ended = ends_long_over(alloc, &mut keeper, bytes, end);
-    drop(keeper);
-    ended
-}
-
-fn end_long(alloc: Global, rows: &[(usize, Ending)]) -> bool {
-    rows.iter().all(|row| ends_long(alloc, row) == Ok(true))
-}
-
-#[test]
-fn inputs_of_2_to_the_30_bytes(rt: HostRuntime) {
-    assert!(rt; end_long(rt.alloc(), &ENDLESS));
 }
