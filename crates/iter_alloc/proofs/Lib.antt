@@ -1,0 +1,14 @@
+pub mod Bounded
+pub mod Chains
+pub mod ClaimSteps
+pub mod Claiming
+pub mod Counted
+pub mod InSpots
+pub mod Joined
+pub mod Kept
+pub mod LabelledFacts
+pub mod LabelsSoFar
+pub mod Roots
+pub mod SpotFacts
+pub mod SpotsSoFar
+pub mod Tests

@@ -1,0 +1,9 @@
+pub mod Claims
+pub mod Components
+pub mod Counting
+pub mod Examples
+pub mod Forest
+pub mod Iterated
+pub mod Rounds
+pub mod Spotting
+pub mod Touching
