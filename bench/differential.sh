@@ -9,5 +9,5 @@ cases=${1:-10000}
 seed=${2:-1}
 top=$(cd -- "$(dirname -- "$0")/.." && pwd -P)
 
-"$top/cube" try <"$top/examples/repairs.txt" >/dev/null
+"$top/cube" --build
 exec python3 "$top/bench/differential.py" "$top/crates/cube/out/cube" "$cases" "$seed"

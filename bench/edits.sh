@@ -15,5 +15,5 @@ set -euo pipefail
 
 runs=${1:-3}
 top=$(cd -- "$(dirname -- "$0")/.." && pwd -P)
-"$top/cube" try <"$top/examples/repairs.txt" >/dev/null
+"$top/cube" --build
 exec python3 "$top/bench/edits.py" "$top/crates/cube/out/cube" "$runs" ${2:+"$2"}

@@ -17,5 +17,5 @@ set -euo pipefail
 other=${1:-}
 runs=${2:-3}
 top=$(cd -- "$(dirname -- "$0")/.." && pwd -P)
-"$top/cube" try <"$top/examples/repairs.txt" >/dev/null
+"$top/cube" --build
 exec python3 "$top/bench/engine.py" "$runs" "$top/crates/cube/out/cube" ${other:+"$other"}

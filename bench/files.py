@@ -64,12 +64,13 @@ def damage(random, records):
         differential.spoil(random, records[place])
 
 
-def made_file(random, made):
+def made_file(random, made, damaged=0.4):
+    """A file over a made schema, in which so many of all have a wrong record."""
     header, records = made_records(random, made)
     if random.random() < 0.05:
         header = list(header)
         differential.spoil(random, header)
-    if records and random.random() < 0.4:
+    if records and random.random() < damaged:
         for _ in range(random.choice([1, 1, 2])):
             damage(random, records)
     ends = random.choice([[b"\n"], [b"\n"], [b"\r\n"], [b"\r"], [b"\n", b"\r\n", b"\n\n", b"\r\n\r\n"]])

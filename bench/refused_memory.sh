@@ -9,7 +9,7 @@ set -euo pipefail
 top=$(cd -- "$(dirname -- "$0")/.." && pwd -P)
 folder=$(mktemp -d)
 trap 'rm -rf -- "$folder"' EXIT
-"$top/cube" try <"$top/examples/repairs.txt" >/dev/null
+"$top/cube" --build
 cc -O1 -shared -fPIC -o "$folder/refuse.so" "$top/bench/refuse.c"
 if [ $# -eq 0 ]; then
     examples=("$top"/examples/repairs{,_evenly}.txt "$top"/examples/{weeks/weeks,patients/patients}.txt)

@@ -5,6 +5,6 @@
 set -euo pipefail
 
 top=$(cd -- "$(dirname -- "$0")/.." && pwd -P)
-"$top/cube" try <"$top/examples/repairs.txt" >/dev/null
+"$top/cube" --build
 python3 "$top/bench/stores.py" "$top/crates/cube/out/cube" "${1:-300}" "${2:-1}"
 python3 "$top/bench/killed.py" "$top/crates/cube/out/cube" "${3:-200}" "${2:-1}"
