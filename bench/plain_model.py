@@ -56,7 +56,11 @@ UNITS = 10**9  # of a bound, in one
 # Statuses.
 FINISHED, FINISHED_WITH_REFUSALS, USAGE, SCHEMA_REFUSED = range(4)
 
+# The lines and commands of tables, which the program does not have yet: they are known where this is set.
+HAS_TABLES = "CUBE_TABLES" in os.environ
+
 USAGE_TEXT = "usage: cube try, init NAME, run NAME, check NAME, import NAME, export NAME, drill N"
+TABLES_USAGE_TEXT = "usage: cube try, init NAME, run NAME, ask NAME WORD.., check NAME, import NAME, export NAME, schema NAME, rows NAME, drill N"
 
 
 # Facts, and how they lie.
@@ -418,6 +422,52 @@ def do_view(schema, facts, name):
     return reply_line(b"view", len(entries), *items), facts
 
 
+def lies_under(dim, node, upper):
+    """Whether climbing from a node meets another. A node lies under itself."""
+    parents = parents_of(dim.depths)
+    while node is not None and node != upper:
+        node = parents[node]
+    return node == upper
+
+
+def members_of(dim, depth, node):
+    """The nodes of a cut that lie under a node; the node itself where it lies deeper than the cut."""
+    if dim.depths[node] > depth:
+        return [node]
+    return [member for member in cut_of(dim, depth) if lies_under(dim, member, node)]
+
+
+def do_table(schema, facts, word, question, measure, fields):
+    """The regions into which others are cut, the first dimension slowest: those that have terms, each with what a question
+    is answered of it. The fields are a depth for each dimension, then a node. The measure is the question's, or none."""
+    depths = [number_in(0, MAX_DEPTH, text) for text in fields[: len(schema.dimensions)]]
+    refuse_where(None in depths, "number")
+    asked = read_region(schema, fields[len(schema.dimensions) :])
+    for name in measure:
+        read_measure(schema, name, word == b"pools")
+    regions = product(*(members_of(*member) for member in zip(schema.dimensions, depths, asked)))
+    there = [cell_names(schema, region) for region in regions if answer(schema, facts, region)]
+    answers = [question(schema, facts, *measure, *names)[0].removesuffix(b"\n").split(b"\t")[1:] for names in there]
+    items = [item for names, numbers in zip(there, answers) for item in [*names, *numbers]]
+    return reply_line(word, len(there), *items), facts
+
+
+def do_counts(schema, facts, *fields):
+    return do_table(schema, facts, b"counts", do_count, [], fields)
+
+
+def do_sums(schema, facts, name, *fields):
+    return do_table(schema, facts, b"sums", do_sum, [name], fields)
+
+
+def do_avgs(schema, facts, name, *fields):
+    return do_table(schema, facts, b"avgs", do_avg, [name], fields)
+
+
+def do_pools(schema, facts, name, *fields):
+    return do_table(schema, facts, b"pools", do_pool, [name], fields)
+
+
 def worlds_of(allocations):
     """All possible worlds: each fact stands in the cell of one of its rows, whose weights are multiplied."""
     for rows in product(*(allocation.rows for allocation in allocations)):
@@ -444,19 +494,27 @@ def cell_names(schema, cell):
 
 
 # Each command with what it does, which gives the reply and the facts after it, and whether its line has an id or the
-# name of a measure or of a view, a node of each dimension, a value of each measure.
+# name of a measure or of a view, how many fields it has for each dimension, and whether it has a value of each measure.
 COMMANDS = {
-    b"insert": (do_insert, True, True, True),
-    b"change": (do_change, True, True, True),
-    b"withdraw": (do_withdraw, True, False, False),
-    b"count": (do_count, False, True, False),
-    b"sum": (do_sum, True, True, False),
-    b"avg": (do_avg, True, True, False),
-    b"pool": (do_pool, True, True, False),
-    b"terms": (do_terms, False, True, False),
-    b"rows": (do_rows, True, False, False),
-    b"view": (do_view, True, False, False),
-    b"worlds": (do_worlds, False, True, False),
+    b"insert": (do_insert, True, 1, True),
+    b"change": (do_change, True, 1, True),
+    b"withdraw": (do_withdraw, True, 0, False),
+    b"count": (do_count, False, 1, False),
+    b"sum": (do_sum, True, 1, False),
+    b"avg": (do_avg, True, 1, False),
+    b"pool": (do_pool, True, 1, False),
+    b"terms": (do_terms, False, 1, False),
+    b"rows": (do_rows, True, 0, False),
+    b"view": (do_view, True, 0, False),
+    b"worlds": (do_worlds, False, 1, False),
+}
+
+# The same of tables.
+TABLES = {
+    b"counts": (do_counts, False, 2, False),
+    b"sums": (do_sums, True, 2, False),
+    b"avgs": (do_avgs, True, 2, False),
+    b"pools": (do_pools, True, 2, False),
 }
 
 
@@ -466,9 +524,10 @@ def do_line(schema, facts, line):
     if word == b"grow":
         refuse_where(len(fields) != 3, "fields")
         return do_grow(schema, facts, *fields)
-    refuse_where(word not in COMMANDS, "command")
-    command, has_first, has_nodes, has_values = COMMANDS[word]
-    count = has_first + has_nodes * len(schema.dimensions) + has_values * len(schema.measures)
+    commands = COMMANDS | TABLES if HAS_TABLES else COMMANDS
+    refuse_where(word not in commands, "command")
+    command, has_first, for_each_dimension, has_values = commands[word]
+    count = has_first + for_each_dimension * len(schema.dimensions) + has_values * len(schema.measures)
     refuse_where(len(fields) != count, "fields")
     reply, later = command(schema, facts, *fields)
     return reply, schema, later
@@ -566,13 +625,32 @@ def export_file(schema, facts):
     return out.getvalue().encode("latin-1")
 
 
+def rows_file(schema, facts):
+    """The file of the rows of all facts, in order of their ids, and of each fact's cells."""
+    head, values = header_of(schema)[: 1 + len(schema.names)], header_of(schema)[1 + len(schema.names) :]
+    out = io.StringIO(newline="")
+    rows = csv.writer(out, lineterminator="\n")
+    rows.writerow(field.decode("latin-1") for field in [*head, b"weight", b"of", *values])
+    for fact, allocation in sorted(extended(schema, facts), key=lambda entry: entry[0].id):
+        for cell, weight in sorted(allocation.rows, key=lambda row: cell_code(schema, row[0])):
+            leaves = [name.decode("latin-1") for name in cell_names(schema, cell)]
+            rows.writerow([fact.id, *leaves, weight, allocation.denominator, *map(values_text, fact.values)])
+    return out.getvalue().encode("latin-1")
+
+
 # The program.
+
+
+def ask(schema, facts, words):
+    """What is written for the words behind `ask NAME`, the status, and the schema and the facts after it."""
+    replies, refusals, schema, facts = do_lines(schema, facts, [b"\t".join(words)])
+    return replies, FINISHED_WITH_REFUSALS if refusals else FINISHED, schema, facts
 
 
 def run(words, text):
     """What the program writes for the words of its command line and its input, its status, and its standard error."""
     if words != ["try"]:
-        return b"", USAGE, f"cube: {USAGE_TEXT}\n".encode()
+        return b"", USAGE, f"cube: {TABLES_USAGE_TEXT if HAS_TABLES else USAGE_TEXT}\n".encode()
     try:
         schema, script = read_schema(lines_of(text))
     except SchemaFault as fault:
