@@ -4,6 +4,8 @@
 First come the worked examples, then so many cases. Compared are each byte of standard output, the status and standard
 error. At the first difference the input is written to a file, and the status is 1. A case is made from the seed and its
 number alone. At the end is printed how often each status and each code came.
+
+Where CUBE_TABLES is set, there are lines of tables among them, and words of the commands that write them.
 """
 import re
 import subprocess
@@ -18,6 +20,7 @@ sys.dont_write_bytecode = True
 import plain_drill
 import plain_model
 import plain_model_rows
+from plain_model import HAS_TABLES
 
 SECONDS = 60  # that the program may take for an input
 USAGE_EACH = 50  # one case of so many has words that are no command
@@ -26,6 +29,8 @@ WRONG_WORDS = [
     *([], [""], ["Try"], ["try", ""], ["try", "x"], ["try\n"], ["\udcff"]),
     *(["help"], ["--help"], ["run"], ["drill", "0"]),
 ]
+if HAS_TABLES:
+    WRONG_WORDS += [["ask"], ["ask", "s"], ["Ask", "s", "count"], ["schema"], ["schema", "s", "t"], ["rows"], ["rows", "s", ""]]
 MOST_NODES = {1: 12, 2: 8, 3: 6, 4: 4, 6: 2, 7: 1}  # of a dimension, by how many there are; 7 are too many
 
 NAMES = [
@@ -52,6 +57,9 @@ WORDS = {
     **{b"insert": 12, b"change": 4, b"withdraw": 2, b"terms": 3, b"rows": 4},
     **{b"count": 3, b"sum": 3, b"avg": 4, b"pool": 3, b"worlds": 3, b"view": 3, b"grow": 3},
 }
+if HAS_TABLES:
+    WORDS |= {b"counts": 3, b"sums": 3, b"avgs": 3, b"pools": 3}
+    WRONG_LINES += [b"counts", b"counts\t1", b"counts\t0\ta", b"sums\ta\t9\tb", b"avgs\t0\ta", b"pools\ta\t0\t1\tb\tc", b"Counts\t0\ta"]
 SKIPPED = [b"", b"\r", b"#", b"# insert\t1", b"#\xff\x00\r", b"#" + b"x" * 5000]
 HOSTILE = [
     *(b"\xff", b"\xc3", b"\xed\xa0\x80", b"\xc0\xaf", b"\xf4\x90\x80\x80", b"\xef\xbb\xbf", b"\xe2\x82", b"\xc2\x80"),
@@ -167,7 +175,8 @@ class Made:
     def often(self, word):
         """How often a word comes: seldom where no measure is of its kind, or no view is there."""
         kinds = {b"sum": False, b"avg": False, b"pool": True}
-        has_one = word not in kinds or any(bool(m.outcomes) == kinds[word] for m in self.measures)
+        kind = word.removesuffix(b"s")
+        has_one = kind not in kinds or any(bool(m.outcomes) == kinds[kind] for m in self.measures)
         has_one = has_one and (word != b"view" or self.views != [])
         return WORDS[word] if has_one else 0.3
 
@@ -176,6 +185,13 @@ class Made:
         right = [m.name for m in self.measures if bool(m.outcomes) == is_distribution]
         names = right if right and self.random.random() < 0.9 else [m.name for m in self.measures] + NAMES
         return self.random.choice(names)
+
+    def depths(self):
+        """A depth to cut each dimension at, mostly a right one."""
+        depths = [b"%d" % self.random.choice([0, 1, 1, 2, 2, 3, 8]) for _ in self.trees]
+        if self.random.random() < 0.05:
+            depths[self.random.randrange(len(depths))] = self.random.choice(WRONG_DEPTHS)
+        return depths
 
     def growth(self):
         """A dimension, a node of it, and a name, mostly a new one, which lines behind may ask for."""
@@ -200,6 +216,10 @@ class Made:
             return [word, random.choice(self.views if self.views and random.random() < 0.9 else NAMES)]
         if word in (b"sum", b"avg", b"pool"):
             return [word, self.measure_name(word == b"pool"), *nodes]
+        if word == b"counts":
+            return [word, *self.depths(), *nodes]
+        if word in (b"sums", b"avgs", b"pools"):
+            return [word, self.measure_name(word == b"pools"), *self.depths(), *nodes]
         return [word, *id, *nodes, *values] if word in (b"insert", b"change") else [word, *id]
 
 
@@ -368,6 +388,7 @@ def is_alike(program, name, words, text, wanted):
 
 def compare_examples(program):
     examples = plain_model_rows.examples() + plain_model_rows.slow_examples()
+    examples += plain_model_rows.table_examples() if HAS_TABLES else []
     return all(is_alike(program, f"example {e.name}", ["try"], e.text, e.ends) for e in examples)
 
 

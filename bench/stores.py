@@ -5,6 +5,8 @@ Stores are made by hand through SQLite, and read and grown by the program; damag
 or written are refused. Then random scripts are done over a store in pieces, each by a call of its own, one of which ends behind each growth,
 and compared with the plain model: the replies, the status, and after each piece the answer of `check` and what another reader finds in the
 tables, the text of the schema too. The status is 1 at the first difference.
+
+Where CUBE_TABLES is set, `ask` does some of the lines, and `schema` and `rows` write what the store holds.
 """
 import os
 import sqlite3
@@ -20,6 +22,8 @@ sys.dont_write_bytecode = True
 
 import differential
 import plain_model
+import plain_table_rows
+from plain_model import HAS_TABLES
 
 SECONDS = 60
 
@@ -28,6 +32,11 @@ def call(program, words, text=b""):
     """What the program writes, its status, and what it says on standard error."""
     done = subprocess.run([program, *words], input=text, capture_output=True, timeout=SECONDS)
     return done.stdout, done.returncode, done.stderr
+
+
+def table_calls(path):
+    """The words of commands over a store that came with tables. They read no input."""
+    return [["ask", path, "withdraw", "1"], ["schema", path], ["rows", path]] if HAS_TABLES else []
 
 
 class Wrong(Exception):
@@ -76,6 +85,9 @@ def wanted_tables(schema, facts):
     return plain_model.schema_text(schema), kept, rows
 
 
+NOT_READ = b"withdraw\t1\n"  # the input of a command that reads none
+
+
 def must_hold(program, path, schema, facts, when):
     """What `check` says of a store, and what its tables are."""
     text, kept, rows = wanted_tables(schema, facts)
@@ -85,6 +97,9 @@ def must_hold(program, path, schema, facts, when):
     must(found_text, text, f"text of the schema after {when}")
     must(found, kept, f"facts of the tables after {when}")
     must(found_rows, rows, f"rows of the tables after {when}")
+    if HAS_TABLES:
+        must(call(program, ["schema", path], NOT_READ), (text, 0, b""), f"schema after {when}")
+        must(call(program, ["rows", path], NOT_READ), (plain_model.rows_file(schema, facts), 0, b""), f"rows after {when}")
 
 
 # Random scripts in pieces.
@@ -92,6 +107,20 @@ def must_hold(program, path, schema, facts, when):
 
 def places_behind_growths(script):
     return {place for place, line in enumerate(script, 1) if line.startswith(b"grow\t")}
+
+
+def asked(program, path, schema, facts, lines):
+    """The schema and the facts after lines that `ask` does, each in a call of its own."""
+    for line in lines:
+        wanted, status, schema, facts = plain_model.ask(schema, facts, line.split(b"\t"))
+        must(call(program, ["ask", path, *line.split(b"\t")], NOT_READ), (wanted, status, b""), f"ask {line!r}")
+    return schema, facts
+
+
+def askable(random, piece):
+    """How many lines at the front of a piece `ask` is to do: few, since each is a call, and none that no word can hold."""
+    most = random.randint(0, 4) if HAS_TABLES else 0
+    return next((k for k, line in enumerate(piece[:most]) if b"\0" in line), len(piece[:most]))
 
 
 def compare_case(program, folder, seed, number):
@@ -109,14 +138,17 @@ def compare_case(program, folder, seed, number):
     path = Path(folder) / f"{number}.cube"
     size = len(lines) - len(script)
     head = b"\n".join(lines[:size]) + b"\n"
-    must(call(program, ["run", str(path)], b""), (b"", 4, b"cube: no cube\n"), "run without a store")
+    for words in [["run", str(path)], *table_calls(str(path))]:
+        must(call(program, words), (b"", 4, b"cube: no cube\n"), f"{words[0]} without a store")
     must(call(program, ["init", str(path)], head), (b"ok\t0\n", 0, b""), "init")
     must(call(program, ["init", str(path)], head), (b"", 4, b"cube: cube exists\n"), "second init")
     facts = []
     must_hold(program, str(path), schema, facts, "init")
     cuts = {random.randint(0, len(script)) for _ in range(random.randint(0, 3))} | places_behind_growths(script)
     for start, end in pairwise(sorted(cuts | {0, len(script)})):
-        piece = script[start:end]
+        count = askable(random, script[start:end])
+        schema, facts = asked(program, str(path), schema, facts, script[start : start + count])
+        piece = script[start + count : end]
         replies, refusals, schema, facts = plain_model.do_lines(schema, facts, piece)
         must(call(program, ["run", str(path)], b"".join(line + b"\n" for line in piece)), (replies, 1 if refusals else 0, b""), f"lines {start} to {end}")
         must_hold(program, str(path), schema, facts, f"lines {start} to {end}")
@@ -137,6 +169,7 @@ def compare_cases(program, folder, cases, seed):
 SCHEMA = b"cube\t1\npolicy\tcount\nnumber\tRepair\ndimension\tPlace\nnode\t0\tAll\nnode\t1\tTX\nnode\t2\tAustin\nnode\t2\tDallas\nnode\t2\tHouston\nend\n"
 FACTS = [(1, [2], [100]), (2, [2], [300]), (3, [3], [50]), (4, [1], [600])]
 ROWS = [(1, 1, [(0, 1)]), (2, 1, [(0, 1)]), (3, 1, [(1, 1)]), (4, 3, [(0, 2), (1, 1)])]
+ROWS_FILE = b"id,Place,weight,of,Repair\n1,Austin,1,1,100\n2,Austin,1,1,300\n3,Dallas,1,1,50\n4,Austin,2,3,600\n4,Dallas,1,3,600\n"
 TABLES = [
     "CREATE TABLE cube (k INTEGER PRIMARY KEY, body BLOB NOT NULL)",
     "CREATE TABLE fact (id INTEGER PRIMARY KEY, nodes BLOB NOT NULL, cols BLOB NOT NULL)",
@@ -186,8 +219,12 @@ def compare_hand_made(program, folder):
         hand_made(path, **changes)
         before = Path(path).read_bytes()
         must(call(program, ["check", path]), wanted, f"check of {name}")
+        if wanted[1] == 0 and HAS_TABLES:
+            must(call(program, ["schema", path]), (SCHEMA, 0, b""), f"schema of {name}")
+            must(call(program, ["rows", path]), (ROWS_FILE, 0, b""), f"rows of {name}")
         if wanted[1] == 5:
-            must(call(program, ["run", path], b"withdraw\t1\n"), wanted, f"run over {name}")
+            for words in [["run", path], *table_calls(path)]:
+                must(call(program, words, b"withdraw\t1\n"), wanted, f"{words[0]} over {name}")
             must(tables_alone(path), tables_alone_of(before, folder), f"tables of {name} afterwards")
     print(f"{len(cases)} stores by hand alike")
 
@@ -228,6 +265,29 @@ def compare_grown(program, folder):
     print(f"{len(GROWTHS)} grown stores alike")
 
 
+def made_store(program, path, schema, script):
+    """A store of a schema after a script, with the schema and the facts that the model has of it."""
+    must(call(program, ["init", path], plain_table_rows.encoded(schema))[1], 0, "init of an example")
+    must(call(program, ["run", path], plain_table_rows.encoded(script))[1], 0, "run of an example")
+    return plain_table_rows.cube_of(schema, script)
+
+
+def compare_table_rows(program, folder):
+    """What is worked out by hand of `ask` and `rows`, each over a store of its own."""
+    for number, (words, reply, status) in enumerate(plain_table_rows.ASKED):
+        path = str(Path(folder) / f"asked {number}.cube")
+        schema, facts = made_store(program, path, plain_table_rows.CARS, [line for line, _ in plain_table_rows.REPAIRS])
+        fields = [plain_table_rows.encoded([word], "") for word in words]
+        written = plain_table_rows.encoded([] if reply is None else [reply])
+        must(call(program, ["ask", path, *fields], NOT_READ), (written, status, b""), f"ask {words}")
+        must_hold(program, path, *plain_model.ask(schema, facts, fields)[2:], f"ask {words}")
+    for number, (schema, script, lines) in enumerate(plain_table_rows.ROWS_FILES):
+        path = str(Path(folder) / f"rows {number}.cube")
+        made_store(program, path, schema, script)
+        must(call(program, ["rows", path], NOT_READ), (plain_table_rows.encoded(lines), 0, b""), f"rows {number}")
+    print(f"{len(plain_table_rows.ASKED)} lines asked and {len(plain_table_rows.ROWS_FILES)} files of rows alike")
+
+
 def tables_alone(path):
     base = sqlite3.connect(f"file:{path}?mode=ro", uri=True)
     found = [base.execute(f"SELECT * FROM {table}").fetchall() for table in ("cube", "fact", "alloc")]
@@ -251,7 +311,8 @@ def compare_damaged(program, folder):
 
     def faulty(name, path):
         nonlocal done
-        for words, text in ((["check", path], b""), (["run", path], b"withdraw\t1\n"), (["init", path], SCHEMA)):
+        table_words = [(words, b"") for words in table_calls(path)]
+        for words, text in ((["check", path], b""), (["run", path], b"withdraw\t1\n"), (["init", path], SCHEMA), *table_words):
             must(call(program, words, text), (b"", 8, STORE_FAULT), f"{words[0]} of {name}")
         done += 1
 
@@ -336,6 +397,8 @@ def main():
         try:
             compare_hand_made(program, folder)
             compare_grown(program, folder)
+            if HAS_TABLES:
+                compare_table_rows(program, folder)
             compare_damaged(program, folder)
             compare_full(program, folder)
             compare_cases(program, folder, cases, seed)
