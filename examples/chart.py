@@ -1,14 +1,16 @@
 #!/usr/bin/env python3
-"""Draws the reply to a `view` line as an SVG: bars for one dimension, a heat map for two.
+"""Draws the reply to a `view`, `counts`, `sums`, `avgs` or `pools` line as an SVG: bars for one dimension, a heat map for two.
 
     python3 examples/chart.py SCHEMA WORDS.. < REPLY > PICTURE.svg
 
 SCHEMA is a file that begins with the schema, as a script for `try` does. REPLY is one line, TAB separated. WORDS say what
-is drawn, as in a script: `count`, `sum MEASURE`, `avg MEASURE`, or `pool MEASURE OUTCOME`.
+is drawn, as in a script: `count`, `sum MEASURE`, `avg MEASURE`, or `pool MEASURE OUTCOME`. A view has all of these, a reply
+to `sums` has sums alone.
 
-A dimension that has one node in the whole reply is not drawn. All values are exact fractions, and each shape has its
-value as a title, which a browser shows under the pointer.
+A dimension that has one node in the whole reply is not drawn. Values are exact fractions, and each shape has its value as a
+title, which a browser shows under the pointer. Where a reply has bounds alone, the middle is drawn, and the title has both.
 """
+import re
 import sys
 from fractions import Fraction
 from itertools import product
@@ -29,6 +31,11 @@ DARK = 8, 81, 156  # red, green and blue of the greatest value; the least is whi
 HALF = Fraction(1, 2)  # of the way there the ink turns white
 
 COUNT = "count"  # the name of column 0
+TABLES = {"counts": "count", "sums": "sum", "avgs": "avg", "pools": "pool"}  # words of replies, by what they have of each region
+
+
+BOUND = re.compile(r"-?[0-9]{1,60}\.[0-9]{9}")
+EXACT = re.compile(r"-?[0-9]{1,60}(/[1-9][0-9]{0,60})?")
 
 
 class Fault(Exception):
@@ -47,9 +54,14 @@ class Schema(NamedTuple):
     columns: list  # their names, the count first
 
 
+class Value(NamedTuple):
+    number: Fraction | None  # none where nothing bounds it
+    said: str
+
+
 class Entry(NamedTuple):
     nodes: tuple  # a name for each dimension
-    sums: list  # of each column, the count first
+    value: Value
 
 
 # Reading.
@@ -103,22 +115,32 @@ def read_terms(fields, columns):
     return sums
 
 
-def read_entry(fields, schema):
+def read_value(fields):
+    """The value that two bounds and a fraction tell: the middle of the bounds where the fraction is too wide."""
+    low, high, exact = [next(fields) for _ in range(3)]
+    if exact == "wide" and low == high == "-":
+        return Value(None, "not bounded")
+    if exact == "wide" and BOUND.fullmatch(low) and BOUND.fullmatch(high):
+        return Value((Fraction(low) + Fraction(high)) / 2, f"{low} to {high}")
+    if not EXACT.fullmatch(exact):
+        raise Fault(f"no two bounds and a number: {low!r}, {high!r}, {exact!r}: is the schema that of the reply?")
+    return Value(Fraction(exact), exact)
+
+
+def read_entry(fields, schema, read):
     nodes = tuple([next(fields) for _ in schema.dimensions])
     for node, names in zip(nodes, schema.dimensions.values()):
         if node not in names:
             raise Fault(f"the schema has no node {node!r} there: is it that of the reply?")
-    return Entry(nodes, read_terms(fields, len(schema.columns)))
+    return Entry(nodes, read(fields))
 
 
-def read_view(line, schema):
-    """The entries of the reply to a `view` line."""
+def read_reply(line, schema, words):
+    """The entries of a reply, each with the value that the words ask for."""
     fields = iter(line.rstrip("\r\n").split("\t"))
-    word = next(fields)
-    if word != "view":
-        raise Fault(f"the reply begins with {word!r} and not with `view`")
+    read = reader(schema, words, next(fields))
     try:
-        entries = [read_entry(fields, schema) for _ in range(number_of(next(fields)))]
+        entries = [read_entry(fields, schema, read) for _ in range(number_of(next(fields)))]
     except StopIteration:
         raise Fault("the reply ends too early: is the schema that of the reply?") from None
     if list(fields):
@@ -137,8 +159,14 @@ def measure_of(schema, name, is_distribution):
     return measure
 
 
-def value_reader(schema, words):
-    """What gives the value that the words ask for, from the sums of an entry."""
+def outcome_place(measure, name, outcome):
+    if outcome not in measure.outcomes:
+        raise Fault(f"{name!r} has no outcome {outcome!r}")
+    return measure.outcomes.index(outcome)
+
+
+def value_of_sums(schema, words):
+    """What gives the value that the words ask for, from the sums of each column, the count first."""
     match words:
         case ["count"]:
             return lambda sums: sums[0]
@@ -150,20 +178,43 @@ def value_reader(schema, words):
             return lambda sums: sums[column] / sums[0]
         case ["pool", name, outcome]:
             measure = measure_of(schema, name, True)
-            if outcome not in measure.outcomes:
-                raise Fault(f"{name!r} has no outcome {outcome!r}")
-            column = measure.column + measure.outcomes.index(outcome)
+            column = measure.column + outcome_place(measure, name, outcome)
             return lambda sums: sums[column] / (sums[0] * measure.scale)
     raise Fault(USAGE)
+
+
+def value_in_table(schema, words):
+    """Which value of an entry the words ask for, and how many values an entry of the reply has."""
+    if words[0] != "pool":
+        return 0, 1
+    measure = schema.measures[words[1]]
+    return outcome_place(measure, words[1], words[2]), len(measure.outcomes)
+
+
+def reader(schema, words, word):
+    """What reads the value of an entry, in a reply that begins with a word."""
+    value_of = value_of_sums(schema, words)
+    if word == "view":
+        return lambda fields: exactly(value_of(read_terms(fields, len(schema.columns))))
+    if word not in TABLES:
+        raise Fault(f"the reply begins with {word!r} and not with {', '.join(TABLES)} or view")
+    if TABLES[word] != words[0]:
+        raise Fault(f"the reply has {word}, and {words[0]!r} asks for another: give {TABLES[word]!r}")
+    place, count = value_in_table(schema, words)
+    return lambda fields: [read_value(fields) for _ in range(count)][place]
+
+
+def exactly(number):
+    return Value(number, str(number))
 
 
 def drawn_dimensions(schema, entries):
     """The places of the dimensions of which the entries have several nodes, and else the first."""
     if not entries:
-        raise Fault("the view has no entry, so there is nothing to draw")
+        raise Fault("the reply has no entry, so there is nothing to draw")
     several = [place for place in range(len(schema.dimensions)) if len({entry.nodes[place] for entry in entries}) > 1]
     if len(several) > 2:
-        raise Fault(f"the view goes along {len(several)} dimensions, and a picture has two")
+        raise Fault(f"the reply goes along {len(several)} dimensions, and a picture has two")
     return several or [0]
 
 
@@ -175,7 +226,10 @@ def nodes_along(schema, entries, place):
 
 def short(value):
     """A whole number, or two digits behind the point: the nearest, and of two the even one."""
-    return str(value) if value.denominator == 1 else f"{round(value * 100) / 100:.2f}"
+    number = value.number
+    if number is None:
+        return "?"
+    return str(number) if number.denominator == 1 else f"{round(number * 100) / 100:.2f}"
 
 
 # Drawing.
@@ -205,16 +259,17 @@ def label_width(labels):
 
 def range_of(values):
     """The least value, 0 being among them, and how far the greatest is above it, or 1 where they are equal."""
-    least, most = min(0, *values), max(0, *values)
-    return least, (most - least) or 1
+    numbers = [0, *(value.number for value in values if value.number is not None)]
+    return min(numbers), (max(numbers) - min(numbers)) or 1
 
 
 def bar(left, y, label, value, unit):
     """A bar that begins at the left end of those above 0, and the value at its end."""
-    length = round(abs(value) * unit)
-    x, end, anchor = (left, left + length + 4, "start") if value >= 0 else (left - length, left - length - 4, "end")
+    number = value.number or 0
+    length = round(abs(number) * unit)
+    x, end, anchor = (left, left + length + 4, "start") if number >= 0 else (left - length, left - length - 4, "end")
     yield text_at(GAP, y, label)
-    yield box(x, y - BAR + 4, length, BAR, rgb(*DARK), f"{label}: {value}")
+    yield box(x, y - BAR + 4, length, BAR, rgb(*DARK), f"{label}: {value.said}")
     yield text_at(end, y, short(value), anchor)
 
 
@@ -242,7 +297,7 @@ def field(x, y, width, label, value, part):
     if value is None:
         yield box(x, y, width, CELL[1], "none", f"{label}: no fact")
         return
-    yield box(x, y, width, CELL[1], shade(part), f"{label}: {value}")
+    yield box(x, y, width, CELL[1], shade(part), f"{label}: {value.said}")
     yield text_at(x + width // 2, y + 20, short(value), "middle", "white" if part > HALF else "black")
 
 
@@ -256,7 +311,7 @@ def heat_map(values, rows, columns, title):
     shapes += [text_at(middle + j * cell_width, top - GAP, column, "middle") for j, column in enumerate(columns)]
     for (i, row), (j, column) in product(enumerate(rows), enumerate(columns)):
         value = values.get((row, column))
-        part = None if value is None else (value - least) / span
+        part = 0 if value is None or value.number is None else (value.number - least) / span
         shapes += field(left + j * cell_width, top + i * CELL[1], cell_width, f"{row}, {column}", value, part)
     width = max(left + len(columns) * cell_width + GAP, label_width([title]))
     return picture(width, top + len(rows) * CELL[1] + GAP, shapes)
@@ -264,11 +319,10 @@ def heat_map(values, rows, columns, title):
 
 def chart(schema, entries, words):
     """The text of the picture."""
-    value_of = value_reader(schema, words)
     places = drawn_dimensions(schema, entries)
     names = [list(schema.dimensions)[place] for place in places]
     title = f"{' '.join(words)} by {' and '.join(names)}"
-    values = {tuple(entry.nodes[place] for place in places): value_of(entry.sums) for entry in entries}
+    values = {tuple(entry.nodes[place] for place in places): entry.value for entry in entries}
     labels = [nodes_along(schema, entries, place) for place in places]
     if len(places) == 1:
         return bars({label: values[label,] for label in labels[0]}, title)
@@ -283,7 +337,8 @@ def main():
     try:
         with open(sys.argv[1], encoding="utf-8") as file:
             schema = read_schema(file)
-        sys.stdout.write(chart(schema, read_view(sys.stdin.readline(), schema), sys.argv[2:]))
+        words = sys.argv[2:]
+        sys.stdout.write(chart(schema, read_reply(sys.stdin.readline(), schema, words), words))
     except (Fault, OSError, UnicodeDecodeError) as fault:
         sys.exit(f"chart.py: {fault}")
 

@@ -66,8 +66,9 @@ def bytes_of(text):
 def given_by(path):
     try:
         with open(path, "rb") as file:
-            is_store = file.read(len(STORE_MAGIC)) == STORE_MAGIC
-            text, ids = read_store(path) if is_store else (Path(path).read_bytes(), [])
+            front = file.read(len(STORE_MAGIC))  # which a pipe gives once
+            is_store = front == STORE_MAGIC
+            text, ids = read_store(path) if is_store else (front + file.read(), [])
         schema, _ = plain_model.read_schema(plain_model.lines_of(text))
     except OSError as fault:
         raise Misuse(f"{path}: {fault.strerror}") from None
