@@ -62,14 +62,17 @@ class Known(NamedTuple):
         return {text_of(m.name): m for m in self.schema.measures if (m.scale is not None) == is_distribution}
 
     def judge(self):
-        """Refuses options that the schema does not bear."""
-        numbers = [] if self.schema is None else self.measures(False)
-        for name in self.scales if self.schema else ():
-            if name not in numbers:
-                raise Misuse(f"--scale {shown(name)}: the schema has no number measure of this name; it has {', '.join(numbers) or 'none'}")
-        if self.schema is None and self.measure is not None and set(self.scales) - {self.measure}:
-            raise Misuse(f"--scale {shown(*sorted(set(self.scales) - {self.measure})[:1])}: it is not --measure, and no --schema has others")
-        if self.schema and self.measure is not None and self.measure not in [*numbers, *self.measures(True)]:
+        """Refuses options that name what there is not."""
+        numbers = {} if self.schema is None else self.measures(False)
+        if self.schema is None:
+            unknown = [name for name in self.scales if self.measure not in (None, name)]
+            what = "it is not --measure, and no --schema has others"
+        else:
+            unknown = [name for name in self.scales if name not in numbers]
+            what = f"the schema has no number measure of this name; it has {', '.join(numbers) or 'none'}"
+        if unknown:
+            raise Misuse(f"--scale {shown(unknown[0])}: {what}")
+        if self.schema and self.measure not in (None, *numbers, *self.measures(True)):
             raise Misuse(f"--measure {shown(self.measure)}: the schema has no measure of this name")
 
     def measure_of(self, reply):
