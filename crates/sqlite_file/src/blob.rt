@@ -1,5 +1,6 @@
 //! Lists of numbers as the blobs of a table: items of one size, big-endian.
 use crate::fault::Fault;
+use crate::reason::Reason;
 use std::alloc::Global;
 
 /// The blob of node numbers, four bytes each.
@@ -34,7 +35,7 @@ pub(crate) fn of_rows(alloc: Global, rows: &[(u64, u64)]) -> Result<Vec<u8>, Fau
 pub(crate) fn to_nodes(alloc: Global, blob: &[u8]) -> Result<Vec<u32>, Fault> {
     let (items, rest) = blob.as_chunks::<4>();
     if !rest.is_empty() {
-        return Err(Fault::Outside);
+        return Err(Fault::Outside(Reason::Row));
     }
     let mut nodes = Vec::with_capacity(alloc, items.len())?;
     'items: for item in items {
@@ -47,7 +48,7 @@ pub(crate) fn to_nodes(alloc: Global, blob: &[u8]) -> Result<Vec<u32>, Fault> {
 pub(crate) fn to_cols(alloc: Global, blob: &[u8]) -> Result<Vec<i64>, Fault> {
     let (items, rest) = blob.as_chunks::<8>();
     if !rest.is_empty() {
-        return Err(Fault::Outside);
+        return Err(Fault::Outside(Reason::Row));
     }
     let mut cols = Vec::with_capacity(alloc, items.len())?;
     'items: for item in items {
@@ -61,7 +62,7 @@ pub(crate) fn to_rows(alloc: Global, blob: &[u8]) -> Result<Vec<(u64, u64)>, Fau
     let (numbers, rest) = blob.as_chunks::<8>();
     let (items, odd) = numbers.as_chunks::<2>();
     if !rest.is_empty() || !odd.is_empty() {
-        return Err(Fault::Outside);
+        return Err(Fault::Outside(Reason::Row));
     }
     let mut rows = Vec::with_capacity(alloc, items.len())?;
     'items: for [cell, weight] in items {

@@ -1,7 +1,9 @@
 //! Why a call on a store does nothing.
 ghost use Rattle.std.specs.Prelude.{◌≡◌};
+ghost use Rattle.sqlite_file.specs.FaultOf.{reason_of};
 ghost use Rattle.sqlite_file.specs.declared.fault.Fault.TheVariants as fault_kind;
 
+use crate::reason::Reason;
 use cube_base::Memory;
 use sqlite::{Error, ErrorCode};
 use std::alloc::{AllocError, AllocFailed};
@@ -10,7 +12,7 @@ use std::alloc::{AllocError, AllocFailed};
 #[derive(Clone, Copy, Debug, PartialEq, Eq)]
 pub enum Fault {
     /// The file, the system below it, or what the file holds.
-    Outside,
+    Outside(Reason),
     /// Want of memory.
     Memory,
 }
@@ -23,8 +25,29 @@ impl From<Error> for Fault {
     fn from(error: Error) -> Self {
         match error {
             Error::SqliteFailure(ErrorCode::OutOfMemory) => Fault::Memory,
-            _ => Fault::Outside,
+            Error::SqliteFailure(code) => Fault::Outside(reason_of(code)),
+            Error::InvalidColumnType(_, _)
+            | Error::IntegralValueOutOfRange(_)
+            | Error::Utf8Error(_) => Fault::Outside(Reason::Row),
+            _ => Fault::Outside(Reason::Unreadable),
         }
+    }
+}
+
+/// What a code of SQL's tells of the file.
+fn reason_of(code: ErrorCode) -> Reason
+    ensures { result ≡ reason_of code }
+{
+    match code {
+        ErrorCode::DatabaseBusy => Reason::InUse,
+        ErrorCode::CannotOpen => Reason::NoPermission,
+        ErrorCode::DiskFull => Reason::DiskFull,
+        ErrorCode::DatabaseCorrupt => Reason::Damaged,
+        ErrorCode::SystemIoFailure | ErrorCode::Closed => Reason::Disk,
+        ErrorCode::ConstraintViolation(_) | ErrorCode::TypeMismatch | ErrorCode::TooBig => {
+            Reason::Refused
+        }
+        _ => Reason::Unreadable,
     }
 }
 

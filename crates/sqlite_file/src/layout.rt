@@ -1,5 +1,6 @@
 //! The tables of a store: how they are made, and whether those of a file are made so.
 use crate::fault::Fault;
+use crate::reason::Reason;
 use sqlite::{Alter, Connection, Error, params};
 use sqlite_ast::{Rule, Statement, TableBody};
 use sqlite_syntax::error::ParseError;
@@ -30,7 +31,7 @@ pub(crate) const ALLOC: [Column; 3] = [("id", "INTEGER"), ("den", "INTEGER"), ("
 pub(crate) fn has_table<S: Alter>(
     alloc: Global,
     conn: &mut Connection<S>,
-    name: &str,
+    name: &'static str,
     columns: &[Column],
 ) -> Result<bool, Fault> {
     let Some(text) = text_of(conn, name)? else {
@@ -39,7 +40,7 @@ pub(crate) fn has_table<S: Alter>(
     if makes_table(alloc, text.as_bytes(), columns)? {
         Ok(true)
     } else {
-        Err(Fault::Outside)
+        Err(Fault::Outside(Reason::Table(name)))
     }
 }
 

@@ -5,8 +5,12 @@ mod blob;
 mod fault;
 mod file;
 mod layout;
+mod place;
 mod reading;
+mod reason;
 mod writing;
 
 pub use fault::Fault;
 pub use file::StoreFile;
+pub use place::{Standing, look};
+pub use reason::Reason;

@@ -2,6 +2,7 @@
 use crate::blob;
 use crate::fault::Fault;
 use crate::layout::{ALLOC, CUBE, Column, FACT, has_table};
+use crate::reason::Reason;
 use cube_base::Bytes;
 use fact_keeper::{KeptFact, KeptRows, Stored};
 use shared_list::SharedPairs;
@@ -58,7 +59,7 @@ impl Entry for SchemaText {
     fn of_row(_alloc: Global, row: &Row) -> Result<Self, Fault> {
         let k: i64 = row.get(0)?;
         if k != 1 {
-            return Err(Fault::Outside);
+            return Err(Fault::Outside(Reason::Row));
         }
         Ok(SchemaText { body: row.get(1)? })
     }
@@ -94,7 +95,7 @@ impl Entry for KeptRows {
 fn blob_at(row: &Row, at: usize) -> Result<&[u8], Fault> {
     match row.get_ref(at) {
         Ok(ValueRef::Blob(bytes)) => Ok(bytes),
-        _ => Err(Fault::Outside),
+        _ => Err(Fault::Outside(Reason::Row)),
     }
 }
 
@@ -102,7 +103,7 @@ fn blob_at(row: &Row, at: usize) -> Result<&[u8], Fault> {
 fn read_table<T: Entry, S: Alter>(
     alloc: Global,
     conn: &mut Connection<S>,
-    name: &str,
+    name: &'static str,
     columns: &[Column],
     query: &str,
 ) -> Result<Vec<T>, Fault> {

@@ -2,6 +2,7 @@
 use crate::blob;
 use crate::fault::Fault;
 use crate::layout::{MAKE_ALLOC, MAKE_CUBE, MAKE_FACT};
+use crate::reason::Reason;
 use fact_keeper::{Batch, KeptFact, KeptRows};
 use sqlite::types::ValueRef;
 use sqlite::{Alter, Connection, Error, ErrorCode, Transaction, params};
@@ -32,7 +33,7 @@ pub(crate) fn write_batch<S: Alter>(
     batch: &Batch,
 ) -> Result<(), Fault> {
     if !conn.is_autocommit() {
-        return Err(Fault::Outside);
+        return Err(Fault::Outside(Reason::Closed));
     }
     let mut tx = conn.transaction();
     write_inside(alloc, &mut tx, batch)?;
@@ -177,5 +178,5 @@ fn is_inserted<S: Alter>(
 
 /// A number as SQL has it. One of 2^63 or more is a fault, since no table can hold it.
 fn number(n: u64) -> Result<i64, Fault> {
-    i64::try_from(n).map_err(|_| Fault::Outside)
+    i64::try_from(n).map_err(|_| Fault::Outside(Reason::Refused))
 }

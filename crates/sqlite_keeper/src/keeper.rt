@@ -1,25 +1,28 @@
 //! The keeper over a file.
-ghost use Rattle.std.specs.Prelude.{◌≡◌, Err, IfOk, None, Some, false, true, IsErr, IsTrue, OnErr, OnOk};
+ghost use Rattle.std.specs.Prelude.{◌≡◌, Err, IfOk, None, Some, false, true, IsErr, IsSome, IsTrue, OnErr, OnOk};
 ghost use Rattle.cube_base.specs.Outside.{next_count};
 ghost use Rattle.fact_keeper.specs.Keeper.{CountsKeepFault};
 ghost use Rattle.fact_keeper.specs.declared.keeper.KeepError.TheVariants as keep_error;
 
 use fact_keeper::{Batch, KeepError, Keeper, Stored};
-use sqlite_file::{Fault, StoreFile};
+use sqlite_file::{Fault, Reason, Standing, StoreFile, look};
 use std::alloc::Global;
 use std::marker::Model;
 
-/// A keeper of stores in files. The name of a store is the path of its file, which it tells; it tells no content and no journal. A drop
-/// closes the file.
+/// A keeper of stores in files. The name of a store is the path of its file, which it tells; it tells no content and no journal. A file is
+/// made by the first batch that is committed. A drop closes the file.
 #[derive(Drop)]
 pub struct SqlKeeper<'rt> {
     rt: &'rt HostRuntime,
     file: Option<StoreFile>,
+    // Whether nothing was kept at the name when it was loaded, so that no file was opened.
+    is_new: bool,
     // It outlives the file, which a load that fails has closed.
     name: Option<String>,
     loads: u64,
     is_open: bool,
     faults: u64,
+    reason: Option<Reason>,
 }
 
 impl<'rt> Model for SqlKeeper<'rt> {
@@ -28,7 +31,7 @@ impl<'rt> Model for SqlKeeper<'rt> {
 
     ghost Value = { Opened };
 
-    ghost view = { λ k. record { name = option_map string_bytes k.name; loads = k.loads; is_open = k.is_open; faults = k.faults } };
+    ghost view = { λ k. record { name = option_map string_bytes k.name; loads = k.loads; is_open = k.is_open; faults = k.faults; reason = k.reason } };
 
     // The file that is open is that of the name.
     ghost invariant = { λ k. IfSome k.file (λ path. option_map string_bytes k.name ≡ Some path) };
@@ -37,31 +40,59 @@ impl<'rt> Model for SqlKeeper<'rt> {
 impl<'rt> SqlKeeper<'rt> {
     /// A keeper that is not open, tells no name, and counts no load and no fault. It opens no file.
     pub fn new(rt: &'rt HostRuntime) -> Self
-        ensures { result ≡ record { name = None; loads = 0; is_open = false; faults = 0 } }
+        ensures { result ≡ record { name = None; loads = 0; is_open = false; faults = 0; reason = None } }
     {
         SqlKeeper {
             rt,
             file: None,
+            is_new: false,
             name: None,
             loads: 0,
             is_open: false,
             faults: 0,
+            reason: None,
         }
     }
 
-    /// Opens the file at a path in place of the one that is open, and gives the content.
+    /// Why the last call that had a fault had it, if one had.
+    pub fn reason(&self) -> Option<Reason>
+        ensures { result ≡ self.now.reason }
+    {
+        self.reason
+    }
+
+    /// Opens the file at a path in place of the one that is open, and gives the content. Where nothing was kept there yet, it makes no
+    /// file: the first batch does.
     fn open(&mut self, alloc: Global, path: &str) -> Result<Stored, Fault>
         ensures opened { OnOk result (self.new ≡ record self.old { name = Some path.now; is_open = true }) }
         ensures same { OnErr result (self.new ≡ self.old) }
     {
         // It may be the same file, which a second open finds locked.
         self.file = None;
+        self.is_new = false;
         let name = String::from_str(alloc, path)?;
-        let (file, content) = open_file(self.rt, alloc, path)?;
-        self.file = Some(file);
+        let (file, content) = match look(self.rt, path)? {
+            Standing::Nothing => (None, Stored::empty(alloc)),
+            Standing::Database => opened_file(self.rt, alloc, path)?,
+        };
+        self.is_new = file.is_none();
+        self.file = file;
         self.name = Some(name);
         self.is_open = true;
         Ok(content)
+    }
+
+    /// Makes the file of a store in which there was nothing when it was loaded.
+    fn make(&mut self) -> Result<(), Fault>
+        ensures { self.new ≡ self.old }
+    {
+        let Some(name) = &self.name else {
+            return Err(Fault::Outside(Reason::Closed));
+        };
+        let file = made_file(self.rt, name.as_str())?;
+        self.file = Some(file);
+        self.is_new = false;
+        Ok(())
     }
 
     /// Counts a fault of the outside, and want of memory as none. The count stands at its last value.
@@ -69,12 +100,14 @@ impl<'rt> SqlKeeper<'rt> {
         ensures err { IsErr result }
         ensures count { CountsKeepFault self.old.faults self.new.faults result }
         ensures raised { result ≡ Err keep_error.Failed → self.new.faults ≡ next_count self.old.faults }
-        ensures same { self.new ≡ record self.old { faults = self.new.faults } }
+        ensures told { result ≡ Err keep_error.Failed → IsSome self.new.reason }
+        ensures same { self.new ≡ record self.old { faults = self.new.faults; reason = self.new.reason } }
     {
         match fault {
             Fault::Memory => Err(KeepError::Memory),
-            Fault::Outside => {
+            Fault::Outside(reason) => {
                 self.faults = self.faults.saturating_add(1);
+                self.reason = Some(reason);
                 Err(KeepError::Failed)
             }
         }
@@ -84,10 +117,13 @@ impl<'rt> SqlKeeper<'rt> {
     fn write(&mut self, batch: &Batch) -> Result<(), Fault>
         ensures { self.new ≡ self.old }
     {
+        if self.is_new {
+            self.make()?;
+        }
         match &mut self.file {
-            Some(file) => file.write(self.rt.alloc(), batch),
+            Some(file) => file.write(self.rt, batch),
             // A load that failed has closed the file.
-            None => Err(Fault::Outside),
+            None => Err(Fault::Outside(Reason::Closed)),
         }
     }
 }
@@ -95,8 +131,8 @@ impl<'rt> SqlKeeper<'rt> {
 impl Keeper for SqlKeeper<'_> {
     ghost tells = { λ k. record { content = None; journal = None; name = k.name; loads = k.loads; is_open = k.is_open; faults = k.faults } };
 
-    /// Opens the file whose path is the name, which is made where there is none. The file that was open is closed first, and an error
-    /// leaves none open: each commit is then a fault, until a load is answered.
+    /// Opens the file whose path is the name; where nothing is kept there yet, the first batch makes it. The file that was open is closed
+    /// first, and an error leaves none open: each commit is then a fault, until a load is answered.
     fn load(&mut self, alloc: Global, name: &str) -> Result<Stored, KeepError>
         // What every keeper says.
         ensures named { OnOk result (self.new.name ≡ Some name.now) }
@@ -109,6 +145,7 @@ impl Keeper for SqlKeeper<'_> {
         // What this one adds.
         ensures same_open { OnErr result (self.new.is_open ≡ self.old.is_open) }
         ensures raised { result ≡ Err keep_error.Failed → self.new.faults ≡ next_count self.old.faults }
+        ensures told { result ≡ Err keep_error.Failed → IsSome self.new.reason }
     {
         self.loads = self.loads.saturating_add(1);
         match self.open(alloc, name) {
@@ -129,6 +166,7 @@ impl Keeper for SqlKeeper<'_> {
 
         // What this one adds.
         ensures raised { result ≡ Err keep_error.Failed → self.new.faults ≡ next_count self.old.faults }
+        ensures told { result ≡ Err keep_error.Failed → IsSome self.new.reason }
     {
         match self.write(batch) {
             Ok(()) => Ok(()),
@@ -137,11 +175,31 @@ impl Keeper for SqlKeeper<'_> {
     }
 }
 
-/// Opens the file at a path, which is made where there is none, and reads its content.
-fn open_file(rt: &HostRuntime, alloc: Global, path: &str) -> Result<(StoreFile, Stored), Fault>
-    ensures { IfOk result (λ opened. opened.0 ≡ path.now) }
+/// Opens the file at a path, and reads its content.
+fn opened_file(
+    rt: &HostRuntime,
+    alloc: Global,
+    path: &str,
+) -> Result<(Option<StoreFile>, Stored), Fault>
+    ensures { IfOk result (λ opened. opened.0 ≡ Some path.now) }
 {
     let mut file = StoreFile::open(rt, path)?;
     let content = file.read(alloc)?;
-    Ok((file, content))
+    Ok((Some(file), content))
+}
+
+/// Makes the file at a path, where there must still be nothing.
+fn made_file(rt: &HostRuntime, path: &str) -> Result<StoreFile, Fault>
+    ensures { IfOk result (λ file. file ≡ path.now) }
+{
+    if look(rt, path)? != Standing::Nothing {
+        return Err(Fault::Outside(Reason::Exchanged));
+    }
+    let mut file = StoreFile::open(rt, path)?;
+    // Another may have kept something before this open locked the file.
+    if file.read(rt.alloc())?.is_empty() {
+        Ok(file)
+    } else {
+        Err(Fault::Outside(Reason::Exchanged))
+    }
 }
