@@ -1,27 +1,49 @@
 //! The program over words and streams: stores in files, and what is told of how it ends.
 #![tactic(auto)]
 
-ghost use Rattle.std.specs.Prelude.{◌≡◌};
+ghost use Rattle.std.specs.Prelude.{◌≡◌, map, string_bytes, IfSome};
+ghost use Rattle.line_cutter.specs.Input.{EndsOnce};
+ghost use Rattle.script_run.specs.Seen.{seen_of};
+ghost use Rattle.cube_cli.specs.Expectations.{AddsUpAfterEachLine, ExpectsAfterEachLine};
 ghost use Rattle.cube_cli.specs.Status.{status_of};
+ghost use Rattle.cube_program.specs.Ran.{NEW, Ran, told_by};
 
 use cube_base::{Sink, Source};
 use cube_cli::{End, cube};
+use sqlite_file::Reason;
 use sqlite_keeper::SqlKeeper;
 use std::io::Write;
 
-/// Runs the program as `cube` does, over stores in files, and tells of its end.
+/// Runs the program as `cube` does, over stores in files, tells of its end on `errors`, and answers the exit status. A keeper over files
+/// is made and dropped; it tells which file it opened, and not what that holds. Where the store failed, a line before that of the end
+/// says why.
 pub fn run_program<S: Source, K: Sink, W: Write>(
     rt: &HostRuntime,
     words: &[String],
     source: &mut S,
     out: &mut K,
     errors: &mut W,
-) -> u8 {
+) -> u8
+    ensures ran { Ran (map string_bytes words.now) (λ keeper. seen_of S.tells K.tells told_by source.old source.new out.old out.new NEW keeper) result }
+    ensures ended { EndsOnce (S.tells source.old).ends (S.tells source.new).ends }
+    ensures expectations { IfSome (S.tells source.old).left ExpectsAfterEachLine }
+    ensures children { IfSome (S.tells source.old).left AddsUpAfterEachLine }
+{
     let mut keeper = SqlKeeper::new(rt);
     let end = cube(rt.alloc(), words, source, out, &mut keeper);
+    if let (End::KeepFault { done: _ }, Some(reason)) = (&end, keeper.reason()) {
+        tell_reason(words, reason, errors);
+    }
     // Dropped by a call, which is proved once: in place it would be proved on each way out.
     drop(keeper);
     tell(end, errors)
+}
+
+/// Writes a line on `errors` that says why the store was not to be had, read or written.
+fn tell_reason<W: Write>(words: &[String], reason: Reason, errors: &mut W) {
+    if let [_, name, ..] = words {
+        let _ = writeln!(errors, "cube: {name}: {reason}");
+    }
 }
 
 /// Tells of an end: writes its line to `errors`, with an LF, where the status is 2 or more, and answers the exit status. Where

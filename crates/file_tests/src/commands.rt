@@ -37,7 +37,7 @@ const REFUSED: &str =
 
 /// What is told where the words name no command.
 const USAGE: &str =
-    "cube: usage: cube try, init NAME, run NAME, check NAME, import NAME, export NAME, drill N\n";
+    "cube: usage: cube try, init NAME, run NAME, check NAME, import NAME, export NAME, drill N, schema NAME\n";
 
 /// The words, the input, the read and the write that fail, what is written, what is told of the end, and the status.
 type Call = (
@@ -193,7 +193,7 @@ const CALLS: [Call; 24] = [
         0,
         0,
         "",
-        "cube: store fault after line 0\n",
+        "cube: nowhere/cities.cube: no such folder\ncube: store fault after line 0\n",
         8,
     ),
     (

@@ -1,0 +1,29 @@
+-- What the exit status of a run over stores in files tells of what was done.
+use Rattle.std.specs.Prelude.{◌≡◌, ℕ, List, None, false}
+use Rattle.fact_keeper.specs.Keeper.{KeeperTold}
+use Rattle.script_run.specs.Seen.{SeenAll}
+use Rattle.sqlite_keeper.specs.SqlKeeper.{Opened}
+use Rattle.cube_cli.specs.Command.{command_of}
+use Rattle.cube_cli.specs.Doing.{doing_of}
+use Rattle.cube_cli.specs.End.{IsComplete, Says}
+use Rattle.cube_cli.specs.Loaded.{Loads, second_word}
+use Rattle.cube_cli.specs.Status.{status_of}
+use Rattle.cube_cli.specs.declared.end.End.{End}
+
+-- what a keeper over a file tells: no content and no journal
+abbrev pub told_by : Opened → KeeperTold
+told_by keeper = record { content = None; journal = None; name = keeper.name; loads = keeper.loads; is_open = keeper.is_open; faults = keeper.faults }
+
+-- a keeper that has opened no file
+abbrev pub NEW : Opened
+NEW = record { name = None; loads = 0; is_open = false; faults = 0 }
+
+-- A run of these words has this exit status: it is that of an end, which says of what is seen what the end of every run says. The keeper
+-- of the run was new, and is dropped with it.
+pub record Ran (words : List (List ℕ)) (seen : Opened → SeenAll) (status : ℕ) : Type 0 where
+  pub end : End
+  pub keeper : Opened
+  pub status : status ≡ status_of end
+  pub says : Says words (seen keeper) end
+  pub complete : IsComplete words (seen keeper) end
+  pub loaded : Loads (doing_of (command_of words)).stores (second_word words) (told_by NEW) (told_by keeper) (seen keeper) end

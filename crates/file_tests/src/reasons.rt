@@ -1,0 +1,194 @@
+//! Why a store is not to be had, over files of each kind; and what stays as it was then.
+use crate::contents::{FIRST, SECOND, batch_of};
+use crate::sql::run_script;
+use cube_base::Memory;
+use fact_keeper::Keeper;
+use sqlite_file::Reason;
+use sqlite_keeper::SqlKeeper;
+use std::fs;
+use std::test::Fail;
+
+/// What stands there first.
+enum Made {
+    Nothing,
+    /// A folder.
+    Folder(&'static str),
+    /// A file of these bytes.
+    Bytes(&'static str, &'static str),
+    /// The file of a script.
+    Sql(&'static str, &'static str),
+    /// The file of an empty script, and a second link to it.
+    Linked(&'static str, &'static str),
+}
+
+/// What stands there, the name that is loaded, why it is not to be had, and what that is called.
+type Row = (Made, &'static str, Reason, &'static str);
+
+const ROWS: [Row; 12] = [
+    (Made::Nothing, "", Reason::BadName, "not a name for a store"),
+    (
+        Made::Nothing,
+        ":memory:",
+        Reason::BadName,
+        "not a name for a store",
+    ),
+    (
+        Made::Nothing,
+        "none/a.cube",
+        Reason::NoFolder,
+        "no such folder",
+    ),
+    (
+        Made::Folder("folder.cube"),
+        "folder.cube",
+        Reason::IsFolder,
+        "a folder",
+    ),
+    (
+        Made::Bytes("text.cube", "some text that is no database"),
+        "text.cube",
+        Reason::NotSqlite,
+        "not an SQLite file",
+    ),
+    (
+        Made::Bytes("short.cube", "SQ"),
+        "short.cube",
+        Reason::NotSqlite,
+        "not an SQLite file",
+    ),
+    (
+        Made::Bytes("moved.cube-wal", "log"),
+        "moved.cube",
+        Reason::LogAlone,
+        "a log with content stands beside no store: put the store back beside it, or remove the log",
+    ),
+    (
+        Made::Bytes("moved.cube", "S"),
+        "moved.cube",
+        Reason::LogAlone,
+        "a log with content stands beside no store: put the store back beside it, or remove the log",
+    ),
+    (
+        Made::Bytes("crashed.cube-journal", "j"),
+        "crashed.cube",
+        Reason::Journal,
+        "a crash left a journal beside it: open it once with sqlite3",
+    ),
+    (
+        Made::Linked("one.cube", "two.cube"),
+        "one.cube",
+        Reason::Linked,
+        "it has a second hard link: copy it to a file of its own",
+    ),
+    (
+        Made::Sql(
+            "table.cube",
+            "CREATE TABLE cube (k INTEGER PRIMARY KEY, body TEXT NOT NULL)",
+        ),
+        "table.cube",
+        Reason::Table("cube"),
+        "its table cube is not laid out as a store's",
+    ),
+    (
+        Made::Sql(
+            "row.cube",
+            "CREATE TABLE cube (k INTEGER PRIMARY KEY, body BLOB NOT NULL); INSERT INTO cube VALUES (2, x'61')",
+        ),
+        "row.cube",
+        Reason::Row,
+        "a row of its tables holds what no edit writes",
+    ),
+];
+
+/// Makes what is to stand there.
+fn make(rt: &HostRuntime, made: &Made) -> Result<(), Fail> {
+    match made {
+        Made::Nothing => {}
+        Made::Folder(path) => fs::create_dir(rt, *path)?,
+        Made::Bytes(path, bytes) => fs::write(rt, *path, *bytes)?,
+        Made::Sql(path, script) => run_script(rt, path, script)?,
+        Made::Linked(path, link) => {
+            run_script(rt, path, "")?;
+            fs::hard_link(rt, *path, *link)?;
+        }
+    }
+    Ok(())
+}
+
+/// Why a load of a name failed, if it failed.
+fn reason_at(rt: &HostRuntime, name: &str) -> Option<Reason> {
+    let mut keeper = SqlKeeper::new(rt);
+    let loaded = keeper.load(rt.alloc(), name).is_ok();
+    let reason = keeper.reason();
+    drop(keeper);
+    if loaded { None } else { reason }
+}
+
+/// Whether the bytes of a file stand as they were made.
+fn is_left(rt: &HostRuntime, made: &Made) -> Result<bool, Fail> {
+    match made {
+        Made::Bytes(path, bytes) => Ok(fs::read_to_string(rt, *path)?.as_str() == *bytes),
+        _ => Ok(true),
+    }
+}
+
+fn is_row(rt: &HostRuntime, row: &Row) -> Result<bool, Fail> {
+    let (made, name, reason, said) = row;
+    make(rt, made)?;
+    let text = format!(in rt.alloc(); "{reason}")?;
+    Ok(reason_at(rt, name) == Some(*reason) && text.as_str() == *said && is_left(rt, made)?)
+}
+
+fn are_rows(rt: &HostRuntime, rows: &[Row]) -> Result<bool, Fail> {
+    for row in rows {
+        if !is_row(rt, row)? {
+            return Ok(false);
+        }
+    }
+    Ok(true)
+}
+
+/// No log beside what is no store, and nothing where there was nothing.
+const NOT_MADE: [&str; 5] = [
+    "text.cube-wal",
+    "short.cube-wal",
+    "crashed.cube",
+    "none.cube",
+    "none.cube-wal",
+];
+
+fn is_made(rt: &HostRuntime, path: &str) -> bool {
+    fs::exists(rt, path) != Ok(false)
+}
+
+#[test]
+fn each_reason_is_told(rt: HostRuntime) -> Result<(), Fail> {
+    let told = are_rows(&rt, &ROWS)?;
+    assert!(rt; told && reason_at(&rt, "none.cube").is_none());
+    assert!(rt; !NOT_MADE.iter().any(|path| is_made(&rt, path)));
+    Ok(())
+}
+
+/// Commits to a store that another keeper has open, and then to one in whose place another file was put.
+fn are_told(rt: &HostRuntime) -> Result<bool, Memory> {
+    let first = batch_of(rt.alloc(), &FIRST)?;
+    let second = batch_of(rt.alloc(), &SECOND)?;
+    let mut keeper = SqlKeeper::new(rt);
+    let opened = keeper.load(rt.alloc(), "used.cube").is_ok();
+    let in_use = opened
+        && keeper.commit(&first).is_ok()
+        && reason_at(rt, "used.cube") == Some(Reason::InUse);
+    let put = fs::rename(rt, "table.cube", "used.cube").is_ok();
+    let refused = opened && keeper.commit(&second).is_err();
+    let reason = keeper.reason();
+    drop(keeper);
+    Ok(in_use && put && refused && reason == Some(Reason::Exchanged))
+}
+
+#[test]
+fn stores_in_use_and_exchanged_are_told(rt: HostRuntime) -> Result<(), Fail> {
+    run_script(&rt, "table.cube", "CREATE TABLE other (a TEXT)")?;
+    let told = are_told(&rt)?;
+    assert!(rt; told);
+    Ok(())
+}
