@@ -12,7 +12,7 @@ use Rattle.script_run.specs.Seen.{KeepFailed, NoKeepFault, NoReadFault, NoWriteF
 use Rattle.cube_cli.specs.declared.end.End.{End}
 use Rattle.cube_cli.specs.declared.end.End.TheVariants.{BadRecord, Finished, ImportRows, KeepFault, Memory, ReadFault, Schema, TooLong, WriteFault}
 use Rattle.cube_cli.specs.Doing.{AtOnce, Doing, OneWork}
-use Rattle.cube_cli.specs.End.{DidKeep, FitsAt, Judged, MeansAtOnce, SaysBy, StoppedBefore, StoppedFirst}
+use Rattle.cube_cli.specs.End.{CountsAtOnce, DidKeep, Faults, FitsAt, Judged, Leaves, MeansAtOnce, SaysBy, StoppedBefore, StoppedFirst, Takes}
 use Rattle.cube_cli.specs.Kinds.{EndKind, IsAmong}
 use Rattle.cube_cli.specs.RunEnd.{end_of_stop, end_of_write}
 use Rattle.cube_cli.specs.Seen.{DidNothing, Holds, IsUntouched, NoFault, OfContent, OfInput, ReadNothing, ReadWhole}
@@ -47,42 +47,30 @@ module _ (kinds : List EndKind) (reads stores keeps over : Bool) (refused commit
     pub judged : (refusal : Option End) → (work input content).refusal ≡ refusal → Judged (work input content) reads input refusal seen
     judged refusal is = record { is = is; read = whole reads seen.source input goes.input_is }
 
+    -- what an end says where the store fits and the input was taken
+    pub goes_to : (end : End) → IsAmong kinds end → Faults seen end → Takes seen.source end → Leaves seen end → CountsAtOnce refused commits seen end → Holds seen.keeper (FitsAt Fitting seen end)
+        → MeansAtOnce (work input content) reads commits input seen end → SaysBy kinds doing Fitting seen end
+    goes_to end may faults takes leaves counts fits told = record {
+      may = may;
+      faults = faults;
+      takes = takes;
+      leaves = leaves;
+      unread = goes.unread;
+      unkept = goes.unkept;
+      counts = counts;
+      fits = fits;
+      means = of_both (λ content input. MeansAtOnce (work input content) reads commits input seen end) told;
+    }
+
     -- the text was to be written
     pub written : {T : Type 0} (result : Result T SinkError) → IsAmong kinds (Finished refused) → IsAmong kinds (WriteFault commits) → IsAmong kinds (Memory commits) → NoKeepFault seen.keeper
         → DidKeep (work input content) reads input seen → WritesText (work input content).text seen.sink result → SaysBy kinds doing Fitting seen (end_of_write result refused commits)
-    written (Ok ok) finished write memory keep did text = record {
-      may = finished;
-      faults = record { read = goes.read; write = text.0; keep = keep };
-      takes = few;
-      leaves = tt;
-      unread = goes.unread;
-      unkept = goes.unkept;
-      counts = refl;
-      fits = goes.fitting;
-      means = of_both (λ content input. MeansAtOnce (work input content) reads commits input seen (Finished refused)) (did, text.1);
-    }
-    written (Err sink_error.Failed) finished write memory keep did text = record {
-      may = write;
-      faults = record { cause = text.0; read = goes.read; keep = keep };
-      takes = few;
-      leaves = tt;
-      unread = goes.unread;
-      unkept = goes.unkept;
-      counts = refl;
-      fits = goes.fitting;
-      means = of_both (λ content input. MeansAtOnce (work input content) reads commits input seen (WriteFault commits)) (did, text.1);
-    }
-    written (Err sink_error.Memory) finished write memory keep did text = record {
-      may = memory;
-      faults = record { read = goes.read; write = text.0; keep = keep };
-      takes = few;
-      leaves = tt;
-      unread = goes.unread;
-      unkept = goes.unkept;
-      counts = inr refl;
-      fits = fits_first Fitting seen commits goes.fitting;
-      means = of_both (λ content input. MeansAtOnce (work input content) reads commits input seen (Memory commits)) (inr (refl, did, text.1));
-    }
+    written (Ok ok) finished write memory keep did text =
+        goes_to (Finished refused) finished (record { read = goes.read; write = text.0; keep = keep }) few tt refl goes.fitting (did, text.1)
+    written (Err sink_error.Failed) finished write memory keep did text =
+        goes_to (WriteFault commits) write (record { cause = text.0; read = goes.read; keep = keep }) few tt refl goes.fitting (did, text.1)
+    written (Err sink_error.Memory) finished write memory keep did text =
+        goes_to (Memory commits) memory (record { read = goes.read; write = text.0; keep = keep }) few tt (inr refl) (fits_first Fitting seen commits goes.fitting) (inr (refl, did, text.1))
 
   -- memory was wanting before anything was written or kept
   pub wanted : IsAmong kinds (Memory 0) → NoFault seen → DidNothing seen → TakesAtMost INPUT_LIMIT seen.source.left seen.source.left_after → (reads ≡ false → ReadNothing seen.source) → Holds seen.keeper Fitting
@@ -110,30 +98,26 @@ module _ (kinds : List EndKind) (over : Bool) (work : List ℕ → Stored → On
   before : StoppedBefore seen 0
   before = record { none = refl; nothing = nothing }
 
+  untaken : (end : End) → IsAmong kinds end → Faults seen end → Takes seen.source end → Leaves seen end → CountsAtOnce 0 1 seen end → Holds seen.keeper (FitsAt Fitting seen end)
+      → ((input : List ℕ) (content : Stored) → MeansAtOnce (work input content) true 1 input seen end) → SaysBy kinds keeping Fitting seen end
+  untaken end may faults takes leaves counts fits told = record {
+    may = may;
+    faults = faults;
+    takes = takes;
+    leaves = leaves;
+    unread = λ is. absurd (cc is);
+    unkept = λ is. nothing.kept;
+    counts = counts;
+    fits = fits;
+    means = each_content over seen.keeper _ (λ content. each_input true seen.source _ (λ input. told input content));
+  }
+
   pub not_taken : (stop : InputStop) → IsAmong kinds (ReadFault 0) → IsAmong kinds (TooLong 0) → IsAmong kinds (Memory 0) → Holds seen.keeper Fitting
       → StopsReading INPUT_LIMIT seen.source.left seen.source.left_after seen.source.faults seen.source.faults_after stop → SaysBy kinds keeping Fitting seen (end_of_stop stop)
-  not_taken input_stop.Fault failed long wants fitting stops = record {
-    may = failed;
-    faults = record { cause = stops.1; write = write; keep = keep };
-    takes = stops.0;
-    leaves = tt;
-    unread = λ is. absurd (cc is);
-    unkept = λ is. nothing.kept;
-    counts = before;
-    fits = fitting;
-    means = each_content over seen.keeper _ (λ content. each_input true seen.source _ (λ input. tt));
-  }
-  not_taken input_stop.TooLong failed long wants fitting stops = record {
-    may = long;
-    faults = record { read = stops.1; write = write; keep = keep };
-    takes = stops.0;
-    leaves = tt;
-    unread = λ is. absurd (cc is);
-    unkept = λ is. nothing.kept;
-    counts = before;
-    fits = fitting;
-    means = each_content over seen.keeper _ (λ content. each_input true seen.source _ (λ input. tt));
-  }
+  not_taken input_stop.Fault failed long wants fitting stops =
+      untaken (ReadFault 0) failed (record { cause = stops.1; write = write; keep = keep }) stops.0 tt before fitting (λ input content. tt)
+  not_taken input_stop.TooLong failed long wants fitting stops =
+      untaken (TooLong 0) long (record { read = stops.1; write = write; keep = keep }) stops.0 tt before fitting (λ input content. tt)
   not_taken input_stop.Memory failed long wants fitting stops =
       wanted kinds true true true over 0 1 work Fitting seen wants (record { read = stops.1; write = write; keep = keep }) nothing stops.0 (λ is. absurd (cc is)) fitting
 
@@ -142,53 +126,24 @@ module _ (kinds : List EndKind) (over : Bool) (work : List ℕ → Stored → On
     none_failed : NoFault seen
     none_failed = record { read = goes.read; write = write; keep = keep }
 
-    abbrev of_these : (P : Stored → List ℕ → Type 0) → P content input → OfContent over seen.keeper (λ content. OfInput true seen.source (P content))
-    of_these P here = of_both kinds true true true over 0 1 work Fitting seen content input goes P here
-
     took : TakesAtMost INPUT_LIMIT seen.source.left seen.source.left_after
     took = few kinds true true true over 0 1 work Fitting seen content input goes
+
+    refused : (end : End) → IsAmong kinds end → Faults seen end → Leaves seen end → CountsAtOnce 0 1 seen end → Holds seen.keeper (FitsAt Fitting seen end)
+        → MeansAtOnce (work input content) true 1 input seen end → Takes seen.source end → SaysBy kinds keeping Fitting seen end
+    refused end may faults leaves counts fits told takes = goes_to kinds true true true over 0 1 work Fitting seen content input goes end may faults takes leaves counts fits told
 
     is_judged : (refusal : Option End) → (work input content).refusal ≡ refusal → Judged (work input content) true input refusal seen
     is_judged refusal is = judged kinds true true true over 0 1 work Fitting seen content input goes refusal is
 
     pub bad_schema : (line : ℕ) (why : Code) → IsAmong kinds (Schema line why) → (work input content).refusal ≡ Some (Schema line why) → SaysBy kinds keeping Fitting seen (Schema line why)
-    bad_schema line why may is = record {
-      may = may;
-      faults = none_failed;
-      takes = took;
-      leaves = nothing;
-      unread = goes.unread;
-      unkept = goes.unkept;
-      counts = tt;
-      fits = goes.fitting;
-      means = of_these (λ content input. MeansAtOnce (work input content) true 1 input seen (Schema line why)) (is_judged (Some (Schema line why)) is);
-    }
+    bad_schema line why may is = refused (Schema line why) may none_failed nothing tt goes.fitting (is_judged (Some (Schema line why)) is) took
 
     pub bad_record : (bad : RecordAt) → IsAmong kinds (BadRecord bad) → (work input content).refusal ≡ Some (BadRecord bad) → SaysBy kinds keeping Fitting seen (BadRecord bad)
-    bad_record bad may is = record {
-      may = may;
-      faults = none_failed;
-      takes = took;
-      leaves = nothing;
-      unread = goes.unread;
-      unkept = goes.unkept;
-      counts = tt;
-      fits = goes.fitting;
-      means = of_these (λ content input. MeansAtOnce (work input content) true 1 input seen (BadRecord bad)) (is_judged (Some (BadRecord bad)) is);
-    }
+    bad_record bad may is = refused (BadRecord bad) may none_failed nothing tt goes.fitting (is_judged (Some (BadRecord bad)) is) took
 
     pub many_rows : (would : ℕ) → IsAmong kinds (ImportRows would) → (work input content).refusal ≡ Some (ImportRows would) → SaysBy kinds keeping Fitting seen (ImportRows would)
-    many_rows would may is = record {
-      may = may;
-      faults = none_failed;
-      takes = took;
-      leaves = nothing;
-      unread = goes.unread;
-      unkept = goes.unkept;
-      counts = tt;
-      fits = goes.fitting;
-      means = of_these (λ content input. MeansAtOnce (work input content) true 1 input seen (ImportRows would)) (is_judged (Some (ImportRows would)) is);
-    }
+    many_rows would may is = refused (ImportRows would) may none_failed nothing tt goes.fitting (is_judged (Some (ImportRows would)) is) took
 
     -- or memory was wanting
     pub wants : IsAmong kinds (Memory 0) → SaysBy kinds keeping Fitting seen (Memory 0)
@@ -198,15 +153,7 @@ module _ (kinds : List EndKind) (over : Bool) (work : List ℕ → Stored → On
 module _ (kinds : List EndKind) (over : Bool) (work : List ℕ → Stored → OneWork) (Fitting : Stored → Type 0) (seen : SeenAll) (failed : KeepFailed seen.keeper) (write : NoWriteFault seen.sink) (nothing : DidNothing seen)
     (content : Stored) (input : List ℕ) (goes : GoesOn true true over Fitting content input seen) where
   pub keep_failed : IsAmong kinds (KeepFault 0) → (work input content).refusal ≡ None → SaysBy kinds (record { reads = true; stores = true; keeps = true; over = over; works = AtOnce 0 1 work }) Fitting seen (KeepFault 0)
-  keep_failed may is = record {
-    may = may;
-    faults = record { cause = failed; read = goes.read; write = write };
-    takes = few kinds true true true over 0 1 work Fitting seen content input goes;
-    leaves = tt;
-    unread = goes.unread;
-    unkept = goes.unkept;
-    counts = record { none = refl; nothing = nothing };
-    fits = fits_first Fitting seen 0 goes.fitting;
-    means = of_both kinds true true true over 0 1 work Fitting seen content input goes (λ content input. MeansAtOnce (work input content) true 1 input seen (KeepFault 0))
-        (inr (judged kinds true true true over 0 1 work Fitting seen content input goes None is));
-  }
+  keep_failed may is =
+      goes_to kinds true true true over 0 1 work Fitting seen content input goes (KeepFault 0) may (record { cause = failed; read = goes.read; write = write })
+      (few kinds true true true over 0 1 work Fitting seen content input goes) tt (record { none = refl; nothing = nothing }) (fits_first Fitting seen 0 goes.fitting)
+      (inr (judged kinds true true true over 0 1 work Fitting seen content input goes None is))

@@ -9,7 +9,7 @@ use Rattle.stored_state.specs.declared.finding.Finding.{Finding}
 use Rattle.cube_cli.specs.declared.end.End.{End}
 use Rattle.cube_cli.specs.declared.end.End.TheVariants.{BadStore, HasCube, KeepFault, Memory, NoCube, Usage}
 use Rattle.cube_cli.specs.Doing.{AtOnce, ByLines, Doing, Works}
-use Rattle.cube_cli.specs.End.{Counts, Means, SaysBy, StoppedBefore, StoppedFirst}
+use Rattle.cube_cli.specs.End.{Counts, Faults, FitsAt, Leaves, Means, SaysBy, StoppedBefore, StoppedFirst, Takes}
 use Rattle.cube_cli.specs.Kinds.{EndKind, IsAmong}
 use Rattle.cube_cli.specs.Seen.{Holds, IsUntouched, LeftAll, NoFault, OfContent, OfInput, OnlyKeepFailed, WasNotRead}
 use Rattle.cube_cli.specs.Store.{Finds}
@@ -92,80 +92,37 @@ module _ (seen : SeenAll) (left : LeftAll seen) where
         each_content doing.over seen.keeper (λ content. OfInput doing.reads seen.source (P content))
         (λ content. each_input doing.reads seen.source (P content) (λ input. each input content))
 
-    pub no_cube : IsAmong kinds NoCube → NoFault seen → Holds seen.keeper (λ content. content ≡ empty_content) → SaysBy kinds doing Fitting seen NoCube
-    no_cube may none empty = record {
+    -- what each of these ends says of what was left
+    first : (end : End) → IsAmong kinds end → Faults seen end → Takes seen.source end → Leaves seen end → Counts doing.works seen end → Holds seen.keeper (FitsAt Fitting seen end)
+        → ((input : List ℕ) (content : Stored) → Means doing.works doing.reads input content seen end) → SaysBy kinds doing Fitting seen end
+    first end may faults takes leaves counts fits told = record {
       may = may;
-      faults = none;
-      takes = few;
-      leaves = left;
+      faults = faults;
+      takes = takes;
+      leaves = leaves;
       unread = λ is. left.read;
       unkept = λ is. left.nothing.kept;
-      counts = no_count seen doing.works;
-      fits = empty;
-      means = of_each (λ content input. Means doing.works doing.reads input content seen NoCube) (none_told seen doing.works doing.reads);
+      counts = counts;
+      fits = fits;
+      means = of_each (λ content input. Means doing.works doing.reads input content seen end) told;
     }
+
+    pub no_cube : IsAmong kinds NoCube → NoFault seen → Holds seen.keeper (λ content. content ≡ empty_content) → SaysBy kinds doing Fitting seen NoCube
+    no_cube may none empty = first NoCube may none few left (no_count seen doing.works) empty (none_told seen doing.works doing.reads)
 
     pub has_cube : IsAmong kinds HasCube → NoFault seen → Holds seen.keeper (λ content. content ≢ empty_content) → SaysBy kinds doing Fitting seen HasCube
-    has_cube may none some = record {
-      may = may;
-      faults = none;
-      takes = few;
-      leaves = left;
-      unread = λ is. left.read;
-      unkept = λ is. left.nothing.kept;
-      counts = has_count seen doing.works;
-      fits = some;
-      means = of_each (λ content input. Means doing.works doing.reads input content seen HasCube) (has_told seen doing.works doing.reads);
-    }
+    has_cube may none some = first HasCube may none few left (has_count seen doing.works) some (has_told seen doing.works doing.reads)
 
     pub bad_store : (found : Finding) → IsAmong kinds (BadStore found) → NoFault seen → Holds seen.keeper (λ content. (content ≢ empty_content) × Finds content found) → SaysBy kinds doing Fitting seen (BadStore found)
-    bad_store found may none finds = record {
-      may = may;
-      faults = none;
-      takes = few;
-      leaves = left;
-      unread = λ is. left.read;
-      unkept = λ is. left.nothing.kept;
-      counts = bad_count seen found doing.works;
-      fits = finds;
-      means = of_each (λ content input. Means doing.works doing.reads input content seen (BadStore found)) (bad_told seen found doing.works doing.reads);
-    }
+    bad_store found may none finds = first (BadStore found) may none few left (bad_count seen found doing.works) finds (bad_told seen found doing.works doing.reads)
 
     pub usage : IsAmong kinds Usage → NoFault seen → Holds seen.keeper Fitting → SaysBy kinds doing Fitting seen Usage
-    usage may none fitting = record {
-      may = may;
-      faults = none;
-      takes = few;
-      leaves = left;
-      unread = λ is. left.read;
-      unkept = λ is. left.nothing.kept;
-      counts = usage_count seen doing.works;
-      fits = fitting;
-      means = of_each (λ content input. Means doing.works doing.reads input content seen Usage) (usage_told seen doing.works doing.reads);
-    }
+    usage may none fitting = first Usage may none few left (usage_count seen doing.works) fitting (usage_told seen doing.works doing.reads)
 
     pub keep_fault : IsAmong kinds (KeepFault 0) → OnlyKeepFailed seen → SaysBy kinds doing Fitting seen (KeepFault 0)
-    keep_fault may failed = record {
-      may = may;
-      faults = failed;
-      takes = few;
-      leaves = tt;
-      unread = λ is. left.read;
-      unkept = λ is. left.nothing.kept;
-      counts = keep_count doing.works;
-      fits = of_any seen.keeper.told.content _ (λ content. inl stopped);
-      means = of_each (λ content input. Means doing.works doing.reads input content seen (KeepFault 0)) (keep_told doing.works doing.reads);
-    }
+    keep_fault may failed =
+        first (KeepFault 0) may failed few tt (keep_count doing.works) (of_any seen.keeper.told.content _ (λ content. inl stopped)) (keep_told doing.works doing.reads)
 
     pub wants_memory : IsAmong kinds (Memory 0) → NoFault seen → SaysBy kinds doing Fitting seen (Memory 0)
-    wants_memory may none = record {
-      may = may;
-      faults = none;
-      takes = few;
-      leaves = tt;
-      unread = λ is. left.read;
-      unkept = λ is. left.nothing.kept;
-      counts = wants_count doing.works;
-      fits = of_any seen.keeper.told.content _ (λ content. inl stopped);
-      means = of_each (λ content input. Means doing.works doing.reads input content seen (Memory 0)) (wants_told doing.works doing.reads);
-    }
+    wants_memory may none =
+        first (Memory 0) may none few tt (wants_count doing.works) (of_any seen.keeper.told.content _ (λ content. inl stopped)) (wants_told doing.works doing.reads)

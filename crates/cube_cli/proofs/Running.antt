@@ -30,8 +30,9 @@ use Rattle.cube_cli.specs.declared.command.StoreCommand.TheVariants.{Input}
 use Rattle.cube_cli.specs.declared.end.End.{End}
 use Rattle.cube_cli.specs.declared.end.End.TheVariants.{Finished, KeepFault, Memory, ReadFault, TooLong, WriteFault}
 use Rattle.cube_cli.specs.declared.store.InputTask.TheVariants.{Run}
-use Rattle.cube_cli.specs.Doing.{run_work}
-use Rattle.cube_cli.specs.End.{BrokeOff, DidLines, FitsAt, MeansByLines, SaysOf, StoppedAtEdit, StoppedReading, WantedMemory}
+use Rattle.cube_cli.specs.Doing.{ends_of, run_work}
+use Rattle.cube_cli.specs.End.{BrokeOff, DidLines, Faults, FitsAt, Leaves, MeansByLines, SaysOf, StoppedAtEdit, StoppedReading, Takes, WantedMemory}
+use Rattle.cube_cli.specs.Kinds.{IsAmong}
 use Rattle.cube_cli.specs.RunEnd.{end_of_break_off, end_of_run}
 use Rattle.cube_cli.specs.SchemaAlone.{schema_alone}
 use Rattle.cube_cli.specs.Seen.{Holds, ReadWhole, Took}
@@ -107,6 +108,9 @@ module _ (content : Stored) (ground : Ground) (over : IsOver content ground) whe
           let all = lines_of (broke.taken ++ after) in
           each after (breaks_off-first ground broke.lines all first seen.sink off broke.broke) (kept_at-first ground broke.lines all first seen.keeper.told seen.keeper.told_after off (broke.kept over.keeps)))
 
+    took_few : (off : BreakOff) → StreamBroke ground [] INPUT_LIMIT seen off → TakesAtMost INPUT_LIMIT seen.source.left seen.source.left_after
+    took_few off broke = record { input = broke.taken; bytes = broke.bytes; few = broke.few }
+
     told_write : (line : ℕ) → StreamBroke ground [] INPUT_LIMIT seen (break_off.Write line) → IfSome seen.source.left (λ input. BrokeOff (run_work input content) line seen)
     told_write line broke =
         in_whole (break_off.Write line) broke (λ input. BrokeOff (run_work input content) line seen)
@@ -176,95 +180,47 @@ module _ (content : Stored) (ground : Ground) (over : IsOver content ground) whe
       means : (end : End) → IfSome seen.source.left (λ input. MeansByLines (run_work input content) input seen end) → Holds seen.keeper (λ content. IfSome seen.source.left (λ input. MeansByLines (run_work input content) input seen end))
       means end here = of_given seen.keeper.told.content content (λ content. IfSome seen.source.left (λ input. MeansByLines (run_work input content) input seen end)) given here
 
+      says_end : (end : End) → IsAmong (ends_of (Some (Store (Input Run)))) end → Faults seen end → Takes seen.source end → Leaves seen end → FitsAt IsSoundContent seen end content
+          → IfSome seen.source.left (λ input. MeansByLines (run_work input content) input seen end) → SaysOf (Some (Store (Input Run))) seen end
+      says_end end may faults takes leaves here told = record {
+        may = may;
+        faults = faults;
+        takes = takes;
+        leaves = leaves;
+        unread = λ is. absurd (cc is);
+        unkept = λ is. absurd (cc is);
+        counts = tt;
+        fits = fits end here;
+        means = means end told;
+      }
+
       says_broke : (off : BreakOff) → NoReadFault seen.source → StreamBroke ground [] INPUT_LIMIT seen off → CountsStream seen.keeper (Err (stream_stop.Broke off)) → SaysOf (Some (Store (Input Run))) seen (end_of_break_off off)
-      says_broke (break_off.Write line) read broke count = record {
-        may = refl;
-        faults = record { cause = broke.broke.0; read = read; keep = count.1 refl };
-        takes = record { input = broke.taken; bytes = broke.bytes; few = broke.few };
-        leaves = tt;
-        unread = λ is. absurd (cc is);
-        unkept = λ is. absurd (cc is);
-        counts = tt;
-        fits = fits (WriteFault line) is_sound;
-        means = means (WriteFault line) (told_write line broke);
-      }
-      says_broke (break_off.SinkMemory line) read broke count = record {
-        may = refl;
-        faults = record { read = read; write = broke.broke.0; keep = count.1 refl };
-        takes = record { input = broke.taken; bytes = broke.bytes; few = broke.few };
-        leaves = tt;
-        unread = λ is. absurd (cc is);
-        unkept = λ is. absurd (cc is);
-        counts = tt;
-        fits = fits (Memory line) (inr is_sound);
-        means = means (Memory line) (told-weaker seen.source.left _ _ (λ input here. inr here) (told_sink line broke));
-      }
-      says_broke (break_off.Memory done) read broke count = record {
-        may = refl;
-        faults = record { read = read; write = broke.broke.0; keep = count.1 refl };
-        takes = record { input = broke.taken; bytes = broke.bytes; few = broke.few };
-        leaves = tt;
-        unread = λ is. absurd (cc is);
-        unkept = λ is. absurd (cc is);
-        counts = tt;
-        fits = fits (Memory done) (inr is_sound);
-        means = means (Memory done) (told-weaker seen.source.left _ _ (λ input here. inr here) (told_memory done broke));
-      }
-      says_broke (break_off.Keep done) read broke count = record {
-        may = refl;
-        faults = record { cause = count.0 refl; read = read; write = broke.broke.0 };
-        takes = record { input = broke.taken; bytes = broke.bytes; few = broke.few };
-        leaves = tt;
-        unread = λ is. absurd (cc is);
-        unkept = λ is. absurd (cc is);
-        counts = tt;
-        fits = fits (KeepFault done) (inr is_sound);
-        means = means (KeepFault done) (told-weaker seen.source.left _ _ (λ input here. inr here) (told_keep done broke));
-      }
+      says_broke (break_off.Write line) read broke count =
+          says_end (WriteFault line) refl (record { cause = broke.broke.0; read = read; keep = count.1 refl }) (took_few (break_off.Write line) broke) tt is_sound (told_write line broke)
+      says_broke (break_off.SinkMemory line) read broke count =
+          says_end (Memory line) refl (record { read = read; write = broke.broke.0; keep = count.1 refl }) (took_few (break_off.SinkMemory line) broke) tt (inr is_sound)
+          (told-weaker seen.source.left _ _ (λ input here. inr here) (told_sink line broke))
+      says_broke (break_off.Memory done) read broke count =
+          says_end (Memory done) refl (record { read = read; write = broke.broke.0; keep = count.1 refl }) (took_few (break_off.Memory done) broke) tt (inr is_sound)
+          (told-weaker seen.source.left _ _ (λ input here. inr here) (told_memory done broke))
+      says_broke (break_off.Keep done) read broke count =
+          says_end (KeepFault done) refl (record { cause = count.0 refl; read = read; write = broke.broke.0 }) (took_few (break_off.Keep done) broke) tt (inr is_sound)
+          (told-weaker seen.source.left _ _ (λ input here. inr here) (told_keep done broke))
 
       pub says_stream : (result : Result ℕ StreamStop) → EndsStream ground [] INPUT_LIMIT seen result → CountsStream seen.keeper result → SaysOf (Some (Store (Input Run))) seen (end_of_run result)
       says_stream (Ok refused) ends count =
           let all = ends.1 in
-          record {
-            may = refl;
-            faults = record { read = ends.0; write = all.done.no_fault; keep = count };
-            takes = record { input = all.taken; bytes = all.bytes; few = all.few };
-            leaves = tt;
-            unread = λ is. absurd (cc is);
-            unkept = λ is. absurd (cc is);
-            counts = tt;
-            fits = fits (Finished refused) is_sound;
-            means = means (Finished refused)
-                (of_input true seen.source all.taken (λ input. DidLines (run_work input content) input refused seen) (record { bytes = all.bytes; end = all.end; within = all.few })
-                (ran all.taken refused (record { within = all.few; end = all.end }) all.done (all.kept.commits over.keeps)));
-          }
+          says_end (Finished refused) refl (record { read = ends.0; write = all.done.no_fault; keep = count }) (record { input = all.taken; bytes = all.bytes; few = all.few }) tt is_sound
+          (of_input true seen.source all.taken (λ input. DidLines (run_work input content) input refused seen) (record { bytes = all.bytes; end = all.end; within = all.few })
+          (ran all.taken refused (record { within = all.few; end = all.end }) all.done (all.kept.commits over.keeps)))
       says_stream (Err (stream_stop.Broke off)) ends count = says_broke off ends.0 ends.1 count
       says_stream (Err (stream_stop.Read done)) ends count =
           let failed = ends.1 in
-          record {
-            may = refl;
-            faults = record { cause = ends.0; write = failed.answered.write; keep = count.1 refl };
-            takes = record { input = failed.taken; bytes = failed.bytes; few = failed.few };
-            leaves = tt;
-            unread = λ is. absurd (cc is);
-            unkept = λ is. absurd (cc is);
-            counts = tt;
-            fits = fits (ReadFault done) is_sound;
-            means = means (ReadFault done) (told_failed failed.taken done failed.bytes failed.answered);
-          }
+          says_end (ReadFault done) refl (record { cause = ends.0; write = failed.answered.write; keep = count.1 refl }) (record { input = failed.taken; bytes = failed.bytes; few = failed.few }) tt is_sound
+          (told_failed failed.taken done failed.bytes failed.answered)
       says_stream (Err (stream_stop.TooLong done)) ends count =
           let much = ends.1 in
-          record {
-            may = refl;
-            faults = record { read = ends.0; write = much.answered.write; keep = count.1 refl };
-            takes = goes_on done much;
-            leaves = tt;
-            unread = λ is. absurd (cc is);
-            unkept = λ is. absurd (cc is);
-            counts = tt;
-            fits = fits (TooLong done) is_sound;
-            means = means (TooLong done) (told_long done much);
-          }
+          says_end (TooLong done) refl (record { read = ends.0; write = much.answered.write; keep = count.1 refl }) (goes_on done much) tt is_sound (told_long done much)
 
 -- a cube that is one of a content
 pub over_cube : (cube : CubeValue PolicyWord) (content : Stored) → IsCubeOf cube content → IsOver content (record { weigh = weigh_of cube.policy; schema = cube.schema; first = state_of cube; keeps = true })

@@ -29,8 +29,12 @@ use Rattle.script_run.specs.Written.{Answered, Broken, Gathered, Stopped}
 use Rattle.script_run.proofs.Texts.{stopped_gathered}
 use Rattle.script_run.proofs.Writing.{wrote-weaker}
 use Rattle.cube_cli.specs.declared.command.Command.TheVariants.{Try}
-use Rattle.cube_cli.specs.Doing.{Fits, refused_schema, try_work}
-use Rattle.cube_cli.specs.End.{BrokeOff, DidLines, SaysOf, StoppedReading, WantedMemory}
+use Rattle.cube_cli.specs.Doing.{Fits, ends_of, refused_schema, try_work}
+use Rattle.cube_cli.specs.End.{BrokeOff, DidLines, Faults, FitsAt, Leaves, MeansByLines, SaysOf, StoppedReading, Takes, WantedMemory}
+use Rattle.cube_cli.specs.Kinds.{IsAmong}
+use Rattle.fact_keeper.specs.declared.content.Stored.{Stored}
+use Rattle.cube_cli.specs.declared.end.End.{End}
+use Rattle.cube_cli.specs.declared.end.End.TheVariants.{Finished, Memory, ReadFault, TooLong, WriteFault}
 use Rattle.cube_cli.specs.Seen.{NoFault, Took, WasNotCalled}
 use Rattle.cube_cli.specs.Trying.{EndsUnkept, count_refused, outcome_of, replies_of, script_line_end}
 use Rattle.cube_cli.specs.RunEnd.{end_of_break_off, end_of_run}
@@ -223,84 +227,48 @@ module _ (source : SourceSeen) (room : ℕ) (held : List (List ℕ)) (schema : S
   abbrev Ends : Result ℕ StreamStop → Type 0
   Ends result = EndsStream ground (drop took.size took.taken) room (record { source = second_part; sink = whole.sink; keeper = whole.keeper }) result
 
+  says_end : (end : End) → IsAmong (ends_of (Some Try)) end → Faults whole end → Takes whole.source end → Leaves whole end → ((content : Stored) → FitsAt (Fits (Some Try)) whole end content)
+      → IfSome whole.source.left (λ input. MeansByLines (try_work input empty_content) input whole end) → SaysOf (Some Try) whole end
+  says_end end may faults takes leaves here told = record {
+    may = may;
+    faults = faults;
+    takes = takes;
+    leaves = leaves;
+    unread = λ is. absurd (cc is);
+    unkept = λ is. uncalled.kept;
+    counts = tt;
+    fits = of_any whole.keeper.told.content _ here;
+    means = told;
+  }
+
   by_off : (off : BreakOff) → whole.source.faults_after ≡ source.faults_after → StreamBroke ground (drop took.size took.taken) room (record { source = second_part; sink = whole.sink; keeper = whole.keeper }) off → is_keep off ≡ false
       → SaysOf (Some Try) whole (end_of_break_off off)
-  by_off (break_off.Write line) none broke no_keep = record {
-    may = refl;
-    faults = record { cause = broke.broke.0; read = read none; keep = uncalled.count };
-    takes = few_both source room held schema took broke.taken whole kept left_is broke.bytes broke.few;
-    leaves = tt;
-    unread = λ is. absurd (cc is);
-    unkept = λ is. uncalled.kept;
-    counts = tt;
-    fits = of_any whole.keeper.told.content _ (λ content. tt);
-    means = told_write source room held schema took broke.taken whole kept left_is broke.bytes broke.lines broke.lines_are line broke.broke broke.near;
-  }
-  by_off (break_off.SinkMemory line) none broke no_keep = record {
-    may = refl;
-    faults = no_fault none broke.broke.0;
-    takes = few_both source room held schema took broke.taken whole kept left_is broke.bytes broke.few;
-    leaves = tt;
-    unread = λ is. absurd (cc is);
-    unkept = λ is. uncalled.kept;
-    counts = tt;
-    fits = of_any whole.keeper.told.content _ (λ content. inr tt);
-    means = told-weaker whole.source.left _ _ (λ input wanted. inr wanted) (told_sink source room held schema took broke.taken whole kept left_is broke.bytes broke.lines broke.lines_are line broke.broke);
-  }
-  by_off (break_off.Memory done) none broke no_keep = record {
-    may = refl;
-    faults = no_fault none broke.broke.0;
-    takes = few_both source room held schema took broke.taken whole kept left_is broke.bytes broke.few;
-    leaves = tt;
-    unread = λ is. absurd (cc is);
-    unkept = λ is. uncalled.kept;
-    counts = tt;
-    fits = of_any whole.keeper.told.content _ (λ content. inr tt);
-    means = told-weaker whole.source.left _ _ (λ input wanted. inr wanted) (told_memory source room held schema took broke.taken whole kept left_is broke.bytes broke.lines broke.lines_are done broke.broke);
-  }
+  by_off (break_off.Write line) none broke no_keep =
+      says_end (WriteFault line) refl (record { cause = broke.broke.0; read = read none; keep = uncalled.count }) (few_both source room held schema took broke.taken whole kept left_is broke.bytes broke.few) tt (λ content. tt)
+      (told_write source room held schema took broke.taken whole kept left_is broke.bytes broke.lines broke.lines_are line broke.broke broke.near)
+  by_off (break_off.SinkMemory line) none broke no_keep =
+      says_end (Memory line) refl (no_fault none broke.broke.0) (few_both source room held schema took broke.taken whole kept left_is broke.bytes broke.few) tt (λ content. inr tt)
+      (told-weaker whole.source.left _ _ (λ input wanted. inr wanted) (told_sink source room held schema took broke.taken whole kept left_is broke.bytes broke.lines broke.lines_are line broke.broke))
+  by_off (break_off.Memory done) none broke no_keep =
+      says_end (Memory done) refl (no_fault none broke.broke.0) (few_both source room held schema took broke.taken whole kept left_is broke.bytes broke.few) tt (λ content. inr tt)
+      (told-weaker whole.source.left _ _ (λ input wanted. inr wanted) (told_memory source room held schema took broke.taken whole kept left_is broke.bytes broke.lines broke.lines_are done broke.broke))
   by_off (break_off.Keep done) none broke no_keep = absurd (cc no_keep)
 
   by_end : (result : Result ℕ StreamStop) → Ends result → IfErr result (λ stop. is_keep_stop stop ≡ false) → SaysOf (Some Try) whole (end_of_run result)
   by_end (Ok refused) ends no_keep =
       let all = ends.1 in
-      record {
-        may = refl;
-        faults = no_fault ends.0 all.done.no_fault;
-        takes = few_both source room held schema took all.taken whole kept left_is all.bytes all.few;
-        leaves = tt;
-        unread = λ is. absurd (cc is);
-        unkept = λ is. uncalled.kept;
-        counts = tt;
-        fits = of_any whole.keeper.told.content _ (λ content. tt);
-        means = told_done source room held schema took all.taken whole kept left_is all.bytes refused all.end all.few all.done;
-      }
+      says_end (Finished refused) refl (no_fault ends.0 all.done.no_fault) (few_both source room held schema took all.taken whole kept left_is all.bytes all.few) tt (λ content. tt)
+      (told_done source room held schema took all.taken whole kept left_is all.bytes refused all.end all.few all.done)
   by_end (Err (stop.Broke off)) ends no_keep = by_off off ends.0 ends.1 no_keep
   by_end (Err (stop.Read done)) ends no_keep =
       let failed = ends.1 in
-      record {
-        may = refl;
-        faults = record { cause = rw (faults_are, sym same) ends.0; write = failed.answered.write; keep = uncalled.count };
-        takes = few_both source room held schema took failed.taken whole kept left_is failed.bytes failed.few;
-        leaves = tt;
-        unread = λ is. absurd (cc is);
-        unkept = λ is. uncalled.kept;
-        counts = tt;
-        fits = of_any whole.keeper.told.content _ (λ content. tt);
-        means = told_failed source room held schema took failed.taken whole kept left_is failed.bytes done failed.answered.count failed.answered.answered;
-      }
+      says_end (ReadFault done) refl (record { cause = rw (faults_are, sym same) ends.0; write = failed.answered.write; keep = uncalled.count })
+      (few_both source room held schema took failed.taken whole kept left_is failed.bytes failed.few) tt (λ content. tt)
+      (told_failed source room held schema took failed.taken whole kept left_is failed.bytes done failed.answered.count failed.answered.answered)
   by_end (Err (stop.TooLong done)) ends no_keep =
       let long = ends.1 in
-      record {
-        may = refl;
-        faults = no_fault ends.0 long.answered.write;
-        takes = goes_on source room held schema took long.taken whole kept left_is long.byte long.bytes long.all;
-        leaves = tt;
-        unread = λ is. absurd (cc is);
-        unkept = λ is. uncalled.kept;
-        counts = tt;
-        fits = of_any whole.keeper.told.content _ (λ content. tt);
-        means = told_long source room held schema took long.taken whole kept left_is long.byte long.bytes long.all INPUT_LIMIT done refl long.answered.count long.answered.answered;
-      }
+      says_end (TooLong done) refl (no_fault ends.0 long.answered.write) (goes_on source room held schema took long.taken whole kept left_is long.byte long.bytes long.all) tt (λ content. tt)
+      (told_long source room held schema took long.taken whole kept left_is long.byte long.bytes long.all INPUT_LIMIT done refl long.answered.count long.answered.answered)
 
   pub says_script : (result : Result ℕ StreamStop) → EndsUnkept (weigh_of schema.policy) schema (drop took.size took.taken) room second_part whole.sink result → IfErr result (λ stop. is_keep_stop stop ≡ false)
       → SaysOf (Some Try) whole (end_of_run result)
