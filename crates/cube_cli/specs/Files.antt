@@ -13,11 +13,12 @@ use Rattle.fact_sequence.specs.declared.fact_seq.FactSeq.{FactSeq}
 use Rattle.fact_sequence.specs.Refused.{refused_in}
 use Rattle.edit_plan.specs.Whole.{difference_with}
 use Rattle.schema_text.specs.Schema.{SchemaValue, shape_of}
+use Rattle.schema_text.specs.SchemaText.{schema_text}
 use Rattle.csv_facts.specs.FactFile.{facts_in}
 use Rattle.csv_facts.specs.FactRow.{file_text}
 use Rattle.csv_facts.specs.RecordList.{records_of}
 use Rattle.cube_cli.specs.declared.telling.Telling.{Telling}
-use Rattle.cube_cli.specs.declared.telling.Telling.TheVariants.{Check, Export}
+use Rattle.cube_cli.specs.declared.telling.Telling.TheVariants.{Check, Export, Schema}
 use Rattle.cube_cli.specs.declared.end.End.{End}
 use Rattle.cube_cli.specs.declared.end.End.TheVariants.{BadRecord, ImportRows}
 
@@ -25,10 +26,12 @@ use Rattle.cube_cli.specs.declared.end.End.TheVariants.{BadRecord, ImportRows}
 abbrev pub count_line : List ℕ → ℕ → ℕ → List ℕ
 count_line word first second = line_text word (decimal first ∷ decimal second ∷ [])
 
--- What is told of facts over a schema: by `check` their number and that of their rows, by `export` their file.
+-- What is told of facts over a schema: by `check` their number and that of their rows, by `export` their file, by `schema` the one text of
+-- the schema.
 abbrev pub text_told : Telling → Policy → SchemaValue → List Fact → List ℕ
 text_told Check policy schema facts = count_line (codes "sound") (length facts) (row_count (extended policy schema.dims facts))
 text_told Export policy schema facts = file_text schema facts
+text_told Schema policy schema facts = schema_text schema
 
 -- the facts of a file, and the record that could not be read
 abbrev pub seq_of : SchemaValue → List ℕ → FactSeq

@@ -18,7 +18,7 @@ use csv_facts::write_facts;
 use cube_base::{Bytes, Memory, Sink};
 use cube_core::Cube;
 use fact_keeper::{Keeper, Stored};
-use schema_text::{PolicyWord, Schema};
+use schema_text::{PolicyWord, Schema, write_schema};
 use std::alloc::Global;
 
 /// What is told of a store that is sound.
@@ -28,6 +28,8 @@ pub enum Telling {
     Check,
     /// The file of its facts.
     Export,
+    /// The one text of its schema.
+    Schema,
 }
 
 /// Audits the store of a name, and tells of it. No input is taken, and nothing is committed.
@@ -79,5 +81,6 @@ fn text_of(alloc: Global, telling: Telling, cube: &Cube<PolicyWord>) -> Result<B
     match telling {
         Telling::Check => count_line(alloc, b"sound", cube.facts().len(), cube.row_count()),
         Telling::Export => write_facts(alloc, cube.schema(), cube.facts()),
+        Telling::Schema => write_schema(alloc, cube.schema()),
     }
 }
