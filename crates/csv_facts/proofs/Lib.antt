@@ -6,3 +6,4 @@ pub mod ValuesAgain
 pub mod NodesAgain
 pub mod FactsAgain
 pub mod FileAgain
+pub mod ExtendedRows

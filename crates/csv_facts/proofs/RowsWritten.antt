@@ -17,7 +17,7 @@ use Rattle.std.proofs.lemmas.List.Elements.{All-get_or, All-head, All-tail}
 use Rattle.std.proofs.lemmas.Option.{get_or_from_slice_get, slice_get_within}
 use Rattle.fact_records.specs.Valid.{IsFactOf}
 use Rattle.schema_text.specs.Schema.{SchemaValue, shape_of}
-use Rattle.csv.specs.Records.{Row, fields_of, partial_of}
+use Rattle.csv.specs.Records.{Row}
 use Rattle.csv.specs.Writing.{default_writer, fields_written, has_written, row_text, writer_setup}
 use Rattle.csv.specs.declared.writer.QuoteStyle.TheVariants as style
 use Rattle.csv.specs.declared.writer.Writer.{Writer}
@@ -151,22 +151,25 @@ Writes-row old new row writing setup fields wrote bytes =
           ∙ ap (λ t. text_in old ++ t) (sym (append-nil (row_text default_writer row)));
     }
 
+-- behind no records, nothing else was written
+pub all-written : (before after : Writer (Vec ℕ)) (records : List (List (List ℕ))) → text_in before ≡ [] → Writes before records after → text_in after ≡ records_text records
+all-written before after records empty wrote = wrote.text ∙ ap (λ t. t ++ records_text records) empty
+
+-- and one record alone, by what it is
+pub one-written : (before after : Writer (Vec ℕ)) (row fields : List (List ℕ)) → text_in before ≡ [] → row ≡ fields → Writes before (row ∷ []) after → text_in after ≡ records_text (fields ∷ [])
+one-written before after row fields empty is wrote = all-written before after (row ∷ []) empty wrote ∙ ap (λ r. records_text (r ∷ [])) is
+
 -- the header and the records of the facts were written
 pub file-written : (schema : SchemaValue) (facts : List Fact) (first second third : Writer (Vec ℕ)) (row : List (List ℕ)) → text_in first ≡ [] → row ≡ header_of schema → Writes first (row ∷ []) second
     → Writes second (map (record_of schema) facts) third → text_in third ≡ file_text schema facts
 unfolding file_text
 file-written schema facts first second third row empty is header records =
     records.text
-    ∙ ap (λ t. t ++ records_text (map (record_of schema) facts))
-    (header.text ∙ ap (λ t. t ++ records_text (row ∷ [])) empty ∙ append-nil (row_text default_writer row) ∙ ap (row_text default_writer) is)
+    ∙ ap (λ t. t ++ records_text (map (record_of schema) facts)) (one-written first second row (header_of schema) empty is header ∙ append-nil (row_text default_writer (header_of schema)))
 
--- the row of the columns' names
-pub header-is : (none first second third : Row) (id : List ℕ) (names measures names_are measures_are : List (List ℕ)) → fields_of none ≡ [] → partial_of none ≡ []
-    → fields_of first ≡ fields_of none ++ ((partial_of none ++ id) ∷ []) → IsLonger first names second → IsLonger second measures third → names ≡ names_are → measures ≡ measures_are
-    → fields_of third ≡ id ∷ names_are ++ measures_are
-header-is none first second third id names measures names_are measures_are no_fields no_part added more last same_names same_measures =
-    let front : fields_of first ≡ id ∷ [] = added ∙ ap (λ p. fields_of none ++ ((p ++ id) ∷ [])) no_part ∙ ap (λ l. l ++ (id ∷ [])) no_fields in
-    last.fields_are ∙ ap (λ l. l ++ measures) (more.fields_are ∙ ap (λ l. l ++ names) front) ∙ ap (λ l. id ∷ l ++ measures) same_names ∙ ap (λ l. id ∷ names_are ++ l) same_measures
+-- nothing more is written
+pub Writes-none : (out : Writer (Vec ℕ)) → IsWriting out → Writes out [] out
+Writes-none out writing = record { writing = writing; text = sym (append-nil (text_in out)) }
 
 -- what holds of each item holds of the one at a place
 pub All-at : {X : Type 0} (P : X → Type 0) (xs : List X) (i : ℕ) (x : X) → All P xs → slice_get xs i ≡ Some x → P x

@@ -1,3 +1,5 @@
+pub mod Examples
+pub mod ExtendedRow
 pub mod FactFile
 pub mod FactRow
 pub mod RecordList

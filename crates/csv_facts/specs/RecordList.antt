@@ -50,6 +50,11 @@ abbrev pub IsNext : Bool → List (List (List ℕ)) → List (List ℕ) → List
 IsNext true before row after = before ≡ row ∷ after
 IsNext false before row after = before ≡ []
 
+-- a row of these fields
+pub record IsRow (fields : List (List ℕ)) (row : Row) : Type 0 where
+  pub fields_are : fields_of row ≡ fields
+  pub whole : partial_of row ≡ []
+
 -- a row that more fields stand in, behind those of another
 pub record IsLonger (before : Row) (fields : List (List ℕ)) (after : Row) : Type 0 where
   pub fields_are : fields_of after ≡ fields_of before ++ fields

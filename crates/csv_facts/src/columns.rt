@@ -1,11 +1,12 @@
-//! The header of a file.
-ghost use Rattle.std.specs.Prelude.{◌≡◌, ◌<◌, [], map, length, slice_index_or, IfOk, OnOk};
+//! The headers of files.
+ghost use Rattle.std.specs.Prelude.{◌≡◌, ◌<◌, [], ◌∷◌, codes, map, length, slice_index_or, IfOk, OnOk};
 ghost use Rattle.std.specs.Cmp.Lexicographic.{pointwise};
 ghost use Rattle.std.specs.Str.{bytes_eq};
 ghost use Rattle.csv.specs.Records.{fields_of, partial_of};
 ghost use Rattle.schema_text.specs.Schema.{IsSchema};
+ghost use Rattle.csv_facts.specs.ExtendedRow.{rows_header};
 ghost use Rattle.csv_facts.specs.FactFile.{header_of};
-ghost use Rattle.csv_facts.specs.RecordList.{IsLonger};
+ghost use Rattle.csv_facts.specs.RecordList.{IsLonger, IsRow};
 
 use csv::ByteRecord;
 use cube_base::{Memory, Name};
@@ -18,11 +19,31 @@ pub(crate) fn header_row(alloc: Global, s: &Schema) -> Result<ByteRecord, Memory
     ensures header { IfOk result (λ row. fields_of row ≡ header_of s.now) }
     ensures schema { IsSchema s.now }
 {
+    let mut row = front_row(alloc, s)?;
+    push_measures(&mut row, s.shape())?;
+    Ok(row)
+}
+
+/// The record that names the columns of rows: `id`, the dimensions, `weight`, `of`, the measures.
+pub(crate) fn rows_header_row(alloc: Global, s: &Schema) -> Result<ByteRecord, Memory>
+    ensures { IfOk result (λ row. fields_of row ≡ rows_header s.now) }
+{
+    let mut row = front_row(alloc, s)?;
+    row.push_field(b"weight")?;
+    row.push_field(b"of")?;
+    push_measures(&mut row, s.shape())?;
+    Ok(row)
+}
+
+/// The front of both: `id`, the dimensions.
+fn front_row(alloc: Global, s: &Schema) -> Result<ByteRecord, Memory>
+    ensures row { IfOk result (IsRow (codes "id" ∷ s.now.names)) }
+    ensures schema { IsSchema s.now }
+{
     let names = s.dim_names();
     let mut row = ByteRecord::new(alloc);
     row.push_field(b"id")?;
     push_names(&mut row, names)?;
-    push_measures(&mut row, s.shape())?;
     Ok(row)
 }
 

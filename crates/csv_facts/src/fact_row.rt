@@ -1,13 +1,13 @@
 //! The record of a fact.
-ghost use Rattle.std.specs.Prelude.{◌≡◌, ◌≤◌, ◌++◌, [], length, OnOk};
-ghost use Rattle.std.specs.Fmt.{signed_decimal};
+ghost use Rattle.std.specs.Prelude.{◌≡◌, ◌≤◌, ◌∷◌, ◌++◌, [], length, OnOk};
+ghost use Rattle.std.specs.Fmt.{decimal, signed_decimal};
 ghost use Rattle.csv.specs.Records.{fields_of, partial_of};
 ghost use Rattle.fact_records.specs.Shape.{IsWithin, values_of, width_of, width_of_all};
 ghost use Rattle.fact_records.specs.Valid.{IsFactOf};
 ghost use Rattle.region_algebra.specs.Space.{IsRegion};
 ghost use Rattle.schema_text.specs.Schema.{shape_of};
 ghost use Rattle.csv_facts.specs.FactRow.{names_of, record_of, value_fields, value_text};
-ghost use Rattle.csv_facts.specs.RecordList.{IsLonger};
+ghost use Rattle.csv_facts.specs.RecordList.{IsLonger, IsRow};
 
 use csv::ByteRecord;
 use cube_base::{Cols, Memory};
@@ -27,10 +27,32 @@ pub(crate) fn fill_row(
     requires { IsFactOf (shape_of s.now) s.now.dims fact.now }
     ensures { OnOk result (fields_of row.new ≡ record_of s.now fact.now) }
 {
-    row.clear();
-    row.push_field(Buffer::new().format(fact.id).as_bytes())?;
-    push_nodes(row, s.space(), fact.region)?;
+    start_row(row, s.space(), fact.id, fact.region)?;
     push_values(row, text, s.shape(), fact.cols)
+}
+
+/// Makes a row the front of a record: an id and the names of a region's nodes.
+pub(crate) fn start_row(
+    row: &mut ByteRecord,
+    space: &Space,
+    id: u64,
+    region: Region,
+) -> Result<(), Memory>
+    requires { IsRegion space.now region }
+    ensures { OnOk result (IsRow (decimal id ∷ names_of space.now region) row.new) }
+{
+    row.clear();
+    push_number(row, id)?;
+    push_nodes(row, space, region)
+}
+
+/// Appends a field for a number.
+pub(crate) fn push_number(row: &mut ByteRecord, number: u64) -> Result<(), Memory>
+    requires { partial_of row.old ≡ [] }
+    ensures { OnOk result (IsLonger row.old (decimal number ∷ []) row.new) }
+{
+    row.push_field(Buffer::new().format(number).as_bytes())?;
+    Ok(())
 }
 
 /// Appends a field for each node of a region.
@@ -46,7 +68,7 @@ fn push_nodes(row: &mut ByteRecord, space: &Space, region: Region) -> Result<(),
 }
 
 /// Appends a field for each measure. The text is room for one.
-fn push_values(
+pub(crate) fn push_values(
     row: &mut ByteRecord,
     text: &mut Vec<u8>,
     shape: &Shape,

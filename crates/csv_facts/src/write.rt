@@ -1,15 +1,15 @@
 //! Writing facts.
-ghost use Rattle.std.specs.Prelude.{◌≡◌, [], ◌∷◌, map, All, None, IfOk, OnOk};
-ghost use Rattle.csv.specs.Records.{fields_of};
+ghost use Rattle.std.specs.Prelude.{◌≡◌, map, All, None, IfOk, OnOk};
 ghost use Rattle.fact_records.specs.Valid.{IsFactOf};
 ghost use Rattle.schema_text.specs.Schema.{shape_of};
 ghost use Rattle.csv_facts.specs.FactFile.{facts_in};
 ghost use Rattle.csv_facts.specs.FactRow.{file_text, record_of};
-ghost use Rattle.csv_facts.specs.RecordList.{IsWriting, Writes, records_of, text_in};
+ghost use Rattle.csv_facts.specs.RecordList.{IsWriting, Writes, records_of};
 
 use crate::columns::header_row;
 use crate::fact_row::fill_row;
-use csv::{ByteRecord, Writer, WriterBuilder};
+use crate::record_writer::{new_writer, write_row, written};
+use csv::{ByteRecord, Writer};
 use cube_base::{Bytes, Memory};
 use fact_records::FactList;
 use schema_text::Schema;
@@ -23,7 +23,7 @@ pub fn write_facts(alloc: Global, s: &Schema, facts: &FactList) -> Result<Bytes,
     ensures reads { IfOk result (λ text. facts_in s.now (records_of text) ≡ record { facts = facts.now.facts; bad = None }) }
 {
     let header = header_row(alloc, s)?;
-    let mut out = WriterBuilder::new().from_writer(Vec::new(alloc));
+    let mut out = new_writer(alloc);
     write_row(&mut out, &header)?;
     write_fact_rows(alloc, &mut out, s, facts)?;
     written(out)
@@ -47,25 +47,4 @@ fn write_fact_rows(
         write_row(out, &row)?;
     }
     Ok(())
-}
-
-/// Writes a record.
-fn write_row(out: &mut Writer<Vec<u8>>, row: &ByteRecord) -> Result<(), Memory>
-    requires { IsWriting out.old }
-    ensures { OnOk result (Writes out.old (fields_of row.now ∷ []) out.new) }
-{
-    if out.write_byte_record(row).is_err() {
-        return Err(Memory);
-    }
-    Ok(())
-}
-
-/// What was written.
-fn written(out: Writer<Vec<u8>>) -> Result<Bytes, Memory>
-    ensures { IfOk result (λ text. text ≡ text_in out) }
-{
-    match out.into_inner() {
-        Ok(text) => Ok(Bytes::from(text)),
-        Err(_) => Err(Memory),
-    }
 }

@@ -1,12 +1,11 @@
--- The three parts are the header.
-use Rattle.std.proofs.Common.{ap, map}
+-- The measures stand behind the front.
+use Rattle.std.proofs.Common.{◌∙◌, ◌∷◌, ◌++◌, ap, map}
 use Rattle.std.specs.Prelude.{codes}
 use Rattle.fact_records.specs.Shape.{ShapeValue}
-use Rattle.csv_facts.proofs.RowsWritten.{header-is}
+use Rattle.csv_facts.proofs.FieldsLeft.{IsRow-longer}
 use Rattle.csv_facts.proofs.columns.header_row.Goals as goal
 
 pub returns-clause-header : goal.returns-clause-header
 returns-clause-header c =
-    let e = c.in_ok-push_field.ensures in
-    header-is _ _ _ _ (codes "id") _ _ _ _ c.new-row.ensures.fields c.new-row.ensures.partial e.fields c.in_ok-push_names.ensures c.in_ok-push_measures.ensures c.dim_names-names.ensures.names
-    (ap (λ (shape : ShapeValue). map (λ m. m.name) shape.measures) c.shape.ensures.shape)
+    (IsRow-longer _ _ _ _ c.in_ok-row.ensures.row c.in_ok-push_measures.ensures).fields_are
+    ∙ ap (λ (shape : ShapeValue). codes "id" ∷ c.args.s.now.names ++ map (λ m. m.name) shape.measures) c.shape.ensures.shape

@@ -2,7 +2,7 @@ use Rattle.std.proofs.Common.{◌≡◌, rules, true}
 use Rattle.std.specs.Result.{is_ok}
 use Rattle.csv.specs.Records.{fields_of}
 use Rattle.csv_facts.proofs.RowsWritten.{Writes-row, was-ok}
-use Rattle.csv_facts.proofs.write.write_row.Goals as goal
+use Rattle.csv_facts.proofs.record_writer.write_row.Goals as goal
 
 pub returns : goal.returns
 returns c =
