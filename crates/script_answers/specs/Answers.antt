@@ -118,12 +118,16 @@ abbrev pub rows_answer : Option Allocation → Result Answer Code
 rows_answer None = Err Missing
 rows_answer (Some a) = Ok (told.Rows a.den a.rows)
 
--- what a question is answered, or why it is refused
+-- what a question is answered over a schema with the dimensions of the state, or why it is refused
+abbrev pub answer_over : (CellStat → ℕ) → SchemaValue → State → Question → Result Answer Code
+answer_over weigh schema state (OfRegion word region) = region_answer word weigh schema state region
+answer_over weigh schema state (OfMeasure word measure region) = measure_answer word schema measure (terms_at weigh schema state region)
+answer_over weigh schema state (OfId Rows id) = rows_answer (allocation_of id (rows_at weigh schema state))
+answer_over weigh schema state (OfView View view) = Ok (told.View (view_over weigh schema state.facts view))
+
+-- that over any schema, of which the dimensions are taken from the state
 abbrev pub answer_to : (CellStat → ℕ) → SchemaValue → State → Question → Result Answer Code
-answer_to weigh schema state (OfRegion word region) = region_answer word weigh schema state region
-answer_to weigh schema state (OfMeasure word measure region) = measure_answer word schema measure (terms_at weigh schema state region)
-answer_to weigh schema state (OfId Rows id) = rows_answer (allocation_of id (rows_at weigh schema state))
-answer_to weigh schema state (OfView View view) = Ok (told.View (view_over weigh (schema_at schema state) state.facts view))
+answer_to weigh schema state asked = answer_over weigh (schema_at schema state) state asked
 
 -- the reply under a word, or with the refusal
 abbrev pub reply_of : AskWord → Result Answer Code → Reply

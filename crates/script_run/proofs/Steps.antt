@@ -1,30 +1,17 @@
 -- What a line does, by how it is read.
-use Rattle.std.proofs.Common.{◌≡◌, ℕ, List, [], ◌∷◌, Result, Ok, Err, refl, ap}
+use Rattle.std.proofs.Common.{◌≡◌, ℕ, List, Result, Ok, Err, refl, ap}
 use Rattle.cube_base.specs.declared.code.Code.{Code}
 use Rattle.cube_model.specs.declared.edit.Fact.{Fact}
 use Rattle.cube_model.specs.declared.statistic.CellStat.{CellStat}
-use Rattle.cube_model.specs.declared.term.Term.{Term}
 use Rattle.schema_text.specs.Schema.{SchemaValue}
 use Rattle.script_text.specs.declared.line.Line.{Line}
 use Rattle.script_text.specs.declared.line.Line.TheVariants as line
-use Rattle.script_text.specs.declared.line.Question.TheVariants as question
-use Rattle.script_text.specs.declared.word.AskWord.TheVariants as asks
-use Rattle.script_text.specs.declared.word.IdWord.TheVariants.{Rows}
-use Rattle.script_text.specs.declared.word.MeasureWord.TheVariants.{Sum, Avg, Pool}
-use Rattle.script_text.specs.declared.word.RegionWord.TheVariants.{Count, Terms, Worlds}
-use Rattle.script_text.specs.declared.word.ViewWord.TheVariants.{View}
 use Rattle.script_text.specs.ScriptLine.{line_of}
-use Rattle.script_answers.specs.Answers.{pool_answer, reply_of}
-use Rattle.script_run.specs.Run.{State, replied, schema_at, step, step_from, terms_at}
+use Rattle.script_run.specs.Run.{State, schema_at, step, step_from}
 
 pub step-read : (weigh : CellStat → ℕ) (schema : SchemaValue) (state : State) (bytes : List ℕ) (read : Result Line Code) → line_of (schema_at schema state) bytes ≡ read → step weigh schema state bytes ≡ step_from weigh schema state read
 unfolding step
 step-read weigh schema state bytes read is_read = ap (step_from weigh schema state) is_read
-
--- the measures of a schema stay where its dimensions are a state's
-pool-here : (schema : SchemaValue) (state : State) (measure : ℕ) (terms : List Term) → pool_answer (schema_at schema state) measure terms ≡ pool_answer schema measure terms
-pool-here schema state measure [] = refl
-pool-here schema state measure (term ∷ terms) = refl
 
 -- what is read does at a schema with the dimensions of the state what it does at the schema
 said-here : (weigh : CellStat → ℕ) (schema : SchemaValue) (state : State) (read : Result Line Code) → step_from weigh (schema_at schema state) state read ≡ step_from weigh schema state read
@@ -32,15 +19,7 @@ said-here weigh schema state (Err refusal) = refl
 said-here weigh schema state (Ok line.Nothing) = refl
 said-here weigh schema state (Ok (line.Edit change)) = refl
 said-here weigh schema state (Ok (line.Grow grow)) = refl
-said-here weigh schema state (Ok (line.Ask (question.OfRegion Count region))) = refl
-said-here weigh schema state (Ok (line.Ask (question.OfRegion Terms region))) = refl
-said-here weigh schema state (Ok (line.Ask (question.OfRegion Worlds region))) = refl
-said-here weigh schema state (Ok (line.Ask (question.OfMeasure Sum measure region))) = refl
-said-here weigh schema state (Ok (line.Ask (question.OfMeasure Avg measure region))) = refl
-said-here weigh schema state (Ok (line.Ask (question.OfMeasure Pool measure region))) =
-    ap (λ answered. replied state (reply_of (asks.OfMeasure Pool) answered)) (pool-here schema state measure (terms_at weigh schema state region))
-said-here weigh schema state (Ok (line.Ask (question.OfId Rows id))) = refl
-said-here weigh schema state (Ok (line.Ask (question.OfView View view))) = refl
+said-here weigh schema state (Ok (line.Ask asked)) = refl
 
 -- and so does a line
 pub step-here : (weigh : CellStat → ℕ) (schema here : SchemaValue) (facts : List Fact) (state : State) (bytes : List ℕ) → here ≡ schema_at schema state → facts ≡ state.facts
