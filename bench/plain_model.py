@@ -59,8 +59,7 @@ FINISHED, FINISHED_WITH_REFUSALS, USAGE, SCHEMA_REFUSED = range(4)
 # The lines and commands of tables, which the program does not have yet: they are known where this is set.
 HAS_TABLES = "CUBE_TABLES" in os.environ
 
-USAGE_TEXT = "usage: cube try, init NAME, run NAME, check NAME, import NAME, export NAME, drill N"
-TABLES_USAGE_TEXT = "usage: cube try, init NAME, run NAME, ask NAME WORD.., check NAME, import NAME, export NAME, schema NAME, rows NAME, drill N"
+USAGE_TEXT = "usage: cube try, init NAME, run NAME, check NAME, import NAME, export NAME, drill N, schema NAME, rows NAME"
 
 
 # Facts, and how they lie.
@@ -650,7 +649,7 @@ def ask(schema, facts, words):
 def run(words, text):
     """What the program writes for the words of its command line and its input, its status, and its standard error."""
     if words != ["try"]:
-        return b"", USAGE, f"cube: {TABLES_USAGE_TEXT if HAS_TABLES else USAGE_TEXT}\n".encode()
+        return b"", USAGE, f"cube: {USAGE_TEXT}\n".encode()
     try:
         schema, script = read_schema(lines_of(text))
     except SchemaFault as fault:

@@ -35,8 +35,9 @@ def call(program, words, text=b""):
 
 
 def table_calls(path):
-    """The words of commands over a store that came with tables. They read no input."""
-    return [["ask", path, "withdraw", "1"], ["schema", path], ["rows", path]] if HAS_TABLES else []
+    """The words of commands over a store that read no input."""
+    asked = [["ask", path, "withdraw", "1"]] if HAS_TABLES else []
+    return [*asked, ["schema", path], ["rows", path]]
 
 
 class Wrong(Exception):
@@ -97,9 +98,8 @@ def must_hold(program, path, schema, facts, when):
     must(found_text, text, f"text of the schema after {when}")
     must(found, kept, f"facts of the tables after {when}")
     must(found_rows, rows, f"rows of the tables after {when}")
-    if HAS_TABLES:
-        must(call(program, ["schema", path], NOT_READ), (text, 0, b""), f"schema after {when}")
-        must(call(program, ["rows", path], NOT_READ), (plain_model.rows_file(schema, facts), 0, b""), f"rows after {when}")
+    must(call(program, ["schema", path], NOT_READ), (text, 0, b""), f"schema after {when}")
+    must(call(program, ["rows", path], NOT_READ), (plain_model.rows_file(schema, facts), 0, b""), f"rows after {when}")
 
 
 # Random scripts in pieces.

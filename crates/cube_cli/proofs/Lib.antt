@@ -11,6 +11,8 @@ pub mod Known
 pub mod Making
 pub mod Names
 pub mod Opening
+pub mod Parts
+pub mod RowFile
 pub mod Putting
 pub mod Running
 pub mod SchemaPieces

@@ -10,7 +10,7 @@ use Rattle.cube_cli.specs.declared.command.Command.TheVariants.{Drill, Store, Tr
 use Rattle.cube_cli.specs.declared.command.StoreCommand.{StoreCommand}
 use Rattle.cube_cli.specs.declared.command.StoreCommand.TheVariants.{Init, Input, Tell}
 use Rattle.cube_cli.specs.declared.store.InputTask.TheVariants.{Run, Import}
-use Rattle.cube_cli.specs.declared.telling.Telling.TheVariants.{Check, Export, Schema}
+use Rattle.cube_cli.specs.declared.telling.Telling.TheVariants.{Check, Export, Schema, Rows}
 
 -- the drill of the number that bytes spell
 abbrev pub drill_named : List ℕ → Option Command
@@ -24,7 +24,8 @@ store_command word =
     else (if bytes_eq word (codes "check") then Some (Tell Check)
     else (if bytes_eq word (codes "import") then Some (Input Import)
     else (if bytes_eq word (codes "export") then Some (Tell Export)
-    else (if bytes_eq word (codes "schema") then Some (Tell Schema) else None)))))
+    else (if bytes_eq word (codes "schema") then Some (Tell Schema)
+    else (if bytes_eq word (codes "rows") then Some (Tell Rows) else None))))))
 
 -- that over the store of a name, which is not empty
 abbrev pub store_named : List ℕ → List ℕ → Option Command

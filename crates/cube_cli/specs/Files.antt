@@ -15,10 +15,11 @@ use Rattle.edit_plan.specs.Whole.{difference_with}
 use Rattle.schema_text.specs.Schema.{SchemaValue, shape_of}
 use Rattle.schema_text.specs.SchemaText.{schema_text}
 use Rattle.csv_facts.specs.FactFile.{facts_in}
+use Rattle.csv_facts.specs.ExtendedRow.{extended_text}
 use Rattle.csv_facts.specs.FactRow.{file_text}
 use Rattle.csv_facts.specs.RecordList.{records_of}
 use Rattle.cube_cli.specs.declared.telling.Telling.{Telling}
-use Rattle.cube_cli.specs.declared.telling.Telling.TheVariants.{Check, Export, Schema}
+use Rattle.cube_cli.specs.declared.telling.Telling.TheVariants.{Check, Export, Schema, Rows}
 use Rattle.cube_cli.specs.declared.end.End.{End}
 use Rattle.cube_cli.specs.declared.end.End.TheVariants.{BadRecord, ImportRows}
 
@@ -27,11 +28,12 @@ abbrev pub count_line : List ℕ → ℕ → ℕ → List ℕ
 count_line word first second = line_text word (decimal first ∷ decimal second ∷ [])
 
 -- What is told of facts over a schema: by `check` their number and that of their rows, by `export` their file, by `schema` the one text of
--- the schema.
+-- the schema, by `rows` the file of their rows.
 abbrev pub text_told : Telling → Policy → SchemaValue → List Fact → List ℕ
 text_told Check policy schema facts = count_line (codes "sound") (length facts) (row_count (extended policy schema.dims facts))
 text_told Export policy schema facts = file_text schema facts
 text_told Schema policy schema facts = schema_text schema
+text_told Rows policy schema facts = extended_text schema (extended policy schema.dims facts)
 
 -- the facts of a file, and the record that could not be read
 abbrev pub seq_of : SchemaValue → List ℕ → FactSeq

@@ -6,6 +6,7 @@ pub mod Expectations
 pub mod Files
 pub mod Kinds
 pub mod Loaded
+pub mod Rows
 pub mod RunEnd
 pub mod SchemaAlone
 pub mod SchemaLines

@@ -54,7 +54,7 @@ pub enum StoreCommand {
 /// The words `drill` and a number from 1 to 100,000, which has one spelling, do the drill of the number, and write its line. No input
 /// is taken. Neither of these calls the keeper.
 ///
-/// The words `init`, `run`, `check`, `import`, `export` and `schema` each take the name of a store, which is not empty, and load it first. `init` takes a schema
+/// The words `init`, `run`, `check`, `import`, `export`, `schema` and `rows` each take the name of a store, which is not empty, and load it first. `init` takes a schema
 /// alone, keeps its one canonical text as the batch of a store in which there was nothing, and answers `ok` and 0. `run` does the lines of the
 /// input on the cube of the store, as they come. Each edit and each growth that is accepted commits one batch before it is answered, and all
 /// replies before it are written by then: the store holds at each stop what the first `done` lines made of it. `check` takes no input and
@@ -65,7 +65,7 @@ pub enum StoreCommand {
 /// batch or none: where a record is refused, the first one's index, from 0 for the header, and its code are told. The reply is `imported`
 /// with the number of facts in the file and that of the facts that are new or lie otherwise than before. `export` takes no input and
 /// writes such a file of all facts, in order of their ids. `schema` takes no input and writes the canonical text of the schema, whatever text is
-/// kept. Neither commits anything.
+/// kept. `rows` takes no input and writes a CSV file of the rows of all facts, in order of ids and cells, part by part. None of these commits anything.
 ///
 /// What is answered over the facts and the dimensions as they stand after each number of lines is the exact expectation over all possible
 /// worlds of the facts, in each of which every fact stands in one cell of its allocation; and where a node of a region has children, the
@@ -149,6 +149,8 @@ fn store_command(word: &[u8]) -> Option<StoreCommand>
         Some(StoreCommand::Tell(Telling::Export))
     } else if is_text(word, "schema") {
         Some(StoreCommand::Tell(Telling::Schema))
+    } else if is_text(word, "rows") {
+        Some(StoreCommand::Tell(Telling::Rows))
     } else {
         None
     }

@@ -7,6 +7,7 @@ mod end;
 mod importing;
 mod init;
 mod laws;
+mod row_file;
 mod run_end;
 mod saying;
 mod schema_alone;

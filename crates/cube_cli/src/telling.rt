@@ -1,5 +1,5 @@
 //! The commands that tell what a store holds.
-ghost use Rattle.std.specs.Prelude.{◌≡◌, IfOk, Some};
+ghost use Rattle.std.specs.Prelude.{◌≡◌, Some};
 ghost use Rattle.schema_text.specs.Schema.{policy_in, weigh_of};
 ghost use Rattle.script_run.specs.Seen.{KeeperSeen, SourceSeen, keeper_seen, sink_seen};
 ghost use Rattle.cube_cli.specs.declared.command.Command.TheVariants as command;
@@ -8,14 +8,15 @@ ghost use Rattle.cube_cli.specs.End.{SaysOf};
 ghost use Rattle.cube_cli.specs.Files.{text_told};
 ghost use Rattle.cube_cli.specs.Loaded.{LoadedOnce};
 ghost use Rattle.cube_cli.specs.Seen.{Holds, WasNotCalled, WasNotRead};
-ghost use Rattle.cube_cli.specs.Steps.{HoldsSchema};
+ghost use Rattle.cube_cli.specs.Steps.{HoldsSchema, WritesText};
 
 use crate::End;
+use crate::row_file::write_all_rows;
 use crate::run_end::{end_of_load, end_of_open, end_of_write};
 use crate::saying::{count_line, write_text};
 use crate::store::open_store;
 use csv_facts::write_facts;
-use cube_base::{Bytes, Memory, Sink};
+use cube_base::{Sink, SinkError};
 use cube_core::Cube;
 use fact_keeper::{Keeper, Stored};
 use schema_text::{PolicyWord, Schema, write_schema};
@@ -30,6 +31,8 @@ pub enum Telling {
     Export,
     /// The one text of its schema.
     Schema,
+    /// The rows of its facts, as a file.
+    Rows,
 }
 
 /// Audits the store of a name, and tells of it. No input is taken, and nothing is committed.
@@ -65,22 +68,31 @@ fn tell_store<K: Sink>(
     let policy = schema.policy();
     match Cube::from_stored(alloc, schema, content, policy) {
         Ok(cube) => {
-            let text = text_of(alloc, telling, &cube);
+            let told = write_told(alloc, telling, &cube, out);
             // Dropped by a call, which is proved once: in place it would be proved on each way out.
             drop(cube);
-            end_of_write(write_text(out, text), 0, 0)
+            end_of_write(told, 0, 0)
         }
         Err(fault) => end_of_load(fault),
     }
 }
 
-// What is told of a cube.
-fn text_of(alloc: Global, telling: Telling, cube: &Cube<PolicyWord>) -> Result<Bytes, Memory>
-    ensures { IfOk result (λ text. text ≡ text_told telling (policy_in (weigh_of cube.now.policy) cube.now.schema) cube.now.schema cube.now.facts) }
+// Writes what is told of a cube.
+fn write_told<K: Sink>(
+    alloc: Global,
+    telling: Telling,
+    cube: &Cube<PolicyWord>,
+    out: &mut K,
+) -> Result<(), SinkError>
+    ensures { WritesText (text_told telling (policy_in (weigh_of cube.now.policy) cube.now.schema) cube.now.schema cube.now.facts) (sink_seen K.tells out.old out.new) result }
 {
     match telling {
-        Telling::Check => count_line(alloc, b"sound", cube.facts().len(), cube.row_count()),
-        Telling::Export => write_facts(alloc, cube.schema(), cube.facts()),
-        Telling::Schema => write_schema(alloc, cube.schema()),
+        Telling::Check => {
+            let counts = count_line(alloc, b"sound", cube.facts().len(), cube.row_count());
+            write_text(out, counts)
+        }
+        Telling::Export => write_text(out, write_facts(alloc, cube.schema(), cube.facts())),
+        Telling::Schema => write_text(out, write_schema(alloc, cube.schema())),
+        Telling::Rows => write_all_rows(alloc, cube, out),
     }
 }

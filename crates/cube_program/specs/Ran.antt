@@ -16,14 +16,14 @@ told_by keeper = record { content = None; journal = None; name = keeper.name; lo
 
 -- a keeper that has opened no file
 abbrev pub NEW : Opened
-NEW = record { name = None; loads = 0; is_open = false; faults = 0 }
+NEW = record { name = None; loads = 0; is_open = false; faults = 0; reason = None }
 
 -- A run of these words has this exit status: it is that of an end, which says of what is seen what the end of every run says. The keeper
 -- of the run was new, and is dropped with it.
-pub record Ran (words : List (List ℕ)) (seen : Opened → SeenAll) (status : ℕ) : Type 0 where
+pub record Ran (words : List (List ℕ)) (seen : Opened → SeenAll) (exit : ℕ) : Type 0 where
   pub end : End
   pub keeper : Opened
-  pub status : status ≡ status_of end
+  pub status : exit ≡ status_of end
   pub says : Says words (seen keeper) end
   pub complete : IsComplete words (seen keeper) end
   pub loaded : Loads (doing_of (command_of words)).stores (second_word words) (told_by NEW) (told_by keeper) (seen keeper) end

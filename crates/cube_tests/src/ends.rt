@@ -52,7 +52,7 @@ const ENDS: [(Ending, u8, &str); 14] = [
     (
         Ending::Usage,
         2,
-        "cube: usage: cube try, init NAME, run NAME, check NAME, import NAME, export NAME, drill N, schema NAME",
+        "cube: usage: cube try, init NAME, run NAME, check NAME, import NAME, export NAME, drill N, schema NAME, rows NAME",
     ),
     (
         Ending::Schema {

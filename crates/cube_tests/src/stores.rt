@@ -333,9 +333,17 @@ fn is_tried(alloc: Global) -> Result<bool, Memory> {
 type Call = (&'static str, &'static str, u64, &'static str, usize);
 
 /// What the script leaves is sound, and is worked on by a later run: three facts with four rows, and the fact of id 4.
-const CALLS: [Call; 3] = [
+const CALLS: [Call; 5] = [
     ("run", SCRIPT, 1, REPLIES, 0),
     ("check", "x", 0, "sound\t3\t4\n", 1),
+    ("schema", "x", 0, CITIES, 1),
+    (
+        "rows",
+        "x",
+        0,
+        "id,Place,weight,of,Hours\n1,Austin,1,1,10\n2,Dallas,1,1,20\n4,Austin,1,2,40\n4,Dallas,1,2,40\n",
+        1,
+    ),
     (
         "run",
         "rows\t4\nwithdraw\t1\n",

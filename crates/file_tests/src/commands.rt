@@ -37,7 +37,7 @@ const REFUSED: &str =
 
 /// What is told where the words name no command.
 const USAGE: &str =
-    "cube: usage: cube try, init NAME, run NAME, check NAME, import NAME, export NAME, drill N, schema NAME\n";
+    "cube: usage: cube try, init NAME, run NAME, check NAME, import NAME, export NAME, drill N, schema NAME, rows NAME\n";
 
 /// The words, the input, the read and the write that fail, what is written, what is told of the end, and the status.
 type Call = (
@@ -275,7 +275,12 @@ fn is_answered(rt: &HostRuntime, call: &Call) -> Result<bool, AllocError> {
 }
 
 fn are_answered(rt: &HostRuntime, calls: &[Call]) -> bool {
-    calls.iter().all(|call| is_answered(rt, call) == Ok(true))
+    for call in calls {
+        if is_answered(rt, call) != Ok(true) {
+            return false;
+        }
+    }
+    true
 }
 
 #[test]
