@@ -2,7 +2,7 @@
 use Rattle.iter_alloc.specs.declared.spots.First.{First}
 use Rattle.cube_model.specs.Cells.{cells_of}
 use Rattle.cube_model.specs.Tree.{Dimension}
-use Rattle.iter_alloc.proofs.Claiming.{length-range, range-roots, step}
+use Rattle.iter_alloc.proofs.Claiming.{length-range, range-roots}
 use Rattle.iter_alloc.proofs.Roots.{roots-low}
 use Rattle.iter_alloc.specs.Claims.{Claimed, owner_of, claim_from, claim_cell, claim_cells, claim_regions, unclaimed, AreClaimed, roots_of}
 use Rattle.iter_alloc.specs.Forest.{at, IsForest, AreRoots, relabelled, AreOwnRoots}

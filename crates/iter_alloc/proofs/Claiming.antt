@@ -4,7 +4,6 @@ use Rattle.cube_model.specs.Tree.{Dimension}
 use Rattle.iter_alloc.proofs.Roots.{renamed, renamed-both, renamed-cases, at-relabelled}
 use Rattle.iter_alloc.proofs.Tests.{itself, equal, or-left, or-right}
 use Rattle.iter_alloc.specs.Claims.{Claimed, owner_of, claim_from, claim_cell, claim_cells, claim_regions, unclaimed, roots_of}
-use Rattle.iter_alloc.specs.Components.{here}
 use Rattle.iter_alloc.specs.Forest.{at, AreRoots, relabelled}
 use Rattle.std.proofs.Common.{◌≡◌, ℕ, zero, suc, ◌+◌, ◌<◌, ◌≤◌, ◌≢◌, Bool, true, false, List, [], ◌∷◌, ◌++◌, get_or, length, refl, ap, sym, ◌∙◌, subst, arith, inl, inr, ◌⊎◌, add-one}
 use Rattle.std.proofs.lemmas.Bool.{cases_eq}

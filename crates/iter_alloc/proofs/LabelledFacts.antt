@@ -7,17 +7,17 @@ use Rattle.cube_model.specs.Tree.{Dimension, IsTree}
 use Rattle.fact_groups.proofs.Ascending.{ascends-from_pairs}
 use Rattle.iter_alloc.proofs.Chains.{IsImage, image, among-images, touching-from, touching-shown, same-components}
 use Rattle.iter_alloc.proofs.Claiming.{IsHolder, Way, AreRooted, step, stay}
-use Rattle.iter_alloc.proofs.InSpots.{place-within, IsFirst, HasSpot, AreSpotted}
+use Rattle.iter_alloc.proofs.InSpots.{IsFirst, HasSpot, AreSpotted}
 use Rattle.iter_alloc.proofs.Joined.{labelled-facts}
+use Rattle.iter_alloc.proofs.SpotRegions.{has-spot, in-spots, region-of_spot}
 use Rattle.iter_alloc.proofs.Tests.{itself}
-use Rattle.iter_alloc.specs.Components.{Chain, Labelled, joined, labelled, labels, facts_of, IsReached, AreComponents, here, next}
+use Rattle.iter_alloc.specs.Components.{Chain, Labelled, labelled, labels, facts_of, IsReached, AreComponents, here, next}
 use Rattle.iter_alloc.specs.Counting.{ArePlacedIn}
 use Rattle.iter_alloc.specs.Forest.{at, AreOwnRoots}
-use Rattle.iter_alloc.specs.Spotting.{first_of, codes_of, spot_of, spot_in, regions_of, label_in, labels_by}
+use Rattle.iter_alloc.specs.Spotting.{first_of, spot_of, spot_in, regions_of, label_in, labels_by}
 use Rattle.iter_alloc.specs.Touching.{touch}
-use Rattle.region_algebra.proofs.Tuples.{code_of-same}
 use Rattle.region_algebra.proofs.Turns.{cells-some}
-use Rattle.region_algebra.specs.Space.{code_of, IsRegion}
+use Rattle.region_algebra.specs.Space.{IsRegion}
 use Rattle.std.proofs.Common.{◌≡◌, ℕ, ◌<◌, ◌≤◌, Bool, true, false, List, [], ◌∷◌, get_or, length, map, refl, ap, sym, ◌∙◌, subst, arith, inl, inr, ◌⊎◌}
 use Rattle.std.proofs.lemmas.Bool.{cases_lt, cases_order}
 use Rattle.std.proofs.lemmas.List.{length-map, get_or_default, get_or-map}
@@ -68,10 +68,10 @@ module _ (dims : List Dimension) (facts : List Fact) (firsts : List First) (spot
     pub several : is_precise dims f ≡ false
 
   spread-has : (f : Fact) → IsSpread f → HasSpot dims firsts f
-  spread-has f is = All-contains (λ f. is_precise dims f ≡ false → HasSpot dims firsts f) facts f are.each is.among is.several
+  spread-has f is = has-spot dims facts firsts spots trees placed are f is.among is.several
 
   pub spot-within : (f : Fact) → IsSpread f → spot f < length firsts
-  spot-within f is = omega (arith, (place-within (codes_of dims firsts) (code_of dims f.region) (spread-has f is).has).0, length-map firsts (λ (h : First). code_of dims h.region))
+  spot-within f is = in-spots dims facts firsts spots trees placed are f is.among is.several
 
   first-at : (s : ℕ) → s < length firsts → IsFirst dims facts (get_or firsts s none)
   first-at s within = are.firsts s none within
@@ -88,13 +88,7 @@ module _ (dims : List Dimension) (facts : List Fact) (firsts : List First) (spot
 
   -- the region of a spot is that of its facts
   pub spot-region : (f : Fact) → IsSpread f → get_or (regions_of firsts) (spot f) [] ≡ f.region
-  spot-region f is =
-      let within = spot-within f is in
-      let first = first-at (spot f) within in
-      let same_region : (get_or firsts (spot f) none).region ≡ first.fact.region = ap (λ (h : First). h.region) (sym first.is) in
-      let code_at = sym (get_or-map (λ (h : First). code_of dims h.region) firsts (spot f) none 0 within) ∙ (place-within (codes_of dims firsts) (code_of dims f.region) (spread-has f is).has).1 in
-      let codes : code_of dims first.fact.region ≡ code_of dims f.region = ap (λ (r : List ℕ). code_of dims r) (sym same_region) ∙ code_at in
-      region-at (spot f) within ∙ same_region ∙ code_of-same dims first.fact.region f.region trees (region-placed first.fact first.among) (region-placed f is.among) codes
+  spot-region f is = region-of_spot dims facts firsts spots trees placed are f is.among is.several
 
   regions-long : length (regions_of firsts) ≡ length firsts
   regions-long = length-map firsts (λ (h : First). h.region)

@@ -1,6 +1,5 @@
 -- The roots of places stay where a way is halved, and of two trees that are joined the lesser root stays.
 use Rattle.iter_alloc.proofs.Tests.{itself, equal, unequal}
-use Rattle.iter_alloc.specs.Components.{here}
 use Rattle.iter_alloc.specs.Forest.{at, IsForest, AreRoots, relabelled}
 use Rattle.std.proofs.Common.{◌≡◌, ℕ, zero, suc, ◌+◌, ◌<◌, ◌≤◌, ◌≢◌, Bool, true, false, List, [], ◌∷◌, ◌++◌, set, take, length, refl, ap, sym, ◌∙◌, subst, arith, inl, inr, ◌⊎◌, min, max}
 use Rattle.std.proofs.lemmas.Bool.{cases_lt, cases_eq}

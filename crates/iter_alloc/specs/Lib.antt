@@ -4,6 +4,10 @@ pub mod Counting
 pub mod Examples
 pub mod Forest
 pub mod Iterated
+pub mod LaidOut
+pub mod Marks
+pub mod Places
+pub mod Portions
 pub mod Rounds
 pub mod Spotting
 pub mod Touching

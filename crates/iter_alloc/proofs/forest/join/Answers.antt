@@ -1,7 +1,7 @@
 -- Both roots are found, and the lesser becomes the parent of the greater.
 use Rattle.iter_alloc.proofs.forest.join.Goals as goal
 use Rattle.iter_alloc.proofs.Roots.{joined-found}
-use Rattle.std.proofs.Common.{◌∙◌, min, max}
+use Rattle.std.proofs.Common.{◌∙◌}
 
 pub returns-clause-roots : goal.returns-clause-roots
 returns-clause-roots c = λ roots are.

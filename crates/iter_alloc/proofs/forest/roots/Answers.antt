@@ -3,7 +3,7 @@ use Rattle.iter_alloc.proofs.forest.roots.Goals as goal
 use Rattle.iter_alloc.proofs.forest.roots.Goals.{then-parent-i, else-parent-i}
 use Rattle.iter_alloc.proofs.Roots.{Rooting, rooting-next, root-then, root-else}
 use Rattle.iter_alloc.specs.Forest.{at}
-use Rattle.std.proofs.Common.{◌≡◌, ℕ, ◌+◌, true, false, List, sym, ◌∙◌, subst, arith}
+use Rattle.std.proofs.Common.{◌≡◌, ℕ, ◌+◌, List, sym, ◌∙◌, subst, arith}
 use Rattle.std.proofs.lemmas.List.{get_or_default}
 use Rattle.std.specs.Prelude.{◌==◌, if◌then◌else◌}
 

@@ -5,7 +5,6 @@ use Rattle.fact_groups.proofs.Ascending.{ascends-from_pairs}
 use Rattle.fact_records.specs.FactList.{IsAscending}
 use Rattle.iter_alloc.proofs.Chains.{same-along, joined-by_label, least-reached, kept-by_labels, same-components}
 use Rattle.iter_alloc.proofs.Joined.{AreLabelled, labelled-facts}
-use Rattle.iter_alloc.proofs.Tests.{equal}
 use Rattle.iter_alloc.specs.Components.{Chain, Labelled, labelled, facts_of, AreComponents}
 use Rattle.std.proofs.Common.{◌≡◌, ◌≤◌, List, refl, sym, ◌∙◌, subst, arith}
 use Rattle.std.specs.List.{Contains}

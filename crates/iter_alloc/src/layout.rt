@@ -1,0 +1,99 @@
+//! Cells at places, in the order in which spots have them.
+ghost use Rattle.std.specs.Prelude.{◌≡◌, ◌≤◌, All, [], length, nat_eq, map, if◌then◌else◌, IfOk, OnOk};
+ghost use Rattle.cube_model.specs.Cells.{cells_of};
+ghost use Rattle.cube_model.specs.Limits.{MAX_CELLS};
+ghost use Rattle.region_algebra.specs.Space.{IsRegion};
+ghost use Rattle.indexmap.specs.IndexSet.{insert_key};
+ghost use Rattle.iter_alloc.specs.LaidOut.{AreLaidOut, AreNumbered, AreOwnPlaces};
+ghost use Rattle.iter_alloc.specs.Spotting.{place_in};
+
+use crate::rounds::Span;
+use crate::spots::First;
+use cube_base::Memory;
+use cube_model::Region;
+use indexmap::IndexSet;
+use region_algebra::Space;
+use std::alloc::Global;
+
+/// Cells at their places, and the places of the cells of each spot, one spot's behind the other's.
+#[derive(Debug, Drop)]
+pub(crate) struct Layout {
+    pub(crate) cells: IndexSet<u64>,
+    pub(crate) flat: Vec<usize>,
+    pub(crate) spans: Vec<Span>,
+}
+
+/// Gives places to the cells of the spots that are marked. The others have none.
+pub(crate) fn lay_out(
+    alloc: Global,
+    space: &Space,
+    firsts: &[First],
+    marks: &[bool],
+    members: &[u64],
+) -> Result<Layout, Memory>
+    requires regions { All (λ first. IsRegion space.now first.region) firsts.now }
+    requires sizes { All (λ first. length (cells_of space.now first.region) ≤ MAX_CELLS) firsts.now }
+    requires marks { length marks.now ≡ length firsts.now }
+    requires members { length members.now ≡ length firsts.now }
+    ensures { IfOk result (λ layout. AreLaidOut space.now firsts.now marks.now members.now (length firsts.now) layout.cells.keys layout.flat.items layout.spans.items) }
+{
+    let mut cells = IndexSet::new(alloc);
+    let mut flat = Vec::new(alloc);
+    let mut spans = Vec::new(alloc);
+    for i in 0..firsts.len() {
+        let len = add_spot(space, firsts[i].region, marks[i], &mut cells, &mut flat)?;
+        spans.push(Span {
+            len,
+            members: members[i],
+        })?;
+    }
+    Ok(Layout { cells, flat, spans })
+}
+
+/// Appends the places of a spot's cells if it is marked, and tells how many there are.
+fn add_spot(
+    space: &Space,
+    r: Region,
+    is_marked: bool,
+    cells: &mut IndexSet<u64>,
+    flat: &mut Vec<usize>,
+) -> Result<usize, Memory>
+    requires region { IsRegion space.now r }
+    requires size { length (cells_of space.now r) ≤ MAX_CELLS }
+    requires own { AreOwnPlaces cells.old.keys }
+    ensures len { IfOk result (λ len. len ≡ length (if is_marked then cells_of space.now r else [])) }
+    ensures numbered { OnOk result (AreNumbered cells.old.keys cells.new.keys flat.old.items flat.new.items (if is_marked then cells_of space.now r else [])) }
+{
+    if !is_marked {
+        return Ok(0);
+    }
+    add_cells(space, r, cells, flat)?;
+    Ok(space.cell_count(r) as usize)
+}
+
+/// Appends the places of a region's cells.
+fn add_cells(
+    space: &Space,
+    r: Region,
+    cells: &mut IndexSet<u64>,
+    flat: &mut Vec<usize>,
+) -> Result<(), Memory>
+    requires region { IsRegion space.now r }
+    requires own { AreOwnPlaces cells.old.keys }
+    ensures { OnOk result (AreNumbered cells.old.keys cells.new.keys flat.old.items flat.new.items (cells_of space.now r)) }
+{
+    for cell in space.cells(r) {
+        let place = place_of(cells, cell)?;
+        flat.push(place)?;
+    }
+    Ok(())
+}
+
+/// The place of a cell, which is a new one where the cell has none.
+fn place_of(cells: &mut IndexSet<u64>, cell: u64) -> Result<usize, Memory>
+    ensures keys { OnOk result (cells.new.keys ≡ insert_key nat_eq cells.old.keys cell) }
+    ensures place { IfOk result (λ place. place ≡ place_in cells.old.keys cell) }
+{
+    let (place, _) = cells.insert_full(cell)?;
+    Ok(place)
+}
