@@ -26,12 +26,17 @@ import plain_table_rows
 from plain_model import HAS_TABLES
 
 SECONDS = 60
+FAILED = 8  # the status where a store fails
 
 
 def call(program, words, text=b""):
-    """What the program writes, its status, and what it says on standard error."""
+    """What the program writes, its status, and what it says on standard error, without the line that says why a store failed."""
     done = subprocess.run([program, *words], input=text, capture_output=True, timeout=SECONDS)
-    return done.stdout, done.returncode, done.stderr
+    said = done.stderr
+    if done.returncode == FAILED:
+        reason, said = said.split(b"\n", 1)
+        must(reason.startswith(b"cube: %b: " % words[1].encode()), True, f"reason in {reason!r}")
+    return done.stdout, done.returncode, said
 
 
 def table_calls(path):

@@ -158,7 +158,7 @@ const NOT_MADE: [&str; 5] = [
 ];
 
 fn is_made(rt: &HostRuntime, path: &str) -> bool {
-    fs::exists(rt, path) != Ok(false)
+    !matches!(fs::exists(rt, path), Ok(false))
 }
 
 #[test]
