@@ -4,8 +4,6 @@
 First come the worked examples, then so many cases. Compared are each byte of standard output, the status and standard
 error. At the first difference the input is written to a file, and the status is 1. A case is made from the seed and its
 number alone. At the end is printed how often each status and each code came.
-
-Where CUBE_TABLES is set, there are lines of tables among them, and words of the commands that write them.
 """
 import re
 import subprocess
@@ -20,7 +18,6 @@ sys.dont_write_bytecode = True
 import plain_drill
 import plain_model
 import plain_model_rows
-from plain_model import HAS_TABLES
 
 SECONDS = 60  # that the program may take for an input
 USAGE_EACH = 50  # one case of so many has words that are no command
@@ -28,9 +25,8 @@ DRILLS = [1, 2, 3, 4, 7, 16, 29, 52, 64, 81, 100, 150]  # facts; the plain model
 WRONG_WORDS = [
     *([], [""], ["Try"], ["try", ""], ["try", "x"], ["try\n"], ["\udcff"]),
     *(["help"], ["--help"], ["run"], ["drill", "0"]),
+    *(["ask"], ["ask", "s"], ["ask", "", "count"], ["Ask", "s", "count"], ["schema"], ["schema", "s", "t"], ["rows"], ["rows", "s", ""]),
 ]
-if HAS_TABLES:
-    WRONG_WORDS += [["ask"], ["ask", "s"], ["Ask", "s", "count"], ["schema"], ["schema", "s", "t"], ["rows"], ["rows", "s", ""]]
 MOST_NODES = {1: 12, 2: 8, 3: 6, 4: 4, 6: 2, 7: 1}  # of a dimension, by how many there are; 7 are too many
 
 NAMES = [
@@ -45,21 +41,24 @@ WRONG_VALUES = [
 ]
 IDS = [b"1", b"2", b"3", b"4", b"5", b"6", b"7", b"8", b"9223372036854775807"]
 WRONG_IDS = [b"", b"0", b"-1", b"+1", b"01", b"9223372036854775808", b"18446744073709551617", b"x", b"1 "]
+ROUNDS = [b"1", b"1", b"2", b"3", b"7", b"32"]
+WRONG_ROUNDS = [b"0", b"33", b"01", b"", b"-1", b"x", b"4294967297"]
 WRONG_DEPTHS = [b"", b"-1", b"01", b"9", b"10", b"x", b"256", b"4294967296"]
 WRONG_LINES = [
     *(b"count", b"sum\ta", b"avg\ta\tb", b"pool\ta\tb", b"view", b"view\tx", b"view\tx\t1", b"view\tx\t1\t2", b"worlds"),
     *(b"Insert\t1\ta", b"insert", b"withdraw", b"rows", b"terms", b"\t", b"x", b"error\tid", b"end", b"node\t1\tz"),
     *(b"grow", b"grow\ta\tb", b"grow\ta\tb\tc", b"grow\ta\tb\tc\td", b"grow\tAll\tAll\tz", b"grow\t\t\t", b"Grow\ta\tb\tc"),
+    *(b"counts", b"counts\t1", b"counts\t0\ta", b"sums\ta\t9\tb", b"avgs\t0\ta", b"pools\ta\t0\t1\tb\tc", b"Counts\t0\ta"),
+    *(b"range", b"range\ta\tb", b"rangecount\ta", b"least\ta", b"greatest\ta\tb\tc", b"iterate\t1", b"iterate\ta", b"component", b"component\t1\t2"),
     *(b"parts\tQ\t100\tgood\tbad", b"parts\tQ\t0\tx\ty", b"parts\tQ\t1\tx\tx", b"parts\tQ\t1\tx", b"policy\tem", b"policy\tweight\ta", b"policy\tweight", b"cube\t2", b"cube\t3", b"node\t1\tz\t1", b"dimension\t", b"number\t"),
 ]
 # Words of scripts, and how often they come.
 WORDS = {
     **{b"insert": 12, b"change": 4, b"withdraw": 2, b"terms": 3, b"rows": 4},
     **{b"count": 3, b"sum": 3, b"avg": 4, b"pool": 3, b"worlds": 3, b"view": 3, b"grow": 3},
+    **{b"counts": 3, b"sums": 3, b"avgs": 3, b"pools": 3},
+    **{b"range": 3, b"rangecount": 2, b"least": 3, b"greatest": 3, b"iterate": 4, b"component": 3},
 }
-if HAS_TABLES:
-    WORDS |= {b"counts": 3, b"sums": 3, b"avgs": 3, b"pools": 3}
-    WRONG_LINES += [b"counts", b"counts\t1", b"counts\t0\ta", b"sums\ta\t9\tb", b"avgs\t0\ta", b"pools\ta\t0\t1\tb\tc", b"Counts\t0\ta"]
 SKIPPED = [b"", b"\r", b"#", b"# insert\t1", b"#\xff\x00\r", b"#" + b"x" * 5000]
 HOSTILE = [
     *(b"\xff", b"\xc3", b"\xed\xa0\x80", b"\xc0\xaf", b"\xf4\x90\x80\x80", b"\xef\xbb\xbf", b"\xe2\x82", b"\xc2\x80"),
@@ -174,7 +173,7 @@ class Made:
 
     def often(self, word):
         """How often a word comes: seldom where no measure is of its kind, or no view is there."""
-        kinds = {b"sum": False, b"avg": False, b"pool": True}
+        kinds = {b"sum": False, b"avg": False, b"pool": True, b"range": False, b"least": False, b"greatest": False}
         kind = word.removesuffix(b"s")
         has_one = kind not in kinds or any(bool(m.outcomes) == kinds[kind] for m in self.measures)
         has_one = has_one and (word != b"view" or self.views != [])
@@ -208,13 +207,15 @@ class Made:
         id = [random.choice(self.ids)]
         nodes = [tree.node(random) for tree in self.trees]
         values = [measure.value() for measure in self.measures]
-        if word in (b"count", b"terms", b"worlds"):
+        if word in (b"count", b"terms", b"worlds", b"rangecount"):
             return [word, *nodes]
         if word == b"grow":
             return [word, *self.growth()]
         if word == b"view":
             return [word, random.choice(self.views if self.views and random.random() < 0.9 else NAMES)]
-        if word in (b"sum", b"avg", b"pool"):
+        if word == b"iterate":
+            return [word, random.choice(ROUNDS if random.random() < 0.95 else WRONG_ROUNDS), *nodes]
+        if word in (b"sum", b"avg", b"pool", b"range", b"least", b"greatest"):
             return [word, self.measure_name(word == b"pool"), *nodes]
         if word == b"counts":
             return [word, *self.depths(), *nodes]
@@ -388,7 +389,6 @@ def is_alike(program, name, words, text, wanted):
 
 def compare_examples(program):
     examples = plain_model_rows.examples() + plain_model_rows.slow_examples()
-    examples += plain_model_rows.table_examples() if HAS_TABLES else []
     return all(is_alike(program, f"example {e.name}", ["try"], e.text, e.ends) for e in examples)
 
 

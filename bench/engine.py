@@ -96,7 +96,9 @@ def edits(facts, count):
     return make
 
 
-def mixed(views, questions, depths):
+def mixed(views, questions, depths, asked=()):
+    """A mixed cube, then questions of regions at these depths, then these lines."""
+
     def make():
         dims = Tree("Place", 8, 8), Tree("Time", 4, 13), Tree("Kind", 6, 10)
         draws = Draws(3)
@@ -120,6 +122,7 @@ def mixed(views, questions, depths):
                 yield line("withdraw", there.pop())
         for _ in range(questions):
             yield line("terms", *(draws.pick(dim.nodes[depth]) for dim, depth in zip(dims, depths)))
+        yield from asked
 
     return make
 
@@ -222,4 +225,5 @@ def main(runs, *programs):
         bench.job("refused", refused)
 
 
-main(*sys.argv[1:])
+if __name__ == "__main__":
+    main(*sys.argv[1:])

@@ -9,7 +9,6 @@ plain_schema.py. Words of schemas and scripts that the program does not have yet
 """
 import csv
 import io
-import os
 import sys
 from fractions import Fraction
 from itertools import product
@@ -50,16 +49,17 @@ MAX_FACTS = 2**20
 MAX_ROWS = 2**21  # of all facts
 MAX_WORLDS = 65_536  # that are listed
 MAX_MASS = 2**60  # of the worlds that are listed
+MAX_ROUNDS = 32  # in which imprecise facts are shared
+MAX_SHARED = 2**21  # cells of all imprecise facts, those of each counted, where these are shared in rounds
 WIDE = 2**120  # the largest denominator and sum of absolute values of a fraction that is told as such
 UNITS = 10**9  # of a bound, in one
+WHOLE = 2**20  # units of a fact that is shared in rounds
+FEW_WORLDS = 4096  # of which the least and the greatest sum are looked for one by one
 
 # Statuses.
 FINISHED, FINISHED_WITH_REFUSALS, USAGE, SCHEMA_REFUSED = range(4)
 
-# The lines and commands of tables, which the program does not have yet: they are known where this is set.
-HAS_TABLES = "CUBE_TABLES" in os.environ
-
-USAGE_TEXT = "usage: cube try, init NAME, run NAME, check NAME, import NAME, export NAME, drill N, schema NAME, rows NAME"
+USAGE_TEXT = "usage: cube try, init NAME, run NAME, check NAME, import NAME, export NAME, drill N, ask NAME WORD.., schema NAME, rows NAME"
 
 
 # Facts, and how they lie.
@@ -488,12 +488,133 @@ def do_worlds(schema, facts, *names):
     return reply_line(b"worlds", number, mass, *totals), facts
 
 
+def column_values(schema, facts, place):
+    """Each fact's value of a number measure; without a measure 1, as the count has it."""
+    return [1 if place is None else fact.values[place][0] for fact in facts]
+
+
+def picked_cell(schema, allocation, region, value, at_least):
+    """The cell of the first row that is wanted for the least or the greatest sum, or of the first row where none is."""
+    inside_serves = value < 0 if at_least else value > 0
+    wanted = [cell for cell, _ in allocation.rows if value == 0 or is_inside(schema, cell, region) == inside_serves]
+    return (wanted or [cell for cell, _ in allocation.rows])[0]
+
+
+def sum_inside(schema, cells, values, region):
+    return sum(value for cell, value in zip(cells, values) if is_inside(schema, cell, region))
+
+
+def end_of(schema, facts, region, place, at_least):
+    """The cells in which facts stand at an end of a region's sum of a measure, or of its count, and that sum. Where worlds are
+    few, all of them are looked at too."""
+    values = column_values(schema, facts, place)
+    allocations = [allocation for _, allocation in extended(schema, facts)]
+    picks = [picked_cell(schema, a, region, value, at_least) for a, value in zip(allocations, values)]
+    end = sum_inside(schema, picks, values, region)
+    if prod(len(allocation.rows) for allocation in allocations) <= FEW_WORLDS:
+        sums = [sum_inside(schema, cells, values, region) for _, cells in worlds_of(allocations)]
+        assert end == (min(sums) if at_least else max(sums))
+    return picks, end
+
+
+def do_range(schema, facts, name, *names):
+    region = read_region(schema, names)
+    place = read_measure(schema, name, False)
+    return reply_line(b"range", *(end_of(schema, facts, region, place, end)[1] for end in (True, False))), facts
+
+
+def do_rangecount(schema, facts, *names):
+    region = read_region(schema, names)
+    return reply_line(b"rangecount", *(end_of(schema, facts, region, None, end)[1] for end in (True, False))), facts
+
+
+def do_end(schema, facts, word, name, names):
+    """The sum at an end, and where each imprecise fact stands then."""
+    region = read_region(schema, names)
+    place = read_measure(schema, name, False)
+    picks, end = end_of(schema, facts, region, place, word == b"least")
+    there = [(fact.id, cell) for fact, cell in zip(facts, picks) if cell_count(schema, fact.region) > 1]
+    items = [item for id, cell in there for item in [id, *cell_names(schema, cell)]]
+    return reply_line(word, end, len(there), *items), facts
+
+
+def do_least(schema, facts, name, *names):
+    return do_end(schema, facts, b"least", name, names)
+
+
+def do_greatest(schema, facts, name, *names):
+    return do_end(schema, facts, b"greatest", name, names)
+
+
+def share_of(level, cells, cell):
+    """The units of a fact over cells that fall to one of them, as the cells stand, rounded down. Evenly where nothing stands."""
+    mass = sum(level.get(other, 0) for other in cells)
+    return WHOLE // len(cells) if mass == 0 else WHOLE * level.get(cell, 0) // mass
+
+
+def levels_after(schema, facts, rounds):
+    """How many units stand in each cell after so many rounds, where any do."""
+    start, imprecise = {}, []
+    for fact in facts:
+        cells = cells_of(schema, fact.region)
+        if len(cells) == 1:
+            start[cells[0]] = start.get(cells[0], 0) + WHOLE
+        else:
+            imprecise.append(cells)
+    level = start
+    for _ in range(rounds):
+        later = dict(start)
+        for cells in imprecise:
+            for cell in cells:
+                later[cell] = later.get(cell, 0) + share_of(level, cells, cell)
+        level = later
+    return level
+
+
+def refuse_many_cells(schema, facts):
+    sizes = [cell_count(schema, fact.region) for fact in facts]
+    refuse_where(sum(size for size in sizes if size > 1) > MAX_SHARED, "many")
+
+
+def do_iterate(schema, facts, rounds_text, *names):
+    """What all facts have in a region after so many rounds, column by column, in units. The last round's shares are taken."""
+    rounds = number_in(1, MAX_ROUNDS, rounds_text)
+    refuse_where(rounds is None, "number")
+    region = read_region(schema, names)
+    refuse_many_cells(schema, facts)
+    before = levels_after(schema, facts, rounds - 1)
+    totals = [0] * first_column(schema, len(schema.measures))
+    for fact in facts:
+        cells = cells_of(schema, fact.region)
+        inside = [cell for cell in cells if is_inside(schema, cell, region)]
+        units = WHOLE * len(inside) if len(cells) == 1 else sum(share_of(before, cells, cell) for cell in inside)
+        row = [1, *(value for values in fact.values for value in values)]
+        totals = [so_far + units * value for so_far, value in zip(totals, row)]
+    return reply_line(b"iterate", *totals), facts
+
+
+def do_component(schema, facts, id_text):
+    """The ids of the facts that a chain of imprecise facts reaches, each of which shares a cell with the next."""
+    id = read_id(id_text)
+    refuse_where(not has_id(facts, id), "missing")
+    refuse_many_cells(schema, facts)
+    cells = {fact.id: set(cells_of(schema, fact.region)) for fact in facts}
+    imprecise = [other for other, there in cells.items() if len(there) > 1]
+    reached, waiting = {id}, [id] if id in imprecise else []
+    while waiting:
+        last = waiting.pop()
+        touched = {other for other in imprecise if other not in reached and cells[other] & cells[last]}
+        reached |= touched
+        waiting += touched
+    return reply_line(b"component", len(reached), *sorted(reached)), facts
+
+
 def cell_names(schema, cell):
     return [dim.names[leaf] for dim, leaf in zip(schema.dimensions, cell)]
 
 
-# Each command with what it does, which gives the reply and the facts after it, and whether its line has an id or the
-# name of a measure or of a view, how many fields it has for each dimension, and whether it has a value of each measure.
+# Each command with what it does, which gives the reply and the facts after it, and whether its line has an id, a number of rounds or
+# the name of a measure or of a view, how many fields it has for each dimension, and whether it has a value of each measure.
 COMMANDS = {
     b"insert": (do_insert, True, 1, True),
     b"change": (do_change, True, 1, True),
@@ -506,14 +627,16 @@ COMMANDS = {
     b"rows": (do_rows, True, 0, False),
     b"view": (do_view, True, 0, False),
     b"worlds": (do_worlds, False, 1, False),
-}
-
-# The same of tables.
-TABLES = {
     b"counts": (do_counts, False, 2, False),
     b"sums": (do_sums, True, 2, False),
     b"avgs": (do_avgs, True, 2, False),
     b"pools": (do_pools, True, 2, False),
+    b"range": (do_range, True, 1, False),
+    b"rangecount": (do_rangecount, False, 1, False),
+    b"least": (do_least, True, 1, False),
+    b"greatest": (do_greatest, True, 1, False),
+    b"iterate": (do_iterate, True, 1, False),
+    b"component": (do_component, True, 0, False),
 }
 
 
@@ -523,9 +646,8 @@ def do_line(schema, facts, line):
     if word == b"grow":
         refuse_where(len(fields) != 3, "fields")
         return do_grow(schema, facts, *fields)
-    commands = COMMANDS | TABLES if HAS_TABLES else COMMANDS
-    refuse_where(word not in commands, "command")
-    command, has_first, for_each_dimension, has_values = commands[word]
+    refuse_where(word not in COMMANDS, "command")
+    command, has_first, for_each_dimension, has_values = COMMANDS[word]
     count = has_first + for_each_dimension * len(schema.dimensions) + has_values * len(schema.measures)
     refuse_where(len(fields) != count, "fields")
     reply, later = command(schema, facts, *fields)

@@ -2,7 +2,8 @@
 """Examples worked out by hand, each run through the plain model: plain_model_rows.py [slow]
 
 With `slow` those are run too that list millions of cells or have a thousand facts, in less than a minute and 500 MB. The status is 1 where the
-model says anything else than an example. `|` stands for a TAB. Those of tables stand in plain_table_rows.py.
+model says anything else than an example. `|` stands for a TAB. Those of tables stand in plain_table_rows.py,
+and those of worlds and rounds in plain_world_rows.py.
 """
 import sys
 from unittest.mock import patch
@@ -11,6 +12,7 @@ sys.dont_write_bytecode = True
 
 import plain_model
 import plain_table_rows
+import plain_world_rows
 from plain_row_schemas import (
     BY_REPAIRS,
     CARS,
@@ -545,7 +547,7 @@ def spelled_otherwise():
 def examples():
     """All examples but the slow ones."""
     return [
-        *(script_example(*row) for row in SCRIPTS),
+        *(script_example(*row) for row in SCRIPTS + plain_table_rows.SCRIPTS + plain_world_rows.SCRIPTS),
         *spelled_otherwise(),
         *(fault_example(*row) for row in FAULTS),
         *(schema_example(*row) for row in SCHEMAS),
@@ -555,10 +557,6 @@ def examples():
 
 def slow_examples():
     return [script_example(*row) for row in SLOW_SCRIPTS]
-
-
-def table_examples():
-    return [script_example(*row) for row in plain_table_rows.SCRIPTS]
 
 
 def limited_examples():
@@ -588,8 +586,6 @@ def main():
     held = [holds(example) for example in chosen]
     with patch.multiple(plain_model, **SMALL_LIMITS):
         held += [holds(example) for example in limited_examples()]
-    with patch.object(plain_model, "HAS_TABLES", True):
-        held += [holds(example) for example in table_examples()]
     held += [keeps_text(*row) for row in KEPT_TEXTS]
     held += plain_table_rows.held()
     print(f"{len(held)} examples, {held.count(False)} wrong")

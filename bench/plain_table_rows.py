@@ -1,6 +1,4 @@
 """Examples of tables, and of what `ask` and `rows` write, worked out by hand: plain_model_rows.py runs them"""
-from unittest.mock import patch
-
 import plain_model
 from plain_row_schemas import (
     BY_REPAIRS,
@@ -288,5 +286,4 @@ def file_holds(schema, script, lines):
 
 def held():
     """For each example of a command whether it holds."""
-    with patch.object(plain_model, "HAS_TABLES", True):
-        return [asked_holds(*row) for row in ASKED] + [file_holds(*row) for row in ROWS_FILES]
+    return [asked_holds(*row) for row in ASKED] + [file_holds(*row) for row in ROWS_FILES]

@@ -6,9 +6,10 @@ or written are refused. Then random scripts are done over a store in pieces, eac
 and compared with the plain model: the replies, the status, and after each piece the answer of `check` and what another reader finds in the
 tables, the text of the schema too. The status is 1 at the first difference.
 
-Where CUBE_TABLES is set, `ask` does some of the lines, and `schema` and `rows` write what the store holds.
+In these, `ask` does some of the lines, and `schema` and `rows` write what the store holds.
 """
 import os
+import re
 import sqlite3
 import struct
 import subprocess
@@ -23,7 +24,6 @@ sys.dont_write_bytecode = True
 import differential
 import plain_model
 import plain_table_rows
-from plain_model import HAS_TABLES
 
 SECONDS = 60
 FAILED = 8  # the status where a store fails
@@ -41,8 +41,7 @@ def call(program, words, text=b""):
 
 def table_calls(path):
     """The words of commands over a store that read no input."""
-    asked = [["ask", path, "withdraw", "1"]] if HAS_TABLES else []
-    return [*asked, ["schema", path], ["rows", path]]
+    return [["ask", path, "withdraw", "1"], ["schema", path], ["rows", path]]
 
 
 class Wrong(Exception):
@@ -124,7 +123,7 @@ def asked(program, path, schema, facts, lines):
 
 def askable(random, piece):
     """How many lines at the front of a piece `ask` is to do: few, since each is a call, and none that no word can hold."""
-    most = random.randint(0, 4) if HAS_TABLES else 0
+    most = random.randint(0, 4)
     return next((k for k, line in enumerate(piece[:most]) if b"\0" in line), len(piece[:most]))
 
 
@@ -224,7 +223,7 @@ def compare_hand_made(program, folder):
         hand_made(path, **changes)
         before = Path(path).read_bytes()
         must(call(program, ["check", path]), wanted, f"check of {name}")
-        if wanted[1] == 0 and HAS_TABLES:
+        if wanted[1] == 0:
             must(call(program, ["schema", path]), (SCHEMA, 0, b""), f"schema of {name}")
             must(call(program, ["rows", path]), (ROWS_FILE, 0, b""), f"rows of {name}")
         if wanted[1] == 5:
@@ -232,6 +231,30 @@ def compare_hand_made(program, folder):
                 must(call(program, words, b"withdraw\t1\n"), wanted, f"{words[0]} over {name}")
             must(tables_alone(path), tables_alone_of(before, folder), f"tables of {name} afterwards")
     print(f"{len(cases)} stores by hand alike")
+
+
+# The nodes of that schema, as a query of docs/STORE.md tells them.
+NODES = [(0, 0, 0, "All"), (0, 1, 1, "TX"), (0, 2, 2, "Austin"), (0, 3, 2, "Dallas"), (0, 4, 2, "Houston")]
+
+
+def compare_queries(folder):
+    """The queries of docs/STORE.md, in their order, over the store by hand."""
+    page = (Path(__file__).resolve().parent.parent / "docs/STORE.md").read_text(encoding="utf-8")
+    queries = [text for text in re.findall(r"^```sql\n(.*?)^```", page, re.M | re.S) if text.startswith(("SELECT", "WITH"))]
+    path = str(Path(folder) / "asked.cube")
+    hand_made(path)
+    base = sqlite3.connect(path)
+    found = [base.execute(query).fetchall() for query in queries]
+    base.close()
+    wanted = [
+        [(SCHEMA.decode(),)],
+        [(i, place, node) for i, nodes, _ in FACTS for place, node in enumerate(nodes)],
+        [(i, column, value) for i, _, cols in FACTS for column, value in enumerate(cols, 1)],
+        [(i, cell, weight, den) for i, den, rows in ROWS for cell, weight in rows],
+        NODES,
+    ]
+    must(found, wanted, "queries of docs/STORE.md")
+    print(f"{len(queries)} queries alike")
 
 
 # What a growth keeps of the store by hand, over a text that is not as the program writes it: a leaf behind all others, one between, two
@@ -401,9 +424,9 @@ def main():
     with tempfile.TemporaryDirectory() as folder:
         try:
             compare_hand_made(program, folder)
+            compare_queries(folder)
             compare_grown(program, folder)
-            if HAS_TABLES:
-                compare_table_rows(program, folder)
+            compare_table_rows(program, folder)
             compare_damaged(program, folder)
             compare_full(program, folder)
             compare_cases(program, folder, cases, seed)

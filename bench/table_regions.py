@@ -118,7 +118,6 @@ def is_right(number, cube, asked):
 
 def main():
     cases, seed = int(sys.argv[1]), int(sys.argv[2])
-    plain_model.HAS_TABLES = True
     cubes = tables = listed = 0
     for number in range(cases):
         cube = made_cube(seed, number)
