@@ -1,15 +1,17 @@
--- The groups of facts, put into views of no facts, make them views of these.
-use Rattle.std.proofs.Common.{◌≡◌, ℕ, ◌+◌, ◌*◌, ◌≤◌, true, false, List, [], ◌∷◌, ◌++◌, length, append-nil, refl, ap, sym, ◌∙◌, subst, arith, ◌+ℤ◌}
+-- The groups of facts, put into views of no facts, make them views of these; and so do some of the groups, of their facts.
+use Rattle.std.proofs.Common.{◌≡◌, ℕ, ◌+◌, ◌*◌, ◌≤◌, true, false, List, [], ◌∷◌, ◌++◌, length, append-nil, refl, ap, sym, ◌∙◌, subst, arith, pos, ◌+ℤ◌}
 use Rattle.std.specs.Prelude.{All, is_some, ◌==◌, Option, Some, None}
 use Rattle.std.specs.List.{cons_option, filter_map, flat_map, list_any}
 use Rattle.std.proofs.lemmas.Bool.Decides.{nat_tests}
 use Rattle.std.proofs.lemmas.Grind.{flat_map-append}
+use Rattle.std.proofs.lemmas.Int.{ints}
 use Rattle.std.proofs.lemmas.List.Concat.{flat_map-cons}
 use Rattle.std.proofs.lemmas.List.Elements.{All-append, All-nil}
 use Rattle.cube_model.specs.declared.edit.Fact.{Fact}
 use Rattle.cube_model.specs.declared.statistic.CellStat.{CellStat}
 use Rattle.cube_model.specs.Allocation.{ExtendedFact, Policy, extended}
 use Rattle.cube_model.specs.Answer.{count_at, sum_at}
+use Rattle.cube_model.specs.Ascending.{ascends_from}
 use Rattle.cube_model.specs.Cells.{is_among}
 use Rattle.cube_model.specs.Limits.{MAX_FACTS, MAX_VALUE}
 use Rattle.cube_model.specs.Tree.{Dimension, IsTree}
@@ -18,7 +20,6 @@ use Rattle.staged_map.specs.Staged.{AreKeys, Places, value_at}
 use Rattle.cell_weight.specs.Stats.{IsStat}
 use Rattle.fact_groups.specs.Groups.{Group, HaveSameGroupsBut, count_in, group_facts, groups_at, sum_in}
 use Rattle.fact_groups.proofs.AsFacts.{counts-follow, sums-follow}
-use Rattle.fact_groups.proofs.Ascending.{ascends-from_increasing}
 use Rattle.fact_records.specs.Shape.{IsShape, ShapeValue, policy_over, width_of_all}
 use Rattle.fact_records.specs.Valid.{AreValid}
 use Rattle.view_store.specs.declared.change.ViewChange.{ViewChange}
@@ -79,9 +80,16 @@ not-there : (o : Option Group) → is_some o ≡ false → o ≡ None
 not-there None is = refl
 not-there (Some g) is = cc
 
+-- no facts, less none and with some, are these
+follow-alone : (rows : List ExtendedFact) → FollowBy [] [] rows rows
+follow-alone rows = record {
+  counts = λ cells d. let none : count_at cells [] d ≡ 0 = refl in omega (arith, none);
+  sums = λ cells k d. let none : sum_at cells [] k d ≡ pos 0 = refl in omega (arith, ints, none);
+}
+
 module _ (weigh : CellStat → ℕ) (bound : (s : CellStat) → IsStat s → weigh s ≤ 1 + s.count * MAX_VALUE) (shape : ShapeValue) (dims : List Dimension) (facts : List Fact)
     (is : IsShape shape) (trees : All IsTree dims) (valid : AreValid shape dims facts)
-    (groups : Places Group) (kept : AreGroupsOf (policy_over weigh shape) shape dims facts groups) (codes : List ℕ) (keys : AreKeys groups codes) where
+    (groups : Places Group) (kept : AreGroupsOf (policy_over weigh shape) shape dims facts groups) (codes : List ℕ) (up : ascends_from (λ x. x) 0 codes ≡ true) where
   abbrev policy : Policy
   policy = policy_over weigh shape
 
@@ -101,29 +109,15 @@ module _ (weigh : CellStat → ℕ) (bound : (s : CellStat) → IsStat s → wei
   regions : All (λ f. IsRegion dims f.region) facts
   regions = valid-regions shape dims facts valid
 
-  -- elsewhere there is no group
-  same : HaveSameGroupsBut codes policy width dims [] facts
-  same code other =
-      let none : is_some (value_at groups code) ≡ false = sym (keys.among code) ∙ among-turned codes code ∙ other in
-      sym (kept code) ∙ not-there (value_at groups code) none
-
-  -- so the facts are those of the groups
-  follow-groups : FollowBy (extended policy dims []) (flat_map group_facts (groups_at policy width dims [] codes)) (flat_map group_facts (groups_at policy width dims facts codes)) (extended policy dims facts)
-  follow-groups = record {
-    counts = counts-follow policy width dims [] facts codes trees (All-nil (λ f. IsRegion dims f.region)) regions keys.ascending same;
-    sums =
-        sums-follow policy width dims [] facts codes trees (All-nil (λ f. IsRegion dims f.region)) regions keys.ascending same
-        (All-nil (λ f. length f.cols ≤ width)) (short-facts weigh bound shape dims facts is trees valid);
-  }
-
-  taken-are : taken changes ≡ flat_map group_facts (groups_at policy width dims [] codes)
-  taken-are = taken-groups changes ∙ ap (flat_map group_facts) (taken-none dims groups codes ∙ sym (groups-none policy width dims codes))
+  taken-nothing : taken changes ≡ []
+  taken-nothing = taken-groups changes ∙ ap (flat_map group_facts) (taken-none dims groups codes)
 
   given-are : given changes ≡ flat_map group_facts (groups_at policy width dims facts codes)
   given-are = given-groups changes ∙ ap (flat_map group_facts) (put-all dims groups codes ∙ all-are)
 
-  pub follow-puts : FollowBy [] (taken changes) (given changes) (extended policy dims facts)
-  follow-puts = subst (λ (rows : List ExtendedFact). FollowBy rows (taken changes) (given changes) (extended policy dims facts)) (rows-none policy dims) (rw (taken-are, given-are) follow-groups)
+  -- the facts of the groups are put
+  pub follow-some : FollowBy [] (taken changes) (given changes) (flat_map group_facts (groups_at policy width dims facts codes))
+  follow-some = rw (taken-nothing, given-are) (follow-alone (flat_map group_facts (groups_at policy width dims facts codes)))
 
   -- and they are few
   each-placed : All (λ change. IsPlaced dims width change.region (group_of change)) changes
@@ -135,7 +129,7 @@ module _ (weigh : CellStat → ℕ) (bound : (s : CellStat) → IsStat s → wei
       codes
 
   few : members all ≤ MAX_FACTS
-  few = omega (arith, ap members all-are, members-split policy width dims codes trees (ascends-from_increasing codes keys.ascending) facts regions, valid.few)
+  few = omega (arith, ap members all-are, members-split policy width dims codes trees up facts regions, valid.few)
 
   stand-for : StandFor dims width [] changes []
   stand-for = record {
@@ -150,3 +144,26 @@ module _ (weigh : CellStat → ℕ) (bound : (s : CellStat) → IsStat s → wei
   -- so no entry passes its limits
   pub fit-puts : (views : List ViewMap) → All (IsViewOfFacts dims []) views → All (λ view. view.columns ≡ width + 1) views → All (FitsView dims changes) views
   fit-puts = fits-views dims width [] changes [] stand-for
+
+  -- Where these are the codes of all groups, all facts are put.
+  module _ (keys : AreKeys groups codes) where
+    -- elsewhere there is no group
+    same : HaveSameGroupsBut codes policy width dims [] facts
+    same code other =
+        let none : is_some (value_at groups code) ≡ false = sym (keys.among code) ∙ among-turned codes code ∙ other in
+        sym (kept code) ∙ not-there (value_at groups code) none
+
+    -- so the facts are those of the groups
+    follow-groups : FollowBy (extended policy dims []) (flat_map group_facts (groups_at policy width dims [] codes)) (flat_map group_facts (groups_at policy width dims facts codes)) (extended policy dims facts)
+    follow-groups = record {
+      counts = counts-follow policy width dims [] facts codes trees (All-nil (λ f. IsRegion dims f.region)) regions keys.ascending same;
+      sums =
+          sums-follow policy width dims [] facts codes trees (All-nil (λ f. IsRegion dims f.region)) regions keys.ascending same
+          (All-nil (λ f. length f.cols ≤ width)) (short-facts weigh bound shape dims facts is trees valid);
+    }
+
+    taken-are : taken changes ≡ flat_map group_facts (groups_at policy width dims [] codes)
+    taken-are = taken-nothing ∙ ap (flat_map group_facts) (sym (groups-none policy width dims codes))
+
+    pub follow-puts : FollowBy [] (taken changes) (given changes) (extended policy dims facts)
+    follow-puts = subst (λ (rows : List ExtendedFact). FollowBy rows (taken changes) (given changes) (extended policy dims facts)) (rows-none policy dims) (rw (taken-are, given-are) follow-groups)

@@ -43,8 +43,8 @@ pub(crate) fn views_of<P: WeightPolicy>(
     Ok(views)
 }
 
-/// The changes that put the groups at these codes.
-fn puts_at(
+/// The changes that put the groups that there are at these codes. No row is copied.
+pub fn puts_at(
     alloc: Global,
     space: &Space,
     groups: &Staged<Group>,

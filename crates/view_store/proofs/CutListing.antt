@@ -125,10 +125,12 @@ coded-regions dims depths (code ∷ codes) trees = by (is_in_view dims depths co
         let below = (both (nat_lt code (region_total dims)) (is_in_cuts dims depths (region_at dims code)) is).0 in
         rw is (All-cons (IsRegion dims) (region_at dims code) (map (region_at dims) (filter (is_in_view dims depths) codes)) (region_at-below dims code trees (grind (arith, nat_tests, below))).region rest)
 
--- the entries in a product of cuts are of regions
+-- the product of cuts is of regions
+pub cut-regions : (dims : List Dimension) (depths : List ℕ) → All IsTree dims → length depths ≡ length dims → All (IsRegion dims) (cut_regions dims depths)
+cut-regions dims depths trees deep = subst (All (IsRegion dims)) (cut_regions-coded dims depths trees deep) (coded-regions dims depths (range_with_len 0 (region_total dims)) trees)
+
+-- and so are the entries in it
 pub entries-regions : (terms_of : List ℕ → TermList) (dims : List Dimension) (depths : List ℕ) → All IsTree dims → length depths ≡ length dims → All (λ entry. IsRegion dims entry.0) (entries_of terms_of (cut_regions dims depths))
 entries-regions terms_of dims depths trees deep =
-    let regions = cut_regions dims depths in
-    let are : All (IsRegion dims) regions = subst (All (IsRegion dims)) (cut_regions-coded dims depths trees deep) (coded-regions dims depths (range_with_len 0 (region_total dims)) trees) in
-    All-filter (λ (entry : List ℕ × TermList). nat_lt 0 (length entry.1.terms)) (λ entry. IsRegion dims entry.0) (map (λ (region : List ℕ). (region, terms_of region)) regions)
-    (All-map (λ (entry : List ℕ × TermList). IsRegion dims entry.0) (λ (region : List ℕ). (region, terms_of region)) regions are)
+    All-filter (λ (entry : List ℕ × TermList). nat_lt 0 (length entry.1.terms)) (λ entry. IsRegion dims entry.0) (map (λ (region : List ℕ). (region, terms_of region)) (cut_regions dims depths))
+    (All-map (λ (entry : List ℕ × TermList). IsRegion dims entry.0) (λ (region : List ℕ). (region, terms_of region)) (cut_regions dims depths) (cut-regions dims depths trees deep))

@@ -16,7 +16,7 @@ use Rattle.view_store.specs.Views.{is_in_cuts, is_in_view, region_at}
 use Rattle.view_store.proofs.CutNodes.{among-entries, entry-among, entry_at as node-entry}
 
 -- a filter of what a function makes of items
-filter-map : {X Y : Type 0} (f : X → Y) (p : X → Bool) (q : Y → Bool) (xs : List X) → ((i : ℕ) (x : X) → slice_get xs i ≡ Some x → q (f x) ≡ p x) → filter q (map f xs) ≡ map f (filter p xs)
+pub filter-map : {X Y : Type 0} (f : X → Y) (p : X → Bool) (q : Y → Bool) (xs : List X) → ((i : ℕ) (x : X) → slice_get xs i ≡ Some x → q (f x) ≡ p x) → filter q (map f xs) ≡ map f (filter p xs)
 filter-map f p q [] same = refl
 filter-map {X} {Y} f p q (x ∷ xs) same = by (p x) refl (filter-map f p q xs (λ i y at. same (suc i) y at))
   where

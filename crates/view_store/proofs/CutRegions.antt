@@ -194,7 +194,7 @@ lifted-holds dims depths region nodes code is_at below lifts =
     }
 
 -- what is inside a region that is inside another is inside that
-inside-inside : (dims : List Dimension) (a b c : List ℕ) → All IsTree dims → is_region dims a ≡ true → is_region dims b ≡ true → is_inside dims a b ≡ true → is_inside dims b c ≡ true → is_inside dims a c ≡ true
+pub inside-inside : (dims : List Dimension) (a b c : List ℕ) → All IsTree dims → is_region dims a ≡ true → is_region dims b ≡ true → is_inside dims a b ≡ true → is_inside dims b c ≡ true → is_inside dims a c ≡ true
 unfolding is_inside
 inside-inside [] [] [] [] trees named_a named_b upper lower = refl
 inside-inside [] [] [] (z ∷ c) trees named_a named_b upper lower = absurd (true≢false (sym lower))
@@ -232,8 +232,8 @@ module _ (dims : List Dimension) (depths region : List ℕ) (code : ℕ) (trees 
       by cell None at inside = absurd (true≢false (sym inside))
       by cell (Some leaves) at inside = holds-cell leaves cell at inside
 
--- a cell is inside the region of its leaves
-inside-self : (dims : List Dimension) (nodes : List ℕ) → All IsTree dims → is_region dims nodes ≡ true → is_inside dims nodes nodes ≡ true
+-- a region is inside itself, and a cell inside the region of its leaves
+pub inside-self : (dims : List Dimension) (nodes : List ℕ) → All IsTree dims → is_region dims nodes ≡ true → is_inside dims nodes nodes ≡ true
 unfolding is_inside
 inside-self [] [] trees named = refl
 inside-self [] (x ∷ nodes) trees named = absurd (true≢false (sym named))

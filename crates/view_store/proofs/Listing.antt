@@ -1,16 +1,19 @@
 -- The codes of the entries, ascending, and what goes over them.
-use Rattle.std.proofs.Common.{◌≡◌, ℕ, zero, suc, ◌+◌, ◌<◌, ◌≤◌, Bool, true, false, List, [], ◌∷◌, ◌++◌, eqb, filter, length, map, get_or, refl, ap, sym, ◌∙◌, inl, inr, arith, take, Some, is_some, unwrap_or}
+use Rattle.std.proofs.Common.{◌≡◌, ℕ, zero, suc, ◌+◌, ◌<◌, ◌≤◌, Bool, true, false, List, [], ◌∷◌, ◌++◌, append-nil, eqb, filter, length, map, get_or, refl, ap, sym, ◌∙◌, inl, inr, arith, take, Some, is_some, unwrap_or}
 use Rattle.std.specs.Prelude.{if◌then◌else◌, ◌&&◌, nat_le, nat_lt}
 use Rattle.std.specs.List.{list_any, range_with_len}
 use Rattle.std.proofs.lemmas.Bool.{cases_eq}
 use Rattle.std.proofs.lemmas.Bool.Decides.{nat_tests}
 use Rattle.std.proofs.lemmas.List.{map-append, take_more}
+use Rattle.std.proofs.lemmas.List.Elements.{filter-append}
 use Rattle.cube_model.specs.Ascending.{ascends_from}
 use Rattle.cube_model.proofs.Ascending.{ascends_cons}
+use Rattle.cube_model.specs.Cells.{is_inside}
 use Rattle.cube_model.specs.Tree.{Dimension}
 use Rattle.group_sum.specs.Terms.{TermList}
 use Rattle.region_algebra.specs.Space.{region_total}
 use Rattle.staged_map.specs.Staged.{AreKeys, value_at}
+use Rattle.view_store.specs.Rolling.{is_below}
 use Rattle.view_store.specs.Views.{IsViewOf, ViewMap, codes_of, entry_at, no_terms, region_at}
 use Rattle.view_store.proofs.Ascending.{ascending-same, ascends-increasing, has}
 
@@ -81,3 +84,34 @@ listed-next dims view keys i list more region terms within before is has next =
     let item : (region, terms) ≡ (region_at dims code, entry_at view code) = ap (λ r. (r, terms)) is ∙ ap (λ t. (region_at dims code, t)) (sym entry) in
     next ∙ ap (λ xs. xs ++ (region, terms) ∷ []) before ∙ ap (λ x. listed_first dims view (take i keys) ++ x ∷ []) item
     ∙ sym (ap (listed_first dims view) (take_more keys i 0 within) ∙ map-append (λ (c : ℕ). (region_at dims c, entry_at view c)) (take i keys) (code ∷ []))
+
+-- the first of what is listed under a region
+abbrev pub listed_below : List Dimension → ViewMap → List ℕ → List ℕ → List (List ℕ × TermList)
+listed_below dims view region codes = filter (λ entry. is_inside dims region entry.0) (listed_first dims view codes)
+
+-- the next is added where its region lies below
+module _ (dims : List Dimension) (view : ViewMap) (under keys : List ℕ) (i : ℕ) (list : List (List ℕ × TermList)) (within : i < length keys) (before : list ≡ listed_below dims view under (take i keys)) where
+  abbrev item : List ℕ × TermList
+  item = (region_at dims (get_or keys i 0), entry_at view (get_or keys i 0))
+
+  below-one : (b : Bool) → is_below dims under (get_or keys i 0) ≡ b → (if b then item ∷ [] else []) ≡ filter (λ entry. is_inside dims under entry.0) (item ∷ [])
+  below-one true is = rw is refl
+  below-one false is = rw is refl
+
+  below-more : (b : Bool) → is_below dims under (get_or keys i 0) ≡ b → list ++ (if b then item ∷ [] else []) ≡ listed_below dims view under (take (i + 1) keys)
+  below-more b is =
+      ap (λ xs. xs ++ (if b then item ∷ [] else [])) before ∙ ap (λ xs. listed_below dims view under (take i keys) ++ xs) (below-one b is)
+      ∙ sym (ap (listed_below dims view under) (take_more keys i 0 within)
+      ∙ ap (filter (λ (entry : List ℕ × TermList). is_inside dims under entry.0)) (map-append (λ (c : ℕ). (region_at dims c, entry_at view c)) (take i keys) (get_or keys i 0 ∷ []))
+      ∙ filter-append (λ (entry : List ℕ × TermList). is_inside dims under entry.0) (listed_first dims view (take i keys)) (item ∷ []))
+
+  pub below-next : is_below dims under (get_or keys i 0) ≡ true → (more : List (List ℕ × TermList)) (region : List ℕ) (terms : TermList) → region ≡ region_at dims (get_or keys i 0)
+      → value_at view.entries (get_or keys i 0) ≡ Some terms → more ≡ list ++ (region, terms) ∷ [] → more ≡ listed_below dims view under (take (i + 1) keys)
+  below-next inside more region terms is has next =
+      let code = get_or keys i 0 in
+      let entry : entry_at view code ≡ terms = ap (λ o. unwrap_or o (no_terms view.columns)) has in
+      let same : (region, terms) ≡ item = ap (λ r. (r, terms)) is ∙ ap (λ t. (region_at dims code, t)) (sym entry) in
+      next ∙ ap (λ x. list ++ x ∷ []) same ∙ below-more true inside
+
+  pub below-same : is_below dims under (get_or keys i 0) ≡ false → list ≡ listed_below dims view under (take (i + 1) keys)
+  below-same outside = sym (append-nil list) ∙ below-more false outside

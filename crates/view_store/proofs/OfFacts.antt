@@ -57,6 +57,23 @@ answer-after columns dims before gone more after region rest are follow is =
     (omega arith))
     ∙ answer-alone columns dims after region
 
+-- facts that add up to as much in a region have the same answer there
+pub answers-alike : (columns : ℕ) (dims : List Dimension) (facts others : List ExtendedFact) (region : List ℕ) → ((d : ℕ) → count_at (cells_of dims region) facts d ≡ count_at (cells_of dims region) others d)
+    → ((d k : ℕ) → k < columns → sum_at (cells_of dims region) facts k d ≡ sum_at (cells_of dims region) others k d) → answer columns dims facts region ≡ answer columns dims others region
+answers-alike columns dims facts others region counts sums =
+    let cells = cells_of dims region in
+    let bound : ℕ = max (den_bound (answer columns dims facts region)) (den_bound (answer columns dims others region)) in
+    sym (answer-alone columns dims facts region)
+    ∙ merge_is_below columns (answer columns dims facts region) [] (count_at cells others) (λ d k. sum_at cells others k d) bound
+    (λ d. omega (arith, count_of-answer columns dims facts region d, counts d))
+    (λ d k lt. omega (arith, ints, numerator_of-answer columns dims facts region d k lt, sums d k lt))
+    (omega arith)
+    ∙ sym (merge_is_below columns (answer columns dims others region) [] (count_at cells others) (λ d k. sum_at cells others k d) bound
+    (λ d. omega (arith, count_of-answer columns dims others region d))
+    (λ d k lt. omega (arith, ints, numerator_of-answer columns dims others region d k lt))
+    (omega arith))
+    ∙ answer-alone columns dims others region
+
 -- a view without entries
 pub view-of_none : (dims : List Dimension) (columns : ℕ) (def : ViewDef) → IsViewOfFacts dims [] (view_of columns def)
 unfolding answer

@@ -1,5 +1,5 @@
 -- Answers from the entries of a view.
-use Rattle.std.specs.Prelude.{◌≡◌, ℕ, ◌-◌, ◌<◌, All, Bool, true, false, List, [], ◌∷◌, map, filter, is_some, nat_le, ◌&&◌, Option, take}
+use Rattle.std.specs.Prelude.{◌≡◌, ℕ, ◌-◌, ◌<◌, All, Bool, true, false, List, [], ◌∷◌, map, filter, is_some, nat_le, ◌&&◌, Option, bytes_eq, take}
 use Rattle.std.specs.List.{find}
 use Rattle.std.specs.Option.{option_map_or}
 use Rattle.cube_model.specs.declared.term.Term.{Term}
@@ -10,7 +10,7 @@ use Rattle.group_sum.specs.Terms.{TermList}
 use Rattle.region_algebra.specs.Space.{region_total}
 use Rattle.staged_map.specs.Staged.{Places, value_at}
 use Rattle.view_store.specs.Changes.{IsWithin}
-use Rattle.view_store.specs.Views.{ViewMap, ViewMaps, codes_of, held_at, region_at}
+use Rattle.view_store.specs.Views.{ViewMap, ViewMaps, codes_of, held_at, listed, region_at}
 
 -- a view serves a region where in every dimension the depth of the region's node is at most the view's
 abbrev pub serves : List Dimension → List ℕ → List ℕ → Bool
@@ -49,3 +49,15 @@ serving dims content region = find (λ view. serves dims view.depths region) con
 -- no numerator of any first of these entries merged passes WIDE
 abbrev pub FitsUnder : List Dimension → List ℕ → ViewMap → Type 0
 FitsUnder dims region view = (n : ℕ) → IsWithin view.columns (merge_all (view.columns - 1) (take n (entries_under dims view region)))
+
+-- those that a view lists whose regions lie under a region
+abbrev pub listed_under : List Dimension → ViewMap → List ℕ → List (List ℕ × TermList)
+listed_under dims view region = filter (λ entry. is_inside dims region entry.0) (listed dims view)
+
+-- a view has these depths
+abbrev pub has_depths : List ℕ → ViewMap → Bool
+has_depths depths view = bytes_eq view.depths depths
+
+-- the first view that has them
+abbrev pub view_with : ViewMaps → List ℕ → Option ViewMap
+view_with content depths = find (has_depths depths) content.views

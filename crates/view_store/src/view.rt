@@ -1,5 +1,5 @@
 //! One view: its entries by region code.
-ghost use Rattle.std.specs.Prelude.{◌≡◌, ◌≤◌, ◌<◌, ◌+◌, ◌-◌, [], All, IfOk, IfSome, length, map};
+ghost use Rattle.std.specs.Prelude.{◌≡◌, ◌≤◌, ◌<◌, ◌+◌, ◌-◌, [], All, IfOk, IfSome, OnOk, length, map};
 ghost use Rattle.std.specs.Option.{option_copied};
 ghost use Rattle.cube_model.specs.Answer.{merge_all};
 ghost use Rattle.cube_model.specs.Limits.{MAX_COLS};
@@ -8,7 +8,7 @@ ghost use Rattle.group_sum.specs.Terms.{TermList};
 ghost use Rattle.region_algebra.specs.Space.{IsRegion, region_total};
 ghost use Rattle.staged_map.specs.Staged.{PutsAll, value_at};
 ghost use Rattle.view_store.specs.Changes.{FitsView, HasRoomFor, IsMadeFor, IsSameView};
-ghost use Rattle.view_store.specs.Rolling.{AreCodes, FitsBelow, FitsUnder, is_below, rolled_up, serves, terms_below};
+ghost use Rattle.view_store.specs.Rolling.{AreCodes, FitsBelow, FitsUnder, has_depths, is_below, listed_under, rolled_up, serves, terms_below};
 ghost use Rattle.view_store.specs.Views.{AreEntries, IsEntry, IsViewOf, listed, without_entries};
 
 use crate::ViewChange;
@@ -122,6 +122,32 @@ impl View {
             list.push((region, terms))?;
         }
         Ok(ViewList::from(list))
+    }
+
+    /// The regions under a region that have an entry, each with a copy of it, ascending by code.
+    pub fn list_under(&self, space: &Space, r: Region) -> Result<ViewList, Memory>
+        requires view { IsViewOf space.now self.now }
+        requires region { IsRegion space.now r }
+        ensures entries { IfOk result (λ list. list ≡ listed_under space.now self.now r) }
+        ensures whole { OnOk result (All (λ entry. 1 ≤ length entry.1.terms) (listed space.now self.now)) }
+    {
+        let codes = self.entries.keys()?;
+        let mut list = Vec::new(self.alloc);
+        for code in codes.as_slice() {
+            if is_below(space, r, *code) {
+                let region = space.uncode(*code).unwrap();
+                let terms = copy_of(self.alloc, self.entries.get(*code).unwrap())?;
+                list.push((region, terms))?;
+            }
+        }
+        Ok(ViewList::from(list))
+    }
+
+    /// Whether these are the depths of its cuts.
+    pub fn has_depths(&self, depths: &[u8]) -> bool
+        ensures { result ≡ has_depths depths.now self.now }
+    {
+        self.depths.as_slice() == depths
     }
 
     /// Whether in every dimension the depth of a region's node is at most the view's.

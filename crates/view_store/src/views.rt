@@ -1,5 +1,5 @@
 //! All views of a cube.
-ghost use Rattle.std.specs.Prelude.{◌≡◌, ◌≤◌, ◌<◌, ◌+◌, All, List, IfOk, IfSome, length, map, slice_get};
+ghost use Rattle.std.specs.Prelude.{◌≡◌, ◌≤◌, ◌<◌, ◌+◌, [], ◌∷◌, All, List, IfOk, IfSome, OnOk, length, map, slice_get};
 ghost use Rattle.std.specs.Option.{option_copied, option_map};
 ghost use Rattle.cube_model.specs.Limits.{MAX_COLS};
 ghost use Rattle.cube_model.specs.Tree.{Dimension};
@@ -7,7 +7,7 @@ ghost use Rattle.region_algebra.specs.Space.{IsRegion, code_of};
 ghost use Rattle.staged_map.specs.Staged.{value_at};
 ghost use Rattle.view_store.specs.declared.change.ViewChange.{ViewChange};
 ghost use Rattle.view_store.specs.Changes.{AreAfter, AreAllSet, AreSame, AreSet, AreStaged, FitsView, FitsViews, HaveRooms, HaveRoomFor, HaveSameContent, IsStagedFor};
-ghost use Rattle.view_store.specs.Rolling.{FitsUnder, rolled_up, serving};
+ghost use Rattle.view_store.specs.Rolling.{FitsUnder, listed_under, rolled_up, serving, view_with};
 ghost use Rattle.view_store.specs.Views.{AreViewsOf, IsEntry, IsViewOf, listed, view_of, without_entries};
 
 use crate::change::Entries;
@@ -55,6 +55,21 @@ impl Views {
             let depths = Vec::from_slice(alloc, def.depths.as_slice())?;
             views.push(View::new(alloc, columns, Depths::from(depths)))?;
         }
+        Ok(Views {
+            alloc,
+            columns,
+            views,
+        })
+    }
+
+    /// One view with these cuts, without entries, over a number of columns, the count included.
+    pub fn of_cuts(alloc: Global, depths: Depths, columns: u32) -> Result<Self, Memory>
+        requires some { 1 ≤ columns }
+        requires most { columns ≤ MAX_COLS + 1 }
+        ensures { IfOk result (λ views. views ≡ record { columns = columns; views = record { columns = columns; depths = depths; entries = [] } ∷ [] }) }
+    {
+        let mut views = Vec::with_capacity(alloc, 1)?;
+        views.push(View::new(alloc, columns, depths))?;
         Ok(Views {
             alloc,
             columns,
@@ -161,6 +176,43 @@ impl Views {
         ensures whole { IfOk result (All (λ entry. 1 ≤ length entry.1.terms)) }
     {
         self.views[view as usize].list(space)
+    }
+
+    /// Those of them that lie under a region. Of the view it is told that each entry has a term.
+    pub fn list_under(&self, space: &Space, view: u32, r: Region) -> Result<ViewList, Memory>
+        requires views { AreViewsOf space.now self.now }
+        requires view { view < length self.now.views }
+        requires region { IsRegion space.now r }
+        ensures entries { IfOk result (λ list. IfSome (slice_get self.now.views view) (λ v. list ≡ listed_under space.now v r)) }
+        ensures whole { OnOk result (IfSome (slice_get self.now.views view) (λ v. All (λ entry. 1 ≤ length entry.1.terms) (listed space.now v))) }
+    {
+        self.views[view as usize].list_under(space, r)
+    }
+
+    /// The same of the first view with these depths. None exactly where no view has them.
+    pub fn list_with(
+        &self,
+        space: &Space,
+        depths: &[u8],
+        r: Region,
+    ) -> Result<Option<ViewList>, Memory>
+        requires views { AreViewsOf space.now self.now }
+        requires region { IsRegion space.now r }
+        ensures entries { IfOk result (λ found. found ≡ option_map (λ view. listed_under space.now view r) (view_with self.now depths.now)) }
+        ensures whole { OnOk result (IfSome (view_with self.now depths.now) (λ view. All (λ entry. 1 ≤ length entry.1.terms) (listed space.now view))) }
+    {
+        match self.first_with(depths) {
+            Some(view) => Ok(Some(view.list_under(space, r)?)),
+            None => Ok(None),
+        }
+    }
+
+    /// The first view with these depths.
+    fn first_with(&self, depths: &[u8]) -> Option<&View>
+        ensures found { option_copied result ≡ view_with self.now depths.now }
+        ensures view { (dims : List Dimension) → AreViewsOf dims self.now → IfSome result (λ view. IsViewOf dims view.now) }
+    {
+        self.views.iter().find(|view| view.has_depths(depths))
     }
 }
 

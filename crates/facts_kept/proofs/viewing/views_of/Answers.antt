@@ -2,6 +2,7 @@
 use Rattle.std.proofs.Common.{◌≡◌, ◌∙◌, [], List, ap, subst, sym}
 use Rattle.std.specs.Prelude.{All}
 use Rattle.cube_model.specs.Allocation.{extended}
+use Rattle.fact_groups.proofs.Ascending.{ascends-from_increasing}
 use Rattle.fact_records.specs.Shape.{policy_over, width_of_all}
 use Rattle.view_store.specs.declared.change.ViewChange.{ViewChange}
 use Rattle.view_store.specs.Changes.{FitsView, given, taken}
@@ -23,7 +24,7 @@ stage-requires-clause-changes g c =
     let puts : c.deref.result.now ≡ puts_at c.args.space.now c.args.groups.now c.in_ok-codes.codes = c.deref.ensures.value ∙ c.in_ok-changes.ensures ∙ ap (puts_at c.args.space.now c.args.groups.now) c.as_slice.ensures in
     subst (λ (changes : List ViewChange). All (FitsView c.args.space.now changes) c.args.views.views) (sym puts)
     (fit-puts (g.P.WeightPolicy.weigh c.args.policy.now) (g.met.P.WeightPolicy.bound c.args.policy.now) c.args.shape.now c.args.space.now c.args.facts.now.facts
-    c.columns.ensures.shape c.dims.ensures.trees c.requires.valid c.args.groups.now c.requires.groups c.in_ok-codes.codes c.in_ok-codes.ensures
+    c.columns.ensures.shape c.dims.ensures.trees c.requires.valid c.args.groups.now c.requires.groups c.in_ok-codes.codes (ascends-from_increasing c.in_ok-codes.codes c.in_ok-codes.ensures.ascending)
     c.args.views.views (answers-none c.args.shape.now c.args.space.now c.args.views c.requires.empty) c.requires.empty.each)
 
 pub returns : goal.returns
@@ -33,6 +34,6 @@ returns g c =
     let follow : FollowBy [] (taken c.deref.result.now) (given c.deref.result.now) rows =
     subst (λ (changes : List ViewChange). FollowBy [] (taken changes) (given changes) rows) (sym puts)
     (follow-puts (g.P.WeightPolicy.weigh c.args.policy.now) (g.met.P.WeightPolicy.bound c.args.policy.now) c.args.shape.now c.args.space.now c.args.facts.now.facts
-    c.columns.ensures.shape c.dims.ensures.trees c.requires.valid c.args.groups.now c.requires.groups c.in_ok-codes.codes c.in_ok-codes.ensures) in
+    c.columns.ensures.shape c.dims.ensures.trees c.requires.valid c.args.groups.now c.requires.groups c.in_ok-codes.codes (ascends-from_increasing c.in_ok-codes.codes c.in_ok-codes.ensures.ascending) c.in_ok-codes.ensures) in
     views-put c.args.shape.now c.args.space.now c.args.views c.requires.empty c.stage.new.self c.install.new.self c.deref.result.now rows
     c.in_ok-stage.ensures.same (c.install.ensures.after c.args.space.now c.deref.result.now c.in_ok-stage.ensures.staged) follow
