@@ -3,8 +3,13 @@ pub mod Below
 pub mod CodeChanges
 pub mod Covering
 pub mod Drafted
+pub mod EitherEnds
+pub mod EndsAt
+pub mod EndsOver
+pub mod EndsSoFar
 pub mod FactsGiven
 pub mod GroupAnswers
+pub mod GroupEnds
 pub mod GroupSeen
 pub mod GroupShares
 pub mod Installing
@@ -24,6 +29,13 @@ pub mod Seeing
 pub mod SmallTerms
 pub mod Spreading
 pub mod Staging
+pub mod TableDepths
+pub mod TableGroups
+pub mod TableKept
+pub mod TableLaw
+pub mod TableNodes
+pub mod TableRegions
+pub mod TableViews
 pub mod TouchingShares
 pub mod ViewAnswers
 pub mod ViewsFit

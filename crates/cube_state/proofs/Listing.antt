@@ -22,6 +22,13 @@ use Rattle.cube_state.specs.State.{StateValue, policy_in, rows_in, terms_in, vie
 pub All-found : {X : Type 0} (P : X → Type 0) (xs : List X) (i : ℕ) (x : X) → All P xs → slice_get xs i ≡ Some x → P x
 All-found P xs i x each at = subst P (get_or_from_slice_get xs i x x at) (All-get_or P xs i x (slice_get_within xs i x at) each)
 
+-- terms over a count and the columns of the values are those of the state
+pub terms-wide : {P : Type 0} (weigh : P → CellStat → ℕ) (state : StateValue P) (columns : ℕ) → columns ≡ width_of_all state.shape.measures + 1 → terms_over state.dims (rows_in weigh state) columns ≡ terms_in weigh state
+terms-wide weigh state columns wide =
+    let values : columns - 1 ≡ width_of_all state.shape.measures = omega (arith, wide) in
+    ap (λ n. λ region. record { columns = n; terms = answer (columns - 1) state.dims (rows_in weigh state) region }) wide
+    ∙ ap (λ n. λ region. record { columns = width_of_all state.shape.measures + 1; terms = answer n state.dims (rows_in weigh state) region }) values
+
 module _ {P : Type 0} (weigh : P → CellStat → ℕ) (state seen : StateValue P) (same : seen ≡ state) (kept : IsState (policy_in weigh seen) seen.shape seen.dims seen.cuts seen.facts seen.kept)
     (trees : All IsTree seen.dims) (columns : ℕ) (columns_are : columns ≡ seen.kept.views.columns) (each : All (λ view. view.columns ≡ columns) seen.kept.views.views) where
   -- each view has a count and the columns of the values
@@ -42,19 +49,13 @@ module _ {P : Type 0} (weigh : P → CellStat → ℕ) (state seen : StateValue 
       ap (λ (cuts : List (List ℕ)). slice_get cuts place) (sym kept.views.cuts_are) ∙ slice_get-map (λ (v : ViewMap). v.depths) seen.kept.views.views place ∙ ap (option_map (λ (v : ViewMap). v.depths)) at in
       ap (λ found. option_map_or (λ depths. entries_of terms (cut_regions seen.dims depths)) found []) depths
 
-  terms-same : (view : ViewMap) → view.columns ≡ width_of_all seen.shape.measures + 1 → terms_over seen.dims (rows_in weigh seen) view.columns ≡ terms
-  terms-same view columns_is =
-      let width : view.columns - 1 ≡ width_of_all seen.shape.measures = omega (arith, columns_is) in
-      ap (λ n. λ region. record { columns = n; terms = answer (view.columns - 1) seen.dims (rows_in weigh seen) region }) columns_is
-      ∙ ap (λ n. λ region. record { columns = width_of_all seen.shape.measures + 1; terms = answer n seen.dims (rows_in weigh seen) region }) width
-
   listed-view : (place : ℕ) (list : List (List ℕ × TermList)) (view : ViewMap) → slice_get seen.kept.views.views place ≡ Some view → list ≡ listed seen.dims view → All HasTerms list → IsListed place list
   listed-view place list view at is whole =
       let of = All-found (IsViewOfFacts seen.dims (rows_in weigh seen)) seen.kept.views.views place view kept.views.answers at in
       let over = All-found (IsViewOf seen.dims) seen.kept.views.views place view kept.views.over at in
       let entries : list ≡ entries_of terms (cut_regions seen.dims view.depths) =
       is ∙ listed-in_order seen.dims (rows_in weigh seen) view of trees over (subst (All HasTerms) is whole)
-      ∙ ap (λ terms. entries_of terms (cut_regions seen.dims view.depths)) (terms-same view (view-columns place view at)) in
+      ∙ ap (λ terms. entries_of terms (cut_regions seen.dims view.depths)) (terms-wide weigh seen view.columns (view-columns place view at)) in
       record {
         entries = entries ∙ sym (view-depths place view at) ∙ ap (λ (s : StateValue P). view_at weigh s place) same;
         regions = subst (λ (s : StateValue P). All (λ (entry : List ℕ × TermList). IsRegion s.dims entry.0) list) same

@@ -1,6 +1,6 @@
 -- The allocation of a fact, by its id and by the group of its region.
-use Rattle.std.proofs.Common.{◌≡◌, ℕ, Bool, true, false, Bor, List, [], ◌∷◌, length, map, refl, ap, sym, ◌∙◌, subst, arith}
-use Rattle.std.specs.Prelude.{All, Ok, filter, find, ◌==◌, if◌then◌else◌, Option, Some, None}
+use Rattle.std.proofs.Common.{◌≡◌, ℕ, zero, suc, ◌<◌, Bool, true, false, Bor, List, [], ◌∷◌, get_or, length, map, refl, ap, sym, ◌∙◌, subst, arith}
+use Rattle.std.specs.Prelude.{All, AllPairs, Ok, filter, find, ◌==◌, if◌then◌else◌, Option, Some, None}
 use Rattle.std.specs.Option.{option_copied, option_map}
 use Rattle.std.proofs.lemmas.Bool.Decides.{nat_tests}
 use Rattle.cube_model.specs.declared.edit.Fact.{Fact}
@@ -12,6 +12,7 @@ use Rattle.region_algebra.specs.Space.{IsRegion, code_of}
 use Rattle.staged_map.specs.Staged.{value_at}
 use Rattle.alloc_rows.proofs.Spreading.{AreRows-spreads}
 use Rattle.fact_groups.specs.Groups.{Group, column_sums, facts_with, group_at, has_code, spread_at}
+use Rattle.fact_groups.proofs.Ascending.{pairs-first, pairs-rest}
 use Rattle.fact_groups.proofs.Groups.{first-holds, group_at-region}
 use Rattle.fact_groups.proofs.Sharing.{allocation-spread_at}
 use Rattle.fact_records.specs.Shape.{ShapeValue, width_of_all}
@@ -19,6 +20,15 @@ use Rattle.fact_records.specs.Valid.{AreValid}
 use Rattle.facts_kept.specs.Kept.{IsState}
 use Rattle.facts_kept.proofs.ValidFacts.{valid-regions}
 use Rattle.cube_state.specs.State.{StateValue, policy_in, rows_in}
+
+-- of facts in order of their ids, the one with the id of each is that one
+pub find-itself : (facts : List Fact) → AllPairs (λ f g. f.id < g.id) facts → All (λ f. find (λ g. g.id == f.id) facts ≡ Some f) facts
+find-itself [] up k d within = absurd (omega arith)
+find-itself (fact ∷ facts) up zero d within = let here : (fact.id == fact.id) ≡ true = grind (arith, nat_tests) in rw here refl
+find-itself (fact ∷ facts) up (suc k) d within =
+    let before = pairs-first (λ f g. f.id < g.id) fact facts up k d (omega (arith, within)) in
+    let other : (fact.id == (get_or facts k d).id) ≡ false = grind (arith, nat_tests, before) in
+    rw other (find-itself facts (pairs-rest (λ f g. f.id < g.id) fact facts up) k d (omega (arith, within)))
 
 module _ (policy : Policy) (dims : List Dimension) (facts : List Fact) where
   abbrev extended_fact : Fact → ExtendedFact

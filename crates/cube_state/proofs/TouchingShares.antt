@@ -28,7 +28,7 @@ use Rattle.group_sum.specs.declared.shares.Share.{Share}
 use Rattle.cube_state.specs.Answering.{share_of, shares_of}
 
 -- where none of the cells is among others, none of the others is among the cells
-apart-each : (others cells : List ℕ) (k d : ℕ) → k < length others → list_any (is_among others) cells ≡ false → is_among cells (get_or others k d) ≡ false
+pub apart-each : (others cells : List ℕ) (k d : ℕ) → k < length others → list_any (is_among others) cells ≡ false → is_among cells (get_or others k d) ≡ false
 apart-each others [] k d within apart = refl
 apart-each others (cell ∷ cells) k d within apart =
     let parts = or_parts (is_among others cell) (list_any (is_among others) cells) apart in
@@ -47,7 +47,7 @@ module _ (P : ℕ → Type 0) where
   either-rows false true even weighed first second = first
   either-rows false false even weighed first second = second
 
-  spread-on : (weight : ℕ → ℕ) (cells : List ℕ) → All P cells → All (λ row. P row.0) (spread weight cells).rows
+  pub spread-on : (weight : ℕ → ℕ) (cells : List ℕ) → All P cells → All (λ row. P row.0) (spread weight cells).rows
   spread-on weight cells each =
       either-rows (length cells == 1) (sum_by weight cells == 0) (spread_evenly cells) (spread_by weight cells) (on-cells (λ cell. 1) cells each)
       (All-filter (λ (row : ℕ × ℕ). nat_lt 0 row.1) (λ (row : ℕ × ℕ). P row.0) (map (λ cell. (cell, weight cell)) cells) (on-cells weight cells each))
@@ -64,7 +64,7 @@ module _ (policy : Policy) (columns : ℕ) (dims : List Dimension) (facts : List
   cells = cells_of dims region
 
   -- of a fact's code it is told whether its region has a cell in common
-  touching-told : (code : ℕ) (f : Fact) → IsRegion dims f.region → code_of dims f.region ≡ code → is_among (codes_touching dims region) code ≡ list_any (is_among (cells_of dims f.region)) cells
+  pub touching-told : (code : ℕ) (f : Fact) → IsRegion dims f.region → code_of dims f.region ≡ code → is_among (codes_touching dims region) code ≡ list_any (is_among (cells_of dims f.region)) cells
   unfolding codes_touching
   touching-told code f named is =
       among-places (λ other. list_any (is_among (cells_of dims other)) cells) 0 code code (all_regions dims) f.region (omega arith) (ap (slice_get (all_regions dims)) (sym is) ∙ region-at_code dims f.region trees named)
@@ -109,7 +109,7 @@ module _ (policy : Policy) (columns : ℕ) (dims : List Dimension) (facts : List
     abbrev pub all_codes : List ℕ
     all_codes = codes_touching dims region ++ filter is_other held
 
-    other-codes : (codes : List ℕ) → All (λ code. is_among (codes_touching dims region) code ≡ false) (filter is_other codes)
+    pub other-codes : (codes : List ℕ) → All (λ code. is_among (codes_touching dims region) code ≡ false) (filter is_other codes)
     other-codes [] = λ k d within. absurd (omega (arith, within))
     other-codes (code ∷ codes) = by (is_among (codes_touching dims region) code) refl (other-codes codes)
       where

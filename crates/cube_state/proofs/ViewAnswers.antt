@@ -27,7 +27,7 @@ use Rattle.facts_kept.proofs.FactBounds.{rows-small, rows-within}
 use Rattle.cube_state.proofs.SmallTerms.{AreSmallTerms, merges-within, small-each, small-none}
 
 -- what is found passes, and holds what all hold
-find-all : {X : Type 0} (P : X → Type 0) (p : X → Bool) (xs : List X) → All P xs → IfSome (find p xs) (λ x. P x × (p x ≡ true))
+pub find-all : {X : Type 0} (P : X → Type 0) (p : X → Bool) (xs : List X) → All P xs → IfSome (find p xs) (λ x. P x × (p x ≡ true))
 find-all P p [] each = tt
 find-all P p (x ∷ xs) each = by (p x) refl (find-all P p xs (All-tail P x xs each))
   where

@@ -2,7 +2,9 @@ pub mod Answering
 pub mod Covering
 pub mod GroupAfter
 pub mod Moves
+pub mod Ranging
 pub mod Regrouped
 pub mod Sets
 pub mod State
+pub mod Tables
 pub mod ViewChanges

@@ -20,9 +20,9 @@ use Rattle.facts_kept.specs.Kept.{IsState, Kept}
 use Rattle.edit_plan.specs.Plan.{kept_rows}
 use Rattle.edit_plan.specs.Refreshing.{is_same_spread}
 use Rattle.edit_plan.specs.Whole.{ids_otherwise, lay_so, lies_otherwise, rows_otherwise}
-use Rattle.cube_state.proofs.Looking.{group-found}
+use Rattle.cube_state.proofs.Looking.{find-itself, group-found}
 use Rattle.facts_kept.proofs.ValidFacts.{valid-regions}
-use Rattle.edit_plan.proofs.RowsKept.{among-some, find-itself, whole}
+use Rattle.edit_plan.proofs.RowsKept.{among-some, whole}
 
 -- What is made of the facts of a list that pass a test, one fact after another: so far, and of those that are left.
 module _ {X Y : Type 0} (p : X → Bool) (f : X → Y) where

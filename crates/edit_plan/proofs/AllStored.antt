@@ -16,7 +16,7 @@ use Rattle.edit_plan.specs.Plan.{kept_fact}
 use Rattle.cube_state.specs.State.{StateValue}
 use Rattle.edit_plan.specs.Whole.{new_kept}
 use Rattle.cube_state.proofs.Accepting.{allowed, found-there}
-use Rattle.edit_plan.proofs.RowsKept.{find-itself}
+use Rattle.cube_state.proofs.Looking.{find-itself}
 
 -- the ids that are there once a fact is put, and once all are
 has-put : (id : ℕ) (fact : Fact) (facts : List Fact) → has_id id (put fact facts) ≡ (fact.id == id || has_id id facts)

@@ -1,9 +1,8 @@
 -- The rows of the facts that an edit refreshes, by the groups after it.
-use Rattle.std.proofs.Common.{◌≡◌, ℕ, zero, suc, ◌+◌, ◌<◌, ◌≤◌, Bool, true, false, List, [], ◌∷◌, ◌++◌, get_or, length, map, take, refl, ap, sym, ◌∙◌, arith}
+use Rattle.std.proofs.Common.{◌≡◌, ℕ, ◌+◌, ◌<◌, ◌≤◌, Bool, true, false, List, [], ◌∷◌, ◌++◌, get_or, length, map, take, refl, ap, sym, ◌∙◌}
 use Rattle.std.specs.Prelude.{All, AllPairs, Option, Some, None, filter, filter_map, find, not, ◌==◌}
 use Rattle.std.specs.List.{cons_option}
 use Rattle.std.specs.Option.{option_map, option_map_or}
-use Rattle.std.proofs.lemmas.Bool.Decides.{nat_tests}
 use Rattle.std.proofs.lemmas.List.{take_all, take_more}
 use Rattle.std.proofs.lemmas.List.Elements.{All-head, All-tail, filter_map-append}
 use Rattle.cube_model.specs.declared.edit.Edit.{Edit}
@@ -17,7 +16,6 @@ use Rattle.cube_model.specs.Tree.{Dimension, IsTree}
 use Rattle.region_algebra.specs.Space.{IsRegion, code_of}
 use Rattle.fact_keeper.specs.declared.content.KeptRows.{KeptRows}
 use Rattle.fact_groups.specs.Groups.{Group, group_at}
-use Rattle.fact_groups.proofs.Ascending.{pairs-first, pairs-rest}
 use Rattle.fact_groups.proofs.Edits.{pairs-after}
 use Rattle.fact_groups.proofs.Refreshing.{among-kept, any-found, found-has}
 use Rattle.fact_groups.proofs.Sharing.{allocation-spread_at}
@@ -33,6 +31,7 @@ use Rattle.cube_state.specs.State.{StateValue, policy_in}
 use Rattle.edit_plan.proofs.GroupsNow.{groups-now}
 use Rattle.edit_plan.proofs.OwnPair.{spread-found}
 use Rattle.edit_plan.proofs.SeenPairs.{later-regions}
+use Rattle.cube_state.proofs.Looking.{find-itself}
 
 abbrev pub record_of : ℕ → Allocation → KeptRows
 record_of id a = record { id = id; den = a.den; rows = a.rows }
@@ -40,15 +39,6 @@ record_of id a = record { id = id; den = a.den; rows = a.rows }
 -- the rows of an id, where its region is spread so
 abbrev pub rows_by : (ℕ → Option Group) → ℕ × ℕ → Option KeptRows
 rows_by group pair = option_map (record_of pair.0) (option_map (λ g. g.spread) (group pair.1))
-
--- of facts in order of their ids, the one with the id of each is that one
-pub find-itself : (facts : List Fact) → AllPairs (λ f g. f.id < g.id) facts → All (λ f. find (λ g. g.id == f.id) facts ≡ Some f) facts
-find-itself [] up k d within = absurd (omega arith)
-find-itself (fact ∷ facts) up zero d within = let here : (fact.id == fact.id) ≡ true = grind (arith, nat_tests) in rw here refl
-find-itself (fact ∷ facts) up (suc k) d within =
-    let before = pairs-first (λ f g. f.id < g.id) fact facts up k d (omega (arith, within)) in
-    let other : (fact.id == (get_or facts k d).id) ≡ false = grind (arith, nat_tests, before) in
-    rw other (find-itself facts (pairs-rest (λ f g. f.id < g.id) fact facts up) k d (omega (arith, within)))
 
 module _ (policy : Policy) (dims : List Dimension) (facts later : List Fact) (up : AllPairs (λ f g. f.id < g.id) later) where
   abbrev pub whole : Fact → ExtendedFact

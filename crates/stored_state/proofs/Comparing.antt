@@ -14,8 +14,7 @@ use Rattle.fact_groups.proofs.Refreshing.{same_allocation, same_allocations}
 use Rattle.fact_keeper.specs.declared.content.KeptRows.{KeptRows}
 use Rattle.edit_plan.specs.Plan.{kept_rows}
 use Rattle.cube_state.proofs.Listing.{All-found}
-use Rattle.cube_state.proofs.Looking.{allocation_of-found}
-use Rattle.edit_plan.proofs.RowsKept.{find-itself}
+use Rattle.cube_state.proofs.Looking.{allocation_of-found, find-itself}
 use Rattle.stored_state.specs.Loading.{DiffersAt, IsRowsFault, rows_told, spread_told}
 use Rattle.stored_state.specs.declared.finding.Finding.TheVariants as finding
 use Rattle.stored_state.specs.declared.finding.LoadFault.{LoadFault}

@@ -41,16 +41,16 @@ contains_part {X} {Y} f (first ∷ xs) x y (zero, within, is) there =
 contains_part f (first ∷ xs) x y (suc k, within, is) there = Contains-append_right (f first) (flat_map f xs) y (contains_part f xs x y (k, omega (arith, within), is) there)
 
 -- a row of a fact at the cell that is picked
-record IsPickOf (rows : List (ℕ × ℕ)) (cell : ℕ) : Type 0 where
-  row : ℕ × ℕ
-  there : Contains rows row
-  is : row.0 ≡ cell
+pub record IsPickOf (rows : List (ℕ × ℕ)) (cell : ℕ) : Type 0 where
+  pub row : ℕ × ℕ
+  pub there : Contains rows row
+  pub is : row.0 ≡ cell
 
 picked_or_first : (row : Option (ℕ × ℕ)) (first : ℕ × ℕ) (rows : List (ℕ × ℕ)) → MatchOption row (Unit {0}) (Contains (first ∷ rows)) → IsPickOf (first ∷ rows) (cell_of row first)
 picked_or_first None first rows found = record { row = first; there = contains_head first rows; is = refl }
 picked_or_first (Some row) first rows found = record { row = row; there = found; is = refl }
 
-picked_row : (extreme : Extreme) (cells : List ℕ) (value : ℤ) (rows : List (ℕ × ℕ)) → 1 ≤ length rows → IsPickOf rows (pick_among extreme cells value rows)
+pub picked_row : (extreme : Extreme) (cells : List ℕ) (value : ℤ) (rows : List (ℕ × ℕ)) → 1 ≤ length rows → IsPickOf rows (pick_among extreme cells value rows)
 picked_row extreme cells value [] some = absurd (omega arith)
 picked_row extreme cells value (first ∷ rows) some = picked_or_first _ first rows (contains_found (λ (row : ℕ × ℕ). is_wanted extreme value (is_among cells row.0)) (first ∷ rows))
 
