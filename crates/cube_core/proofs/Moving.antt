@@ -16,8 +16,8 @@ use Rattle.edit_plan.specs.Plan.{kept_rows}
 use Rattle.cube_state.specs.State.{StateValue, policy_in, rows_in}
 use Rattle.edit_plan.specs.Whole.{rows_among}
 use Rattle.edit_plan.proofs.AllRefreshed.{gathered-all, gathered-next, gathered-none, left-first}
-use Rattle.cube_state.proofs.Looking.{allocation_of-found}
-use Rattle.edit_plan.proofs.RowsKept.{among-some, find-itself, whole}
+use Rattle.cube_state.proofs.Looking.{allocation_of-found, find-itself}
+use Rattle.edit_plan.proofs.RowsKept.{among-some, whole}
 use Rattle.fact_groups.proofs.Ascending.{ascends-from_pairs}
 use Rattle.fact_keeper.specs.declared.content.KeptRows.{KeptRows}
 use Rattle.fact_records.specs.Shape.{policy_over}

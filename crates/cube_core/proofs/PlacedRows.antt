@@ -1,8 +1,7 @@
 -- The facts of a cube, placed one after another.
-use Rattle.std.proofs.Common.{◌≡◌, ℕ, zero, suc, ◌+◌, ◌<◌, ◌≤◌, List, [], ◌∷◌, ◌++◌, get_or, length, map, ap, sym, ◌∙◌, subst, arith, Some, None}
-use Rattle.std.specs.Prelude.{All, find, nat_abs, ◌==◌}
+use Rattle.std.proofs.Common.{◌≡◌, ℕ, ◌+◌, ◌≤◌, List, [], ◌∷◌, ◌++◌, get_or, length, map, ap, sym, ◌∙◌, subst, arith, Some, None}
+use Rattle.std.specs.Prelude.{All, nat_abs}
 use Rattle.std.specs.Option.{option_map}
-use Rattle.std.proofs.lemmas.Bool.Decides.{nat_tests}
 use Rattle.std.proofs.lemmas.List.{append-nil, append_assoc, length-map}
 use Rattle.std.proofs.lemmas.List.Elements.{All-append, All-cons, All-head, All-map, All-nil, All-tail}
 use Rattle.cube_model.specs.declared.edit.Fact.{Fact}
@@ -11,8 +10,7 @@ use Rattle.cube_model.specs.Cells.{AreRows}
 use Rattle.cube_model.specs.Limits.{MAX_CELLS, MAX_FACTS, MAX_VALUE}
 use Rattle.cube_model.specs.Tree.{Dimension}
 use Rattle.alloc_rows.specs.Alloc.{IsAllocation}
-use Rattle.cube_state.proofs.Looking.{allocation_of-found}
-use Rattle.fact_groups.proofs.Ascending.{pairs-first, pairs-rest}
+use Rattle.cube_state.proofs.Looking.{allocation_of-found, find-itself}
 use Rattle.fact_records.specs.FactList.{IsAscending}
 use Rattle.fact_records.specs.Shape.{width_of_all}
 use Rattle.schema_text.specs.Schema.{IsSchema, SchemaValue, shape_of}
@@ -25,15 +23,6 @@ use Rattle.cube_core.proofs.Rows.{AreRows-allocation, allocation-le, extended-am
 -- a placed fact's rows are an allocation
 abbrev pub IsAllocated : Placed → Type 0
 IsAllocated p = IsAllocation (record { den = p.den; rows = p.rows })
-
--- each fact is found by its id
-find-itself : (facts : List Fact) → IsAscending facts → All (λ f. find (λ g. g.id == f.id) facts ≡ Some f) facts
-find-itself [] up k d within = absurd (omega arith)
-find-itself (fact ∷ facts) up zero d within = grind (arith, nat_tests)
-find-itself (fact ∷ facts) up (suc k) d within =
-    let above : fact.id < (get_or facts k d).id = pairs-first (λ (f g : Fact). f.id < g.id) fact facts up k d (omega arith) in
-    let rest : find (λ g. g.id == (get_or facts k d).id) facts ≡ Some (get_or facts k d) = find-itself facts (pairs-rest (λ (f g : Fact). f.id < g.id) fact facts up) k d (omega arith) in
-    grind (arith, nat_tests)
 
 -- the allocation of a fact is that of its id
 abbrev pub IsFound : Policy → List Dimension → List Fact → Fact → Type 0

@@ -3,6 +3,7 @@ pub mod Examples
 pub mod Expected
 pub mod Growth
 pub mod Import
+pub mod Ranging
 pub mod Respread
 pub mod View
 pub mod WorldSums

@@ -8,6 +8,7 @@ use Rattle.fact_records.specs.Shape.{width_of_all}
 use Rattle.group_sum.specs.Terms.{TermList}
 use Rattle.schema_text.specs.Schema.{SchemaValue}
 use Rattle.view_store.specs.Cuts.{cut_regions, entries_of}
+use Rattle.cube_state.specs.Tables.{table_regions}
 use Rattle.cube_core.specs.Cube.{CubeValue, rows_over}
 
 -- what facts add up to in a region
@@ -30,3 +31,8 @@ view_in weigh cube view = view_over (weigh cube.policy) cube.schema cube.facts v
 -- and what these add up to in a region
 abbrev pub terms_in : {P : Type 0} → (P → CellStat → ℕ) → CubeValue P → List ℕ → TermList
 terms_in weigh cube region = terms_over (weigh cube.policy) cube.schema cube.facts region
+
+-- The table of a region at depths: each region of the product of its members where the facts have terms, with them, in the order of
+-- the product.
+abbrev pub table_over : (CellStat → ℕ) → SchemaValue → List Fact → List ℕ → List ℕ → List (List ℕ × TermList)
+table_over weigh schema facts depths region = entries_of (terms_over weigh schema facts) (table_regions schema.dims depths region)

@@ -7,12 +7,17 @@ mod fault;
 mod growing;
 mod laws;
 mod place;
+mod ranging;
 mod respread;
+mod tabling;
 
 pub use cube::{Cube, Receipt};
+pub use cube_state::Ends;
 pub use fault::{EditFault, ImportFault};
 pub use laws::{worked_cube, worked_sums};
 pub use place::PlacedList;
+pub use ranging::Picks;
 pub use stored_state::{Finding, LoadFault};
+pub use tabling::tables_merge;
 pub use view_store::ViewList;
 pub use world_law::{Placed, WorldFault, WorldSum};
