@@ -1,4 +1,5 @@
 pub mod Beginning
+pub mod BesideFacts
 pub mod Bounded
 pub mod Chains
 pub mod ClaimSteps

@@ -3,8 +3,9 @@
 use Rattle.cube_model.specs.declared.edit.Fact.{Fact}
 use Rattle.cube_model.specs.Tree.{Dimension}
 use Rattle.iter_alloc.specs.Touching.{touch}
-use Rattle.std.specs.List.{fold, Contains, list_any}
-use Rattle.std.specs.Prelude.{◌&&◌, ◌==◌, if◌then◌else◌, ◌≡◌, ℕ, ◌≤◌, Bool, true, List, [], ◌∷◌, ◌++◌, map, min}
+use Rattle.std.specs.List.{fold, Contains, find, list_any}
+use Rattle.std.specs.Option.{option_map_or}
+use Rattle.std.specs.Prelude.{◌&&◌, ◌==◌, if◌then◌else◌, ◌≡◌, ℕ, ◌≤◌, Bool, true, List, [], ◌∷◌, ◌++◌, filter, map, min}
 
 -- a way from one fact to another through facts of the list, each of which touches the next
 pub data Chain (dims : List Dimension) (facts : List Fact) : Fact → Fact → Type 0 where
@@ -41,6 +42,14 @@ labels dims facts = map (λ l. l.label) (labelled dims facts)
 
 abbrev pub facts_of : List Labelled → List Fact
 facts_of ls = map (λ l. l.fact) ls
+
+-- the ids of the facts that have a label
+abbrev pub ids_labelled : List Labelled → ℕ → List ℕ
+ids_labelled ls label = map (λ l. l.fact.id) (filter (λ l. l.label == label) ls)
+
+-- those of the component in which the fact of an id is; none where there is no such fact
+abbrev pub component_of : List Dimension → List Fact → ℕ → List ℕ
+component_of dims facts id = option_map_or (λ own. ids_labelled (labelled dims facts) own.label) (find (λ l. l.fact.id == id) (labelled dims facts)) []
 
 -- a chain goes from a fact to the one whose id the label is
 pub record IsReached (dims : List Dimension) (ls : List Labelled) (f : Fact) (label : ℕ) : Type 0 where

@@ -1,3 +1,4 @@
+pub mod BesideFacts
 pub mod Claims
 pub mod Components
 pub mod Counting
