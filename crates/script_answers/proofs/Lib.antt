@@ -1,1 +1,4 @@
+pub mod Entries
+pub mod Many
 pub mod Measures
+pub mod Placing

@@ -1,32 +1,30 @@
 //! Answering the questions of a script.
 ghost use Rattle.std.specs.Prelude.{◌≡◌, ◌+◌, ◌<◌, ◌∷◌, length, pos, IfOk};
 ghost use Rattle.std.specs.Option.{option_copied};
-ghost use Rattle.exact_fraction.specs.One.{one_of};
 ghost use Rattle.fact_records.specs.Shape.{width_of_all};
 ghost use Rattle.region_algebra.specs.Space.{IsRegion};
 ghost use Rattle.schema_text.specs.Schema.{weigh_of};
-ghost use Rattle.script_text.specs.declared.reply.Answer.TheVariants as answers;
 ghost use Rattle.script_text.specs.LineOf.{IsMeasureOver, IsQuestionOf};
 ghost use Rattle.script_text.specs.Reply.{NamesCells, NamesPlaces};
 ghost use Rattle.script_text.specs.ScriptWord.{kind_of};
 ghost use Rattle.cube_core.specs.Cube.{rows_in};
-ghost use Rattle.fact_records.specs.declared.measure_reader.MeasureKind.TheVariants as kind;
-ghost use Rattle.script_answers.specs.Answers.{CanAsk, answer_to, first_col_at, measure_answer, pool_answer, quotient_answer, region_answer, reply_to, rows_answer, state_of, terms_at, worlds_answer};
+ghost use Rattle.script_answers.specs.Answers.{answer_to, id_answer, measure_answer, region_answer, reply_to, rows_answer, state_of, worlds_answer};
 
+use crate::depending::{component_answer, rounds_answer};
+use crate::ends::{picks_answer, range_answer};
+use crate::figures::{COUNT, Figure, figure_answer, first_col};
+use crate::tables::{each_figure, table_answer};
 use alloc_rows::Alloc;
 use cube_base::{Code, Memory, Nums, Pairs};
 use cube_core::Cube;
 use cube_model::Region;
-use exact_fraction::{Quotient, one, ratio};
-use group_sum::Terms;
-use linear_pool::{PoolFault, pool};
-use schema_text::{PolicyWord, Schema};
-use script_text::{Answer, IdWord, MeasureWord, Question, RegionWord, Reply, ViewWord};
+use schema_text::PolicyWord;
+use script_text::{
+    Answer, IdWord, MeasureWord, Question, RegionWord, Reply, RoundsWord, TableWord, ViewWord,
+};
 use std::alloc::Global;
 use world_law::{WorldFault, WorldSum};
-
-/// The column of the count.
-const COUNT: u32 = 0;
+use world_range::Extreme;
 
 /// What a cube answers a question, or the code by which it refuses it. The one error is want of memory.
 pub fn answer(
@@ -45,14 +43,30 @@ pub fn answer(
             measure,
             region,
         } => answer_of_measure(alloc, cube, *word, *measure, *region),
-        Question::OfId {
-            word: IdWord::Rows,
-            id,
-        } => rows_answer(alloc, cube.rows(*id)),
+        Question::OfId { word, id } => answer_of_id(alloc, cube, *word, *id),
         Question::OfView {
             word: ViewWord::View,
             view,
         } => Ok(Ok(Answer::View(cube.view_list(*view)?))),
+        Question::OfRounds {
+            word: RoundsWord::Iterate,
+            rounds,
+            region,
+        } => rounds_answer(alloc, cube.schema(), cube.facts(), *rounds, *region),
+        Question::OfTable {
+            word: TableWord::Counts,
+            depths,
+            region,
+        } => table_answer(alloc, cube, Figure::Count, depths, *region),
+        Question::OfMeasureTable {
+            word,
+            measure,
+            depths,
+            region,
+        } => {
+            let figure = each_figure(*word, *measure);
+            table_answer(alloc, cube, figure, depths, *region)
+        }
     }
 }
 
@@ -83,24 +97,11 @@ fn answer_of_region(
     ensures places { IfOk result (λ told. IfOk told (NamesPlaces cube.now.schema.dims)) }
 {
     match word {
-        RegionWord::Count => Ok(Ok(count_of(cube, region)?)),
+        RegionWord::Count => figure_answer(alloc, cube, Figure::Count, region),
         RegionWord::Terms => Ok(Ok(Answer::Terms(cube.answer(region)?))),
         RegionWord::Worlds => worlds_answer(alloc, cube, region),
+        RegionWord::RangeCount => range_answer(alloc, cube, region, COUNT),
     }
-}
-
-/// How much the facts in a region count.
-fn count_of(cube: &Cube<PolicyWord>, region: Region) -> Result<Answer, Memory>
-    requires { IsRegion cube.now.schema.dims region }
-    ensures { IfOk result (λ told. told ≡ answers.Value (one_of 0 (terms_at (weigh_of cube.now.policy) cube.now.schema (state_of cube.now) region))) }
-{
-    let Ok(terms) = cube.answer(region) else {
-        return Err(Memory);
-    };
-    let count = one(&terms, COUNT);
-    // Dropped by a call, which is proved once: in place it would be proved on each way out.
-    drop(terms);
-    Ok(Answer::Value(count))
 }
 
 /// What is told of a measure over a region.
@@ -112,70 +113,43 @@ fn answer_of_measure(
     region: Region,
 ) -> Result<Result<Answer, Code>, Memory>
     requires { IsMeasureOver cube.now.schema (kind_of word) measure region }
-    ensures answer { IfOk result (λ told. told ≡ measure_answer word cube.now.schema measure (terms_at (weigh_of cube.now.policy) cube.now.schema (state_of cube.now) region)) }
+    ensures answer { IfOk result (λ told. told ≡ measure_answer word (weigh_of cube.now.policy) cube.now.schema (state_of cube.now) measure region) }
     ensures places { IfOk result (λ told. IfOk told (NamesPlaces cube.now.schema.dims)) }
 {
-    let Ok(terms) = cube.answer(region) else {
-        return Err(Memory);
-    };
-    let told = measure_answer(alloc, cube.schema(), word, measure, &terms);
-    drop(terms);
-    told
+    match word {
+        MeasureWord::Sum => figure_answer(alloc, cube, Figure::Sum(measure), region),
+        MeasureWord::Avg => figure_answer(alloc, cube, Figure::Average(measure), region),
+        MeasureWord::Pool => figure_answer(alloc, cube, Figure::Pool(measure), region),
+        MeasureWord::Range => range_answer(alloc, cube, region, first_col(cube.schema(), measure)),
+        MeasureWord::Least => picks_answer(
+            cube,
+            Extreme::Least,
+            region,
+            first_col(cube.schema(), measure),
+        ),
+        MeasureWord::Greatest => picks_answer(
+            cube,
+            Extreme::Greatest,
+            region,
+            first_col(cube.schema(), measure),
+        ),
+    }
 }
 
-/// What is told of a measure over terms: `undefined` where there is no term to divide by.
-fn measure_answer(
+/// What is told of a fact.
+fn answer_of_id(
     alloc: Global,
-    schema: &Schema,
-    word: MeasureWord,
-    measure: u32,
-    terms: &Terms,
+    cube: &Cube<PolicyWord>,
+    word: IdWord,
+    id: u64,
 ) -> Result<Result<Answer, Code>, Memory>
-    requires { CanAsk schema.now (kind_of word) measure terms.now }
-    ensures answer { IfOk result (λ told. told ≡ measure_answer word schema.now measure terms.now.terms) }
-    ensures places { IfOk result (λ told. IfOk told (NamesPlaces schema.now.dims)) }
+    ensures answer { IfOk result (λ told. told ≡ id_answer word (weigh_of cube.now.policy) cube.now.schema (state_of cube.now) id) }
+    ensures places { IfOk result (λ told. IfOk told (NamesPlaces cube.now.schema.dims)) }
 {
     match word {
-        MeasureWord::Sum => Ok(Ok(Answer::Value(one(terms, first_col(schema, measure))))),
-        MeasureWord::Avg => Ok(quotient_answer(ratio(terms, first_col(schema, measure), 1))),
-        MeasureWord::Pool => pool_answer(alloc, schema, measure, terms),
+        IdWord::Rows => rows_answer(alloc, cube.rows(id)),
+        IdWord::Component => component_answer(alloc, cube.schema(), cube.facts(), id),
     }
-}
-
-/// A quotient is told where it is defined.
-fn quotient_answer(quotient: Quotient) -> Result<Answer, Code>
-    ensures { result ≡ quotient_answer quotient }
-{
-    match quotient {
-        Quotient::Undefined => Err(Code::Undefined),
-        Quotient::Is { .. } => Ok(Answer::Quotient(quotient)),
-    }
-}
-
-/// The pooled distribution of a parts measure over terms.
-fn pool_answer(
-    alloc: Global,
-    schema: &Schema,
-    measure: u32,
-    terms: &Terms,
-) -> Result<Result<Answer, Code>, Memory>
-    requires { CanAsk schema.now kind.Parts measure terms.now }
-    ensures { IfOk result (λ told. told ≡ pool_answer schema.now measure terms.now.terms) }
-{
-    match pool(alloc, terms, schema.shape(), measure) {
-        Ok(pooled) => Ok(Ok(Answer::Quotients(pooled))),
-        Err(PoolFault::Undefined) => Ok(Err(Code::Undefined)),
-        Err(PoolFault::Memory) => Err(Memory),
-    }
-}
-
-/// The first column of a measure.
-fn first_col(schema: &Schema, measure: u32) -> u32
-    requires { measure < length schema.now.measures }
-    ensures column { result ≡ first_col_at schema.now measure }
-    ensures within { result < width_of_all schema.now.measures + 1 }
-{
-    schema.shape().measure(measure).first_col
 }
 
 /// How a fact is spread: `missing` where there is none.

@@ -1,4 +1,5 @@
 pub mod Appending
+pub mod DepthFields
 pub mod Digits
 pub mod LineCases
 pub mod LineSteps

@@ -56,7 +56,11 @@ abbrev pub quotient_fields : Quotient → List (List ℕ)
 quotient_fields Undefined = []
 quotient_fields (Is lo hi exact) = bound_text lo ∷ bound_text hi ∷ exact_text exact ∷ []
 
--- those of one quotient after the other
+-- the quotient that a number is, over no count
+abbrev pub quotient_of : Value → Quotient
+quotient_of value = Is (Some value.lo) (Some value.hi) value.exact
+
+-- the fields of one quotient after the other
 abbrev pub pool_fields : List Quotient → List (List ℕ)
 pool_fields quotients = flat_map quotient_fields quotients
 

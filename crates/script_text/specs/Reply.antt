@@ -1,17 +1,18 @@
 -- The text of a reply over the dimensions whose cells it names.
-use Rattle.std.specs.Prelude.{ℕ, List, [], ◌∷◌, ◌++◌, All, length, map, codes, slice_get, ⊤, ℤ}
+use Rattle.std.specs.Prelude.{ℕ, ◌<◌, List, [], ◌∷◌, ◌++◌, All, length, map, codes, slice_get, ⊤, ℤ}
 use Rattle.std.specs.Option.{option_map_or}
 use Rattle.std.specs.List.{flat_map}
 use Rattle.std.specs.Fmt.{decimal, signed_decimal}
 use Rattle.cube_base.specs.Code.{word_of}
 use Rattle.cube_model.specs.declared.term.Term.{Term}
 use Rattle.cube_model.specs.Cells.{AreRows, all_cells}
+use Rattle.exact_fraction.specs.declared.quotients.Quotient.{Quotient as Ratio}
 use Rattle.text_lines.specs.Text.{line_text}
 use Rattle.group_sum.specs.Terms.{TermList}
 use Rattle.region_algebra.specs.Space.{IsRegion}
 use Rattle.cube_model.specs.Tree.{Dimension, entry_of}
 use Rattle.script_text.specs.declared.reply.Answer.{Answer}
-use Rattle.script_text.specs.declared.reply.Answer.TheVariants.{Value, Quotient, Quotients, Terms, Rows, View, Numbers}
+use Rattle.script_text.specs.declared.reply.Answer.TheVariants.{Value, Quotient, Quotients, Terms, Rows, View, Numbers, Picks, Table}
 use Rattle.script_text.specs.declared.reply.Reply.{Reply}
 use Rattle.script_text.specs.declared.reply.Reply.TheVariants.{Done, Refused, Told}
 use Rattle.script_text.specs.declared.word.ScriptWord.TheVariants.{Asks}
@@ -35,9 +36,13 @@ abbrev pub names_of : List Dimension → List ℕ → List (List ℕ)
 names_of (dim ∷ dims) (node ∷ nodes) = name_of dim node ∷ names_of dims nodes
 names_of dims nodes = []
 
--- the names of a cell's leaves, then the weight
+-- the names of a cell's leaves
+abbrev pub cell_fields : List Dimension → ℕ → List (List ℕ)
+cell_fields dims cell = option_map_or (names_of dims) (slice_get (all_cells dims) cell) []
+
+-- and then the weight
 abbrev pub row_fields : List Dimension → ℕ × ℕ → List (List ℕ)
-row_fields dims row = option_map_or (names_of dims) (slice_get (all_cells dims) row.0) [] ++ decimal row.1 ∷ []
+row_fields dims row = cell_fields dims row.0 ++ decimal row.1 ∷ []
 
 -- the denominator, the number of the rows, and the rows
 abbrev pub rows_fields : List Dimension → ℕ → List (ℕ × ℕ) → List (List ℕ)
@@ -55,6 +60,22 @@ view_fields dims entries = decimal (length entries) ∷ flat_map (entry_fields d
 abbrev pub numbers_fields : List ℤ → List (List ℕ)
 numbers_fields numbers = map signed_decimal numbers
 
+-- the id of a fact, and the names of the leaves of its cell
+abbrev pub pick_fields : List Dimension → ℕ × ℕ → List (List ℕ)
+pick_fields dims pick = decimal pick.0 ∷ cell_fields dims pick.1
+
+-- the sum, the number of the picks, and the picks
+abbrev pub picks_fields : List Dimension → ℤ → List (ℕ × ℕ) → List (List ℕ)
+picks_fields dims sum picks = signed_decimal sum ∷ decimal (length picks) ∷ flat_map (pick_fields dims) picks
+
+-- the names of the nodes of a region of a table, then its quotients
+abbrev pub told_fields : List Dimension → List ℕ × List Ratio → List (List ℕ)
+told_fields dims entry = names_of dims entry.0 ++ pool_fields entry.1
+
+-- the number of the regions, and the regions
+abbrev pub table_fields : List Dimension → List (List ℕ × List Ratio) → List (List ℕ)
+table_fields dims entries = decimal (length entries) ∷ flat_map (told_fields dims) entries
+
 -- the fields of an answer
 abbrev pub fields_of_answer : List Dimension → Answer → List (List ℕ)
 fields_of_answer dims (Value value) = value_fields value
@@ -64,6 +85,8 @@ fields_of_answer dims (Terms list) = terms_fields list.terms
 fields_of_answer dims (Rows den rows) = rows_fields dims den rows
 fields_of_answer dims (View entries) = view_fields dims entries
 fields_of_answer dims (Numbers numbers) = numbers_fields numbers
+fields_of_answer dims (Picks sum picks) = picks_fields dims sum picks
+fields_of_answer dims (Table entries) = table_fields dims entries
 
 -- the first field of a reply
 abbrev pub word_of_reply : Reply → List ℕ
@@ -84,6 +107,8 @@ reply_text dims reply = line_text (word_of_reply reply) (fields_of_reply dims re
 abbrev pub NamesPlaces : List Dimension → Answer → Type 0
 NamesPlaces dims (Rows _ rows) = AreRows dims rows
 NamesPlaces dims (View entries) = All (λ entry. IsRegion dims entry.0) entries
+NamesPlaces dims (Picks _ picks) = All (λ pick. pick.1 < length (all_cells dims)) picks
+NamesPlaces dims (Table entries) = All (λ entry. IsRegion dims entry.0) entries
 NamesPlaces dims fields = ⊤
 
 -- and those that a reply names

@@ -1,5 +1,5 @@
 -- What a line of a script says over a schema, and why it may be refused.
-use Rattle.std.specs.Prelude.{ℕ, ◌+◌, List, length, drop, ◌==◌, ◌&&◌, if◌then◌else◌, Option, Some, None, is_none, position, slice_get, Result, Ok, Err}
+use Rattle.std.specs.Prelude.{ℕ, ◌+◌, List, length, drop, take, ok_or, ◌==◌, ◌&&◌, if◌then◌else◌, Option, Some, None, is_none, position, slice_get, Result, Ok, Err}
 use Rattle.std.specs.Option.{option_and_then, option_map_or}
 use Rattle.std.specs.Str.{bytes_eq}
 use Rattle.cube_base.specs.declared.code.Code.{Code}
@@ -7,24 +7,28 @@ use Rattle.cube_base.specs.declared.code.Code.TheVariants as code
 use Rattle.cube_base.specs.Name.{is_name}
 use Rattle.cube_model.specs.declared.edit.Edit.TheVariants as edit
 use Rattle.cube_model.specs.Tree.{Dimension, node_named}
-use Rattle.text_lines.specs.Text.{fields_of}
+use Rattle.text_lines.specs.Text.{fields_of, number_in}
 use Rattle.text_lines.specs.LineText.{without_cr, is_skipped, is_long, is_clean, field_at}
 use Rattle.fact_records.specs.Fields.{fact_given, id_given, region_given, result_then}
 use Rattle.fact_records.specs.MeasureFields.{measure_given}
 use Rattle.schema_text.specs.Schema.{SchemaValue, shape_of, view_named}
+use Rattle.schema_text.specs.SchemaText.{depths_in, has_wrong_depths}
 use Rattle.script_text.specs.declared.word.AskWord.{AskWord}
-use Rattle.script_text.specs.declared.word.AskWord.TheVariants.{OfId, OfRegion, OfMeasure, OfView}
+use Rattle.script_text.specs.declared.word.AskWord.TheVariants.{OfId, OfRegion, OfMeasure, OfView, OfRounds, OfTable, OfMeasureTable}
 use Rattle.script_text.specs.declared.word.MeasureWord.{MeasureWord}
+use Rattle.script_text.specs.declared.word.MeasureTableWord.{MeasureTableWord}
+use Rattle.script_text.specs.declared.word.RoundsWord.{RoundsWord}
 use Rattle.script_text.specs.declared.word.ScriptWord.{ScriptWord}
 use Rattle.script_text.specs.declared.word.ScriptWord.TheVariants.{OfFact, Withdraw, Grow, Asks}
+use Rattle.script_text.specs.declared.word.TableWord.{TableWord}
 use Rattle.script_text.specs.declared.line.Line.{Line}
 use Rattle.script_text.specs.declared.line.Line.TheVariants as line
 use Rattle.script_text.specs.declared.line.Question.{Question}
 use Rattle.script_text.specs.declared.line.Question.TheVariants as question
-use Rattle.script_text.specs.ScriptWord.{kind_of, line_of_fact, word_spelled}
+use Rattle.script_text.specs.ScriptWord.{each_of, kind_of, line_of_fact, word_spelled}
 
--- the number of fields of a line: the word, an id, a measure or a view where the line has one, a node of each dimension and a field of
--- each measure where it has these
+-- the number of fields of a line: the word, an id, a measure, a view or a number of rounds where the line has one, a depth and a node of
+-- each dimension and a field of each measure where it has these
 abbrev pub field_count_of : SchemaValue → ScriptWord → ℕ
 field_count_of schema (OfFact _) = 2 + length schema.dims + length schema.measures
 field_count_of schema Withdraw = 2
@@ -33,6 +37,9 @@ field_count_of schema (Asks (OfRegion _)) = 1 + length schema.dims
 field_count_of schema (Asks (OfMeasure _)) = 2 + length schema.dims
 field_count_of schema (Asks (OfId _)) = 2
 field_count_of schema (Asks (OfView _)) = 2
+field_count_of schema (Asks (OfRounds _)) = 2 + length schema.dims
+field_count_of schema (Asks (OfTable _)) = 1 + length schema.dims + length schema.dims
+field_count_of schema (Asks (OfMeasureTable _)) = 2 + length schema.dims + length schema.dims
 
 -- the nodes are judged before the measure, whose name stands before theirs
 abbrev pub measure_question_given : SchemaValue → MeasureWord → List (List ℕ) → Result Question Code
@@ -43,6 +50,39 @@ measure_question_given schema word fields =
 -- the view that a name says
 abbrev pub view_given : SchemaValue → List ℕ → Result ℕ Code
 view_given schema name = option_map_or (λ view. Ok view) (view_named schema.views name) (Err code.Name)
+
+-- the fewest and the most rounds
+abbrev pub MIN_ROUNDS : ℕ
+MIN_ROUNDS = 1
+
+abbrev pub MAX_ROUNDS : ℕ
+MAX_ROUNDS = 32
+
+-- the number of rounds that a field says
+abbrev pub rounds_given : List ℕ → Result ℕ Code
+rounds_given field = ok_or (number_in MIN_ROUNDS MAX_ROUNDS field) code.Number
+
+-- it is judged before the nodes
+abbrev pub rounds_question_given : SchemaValue → RoundsWord → List (List ℕ) → Result Question Code
+rounds_question_given schema word fields =
+    result_then (λ rounds. result_then (λ region. Ok (question.OfRounds word rounds region)) (region_given schema.dims (drop 1 fields))) (rounds_given (field_at fields 0))
+
+-- the depths that fields say, one for each dimension
+abbrev pub depths_given : List Dimension → List (List ℕ) → Result (List ℕ) Code
+depths_given dims fields = if has_wrong_depths (take (length dims) fields) then Err code.Number else Ok (depths_in (take (length dims) fields))
+
+-- what every table is asked of: the depths, and the region behind them
+abbrev pub table_given : List Dimension → List (List ℕ) → Result (List ℕ × List ℕ) Code
+table_given dims fields = result_then (λ depths. result_then (λ region. Ok (depths, region)) (region_given dims (drop (length dims) fields))) (depths_given dims fields)
+
+abbrev pub table_question_given : SchemaValue → TableWord → List (List ℕ) → Result Question Code
+table_question_given schema word fields = result_then (λ table. Ok (question.OfTable word table.0 table.1)) (table_given schema.dims fields)
+
+-- these are judged before the measure, whose name stands before them
+abbrev pub measure_table_given : SchemaValue → MeasureTableWord → List (List ℕ) → Result Question Code
+measure_table_given schema word fields =
+    result_then (λ table. result_then (λ measure. Ok (question.OfMeasureTable word measure table.0 table.1)) (measure_given (shape_of schema) (kind_of (each_of word)) (field_at fields 0)))
+    (table_given schema.dims (drop 1 fields))
 
 -- the dimension that a name says, by its place, and the node of one
 abbrev pub dim_given : SchemaValue → List ℕ → Result ℕ Code
@@ -67,6 +107,9 @@ question_given schema (OfRegion word) fields = result_then (λ region. Ok (quest
 question_given schema (OfMeasure word) fields = measure_question_given schema word fields
 question_given schema (OfId word) fields = result_then (λ id. Ok (question.OfId word id)) (id_given fields)
 question_given schema (OfView word) fields = result_then (λ view. Ok (question.OfView word view)) (view_given schema (field_at fields 0))
+question_given schema (OfRounds word) fields = rounds_question_given schema word fields
+question_given schema (OfTable word) fields = table_question_given schema word fields
+question_given schema (OfMeasureTable word) fields = measure_table_given schema word fields
 
 -- what the fields behind a word say
 abbrev pub line_given : SchemaValue → ScriptWord → List (List ℕ) → Result Line Code

@@ -14,11 +14,15 @@ use Rattle.script_text.specs.declared.word.ScriptWord.TheVariants.{OfFact, Withd
 use Rattle.script_text.specs.declared.word.FactWord.{FactWord}
 use Rattle.script_text.specs.declared.word.FactWord.TheVariants.{Insert, Change}
 use Rattle.script_text.specs.declared.word.AskWord.{AskWord}
-use Rattle.script_text.specs.declared.word.AskWord.TheVariants.{OfRegion, OfMeasure, OfId, OfView}
-use Rattle.script_text.specs.declared.word.IdWord.TheVariants.{Rows}
-use Rattle.script_text.specs.declared.word.RegionWord.TheVariants.{Count, Terms, Worlds}
+use Rattle.script_text.specs.declared.word.AskWord.TheVariants.{OfRegion, OfMeasure, OfId, OfView, OfRounds, OfTable, OfMeasureTable}
+use Rattle.script_text.specs.declared.word.IdWord.TheVariants.{Rows, Component}
+use Rattle.script_text.specs.declared.word.RegionWord.TheVariants.{Count, Terms, Worlds, RangeCount}
 use Rattle.script_text.specs.declared.word.MeasureWord.{MeasureWord}
-use Rattle.script_text.specs.declared.word.MeasureWord.TheVariants.{Sum, Avg, Pool}
+use Rattle.script_text.specs.declared.word.MeasureWord.TheVariants.{Sum, Avg, Pool, Range, Least, Greatest}
+use Rattle.script_text.specs.declared.word.MeasureTableWord.{MeasureTableWord}
+use Rattle.script_text.specs.declared.word.MeasureTableWord.TheVariants.{Sums, Avgs, Pools}
+use Rattle.script_text.specs.declared.word.RoundsWord.TheVariants.{Iterate}
+use Rattle.script_text.specs.declared.word.TableWord.TheVariants.{Counts}
 use Rattle.script_text.specs.declared.word.ViewWord.TheVariants.{View}
 
 -- how each word is spelled
@@ -35,6 +39,16 @@ spelling_of (Asks (OfRegion Terms)) = codes "terms"
 spelling_of (Asks (OfId Rows)) = codes "rows"
 spelling_of (Asks (OfView View)) = codes "view"
 spelling_of (Asks (OfRegion Worlds)) = codes "worlds"
+spelling_of (Asks (OfTable Counts)) = codes "counts"
+spelling_of (Asks (OfMeasureTable Sums)) = codes "sums"
+spelling_of (Asks (OfMeasureTable Avgs)) = codes "avgs"
+spelling_of (Asks (OfMeasureTable Pools)) = codes "pools"
+spelling_of (Asks (OfMeasure Range)) = codes "range"
+spelling_of (Asks (OfRegion RangeCount)) = codes "rangecount"
+spelling_of (Asks (OfMeasure Least)) = codes "least"
+spelling_of (Asks (OfMeasure Greatest)) = codes "greatest"
+spelling_of (Asks (OfRounds Iterate)) = codes "iterate"
+spelling_of (Asks (OfId Component)) = codes "component"
 
 -- all words
 abbrev pub ALL_WORDS : List ScriptWord
@@ -51,6 +65,16 @@ ALL_WORDS =
     ∷ Asks (OfId Rows)
     ∷ Asks (OfView View)
     ∷ Asks (OfRegion Worlds)
+    ∷ Asks (OfTable Counts)
+    ∷ Asks (OfMeasureTable Sums)
+    ∷ Asks (OfMeasureTable Avgs)
+    ∷ Asks (OfMeasureTable Pools)
+    ∷ Asks (OfMeasure Range)
+    ∷ Asks (OfRegion RangeCount)
+    ∷ Asks (OfMeasure Least)
+    ∷ Asks (OfMeasure Greatest)
+    ∷ Asks (OfRounds Iterate)
+    ∷ Asks (OfId Component)
     ∷ []
 
 -- the first of these words that bytes spell
@@ -66,6 +90,15 @@ abbrev pub kind_of : MeasureWord → MeasureKind
 kind_of Sum = kind.Number
 kind_of Avg = kind.Number
 kind_of Pool = kind.Parts
+kind_of Range = kind.Number
+kind_of Least = kind.Number
+kind_of Greatest = kind.Number
+
+-- the word of what each region of a table is told
+abbrev pub each_of : MeasureTableWord → MeasureWord
+each_of Sums = Sum
+each_of Avgs = Avg
+each_of Pools = Pool
 
 -- the line of a word and a fact
 abbrev pub line_of_fact : FactWord → Fact → Line
@@ -78,3 +111,6 @@ word_asked (question.OfRegion word region) = OfRegion word
 word_asked (question.OfMeasure word measure region) = OfMeasure word
 word_asked (question.OfId word id) = OfId word
 word_asked (question.OfView word view) = OfView word
+word_asked (question.OfRounds word rounds region) = OfRounds word
+word_asked (question.OfTable word depths region) = OfTable word
+word_asked (question.OfMeasureTable word measure depths region) = OfMeasureTable word

@@ -2,7 +2,10 @@
 ghost use Rattle.std.specs.Prelude.{◌≡◌};
 ghost use Rattle.script_text.specs.ScriptWord.{word_asked};
 
-use crate::word::{AskWord, IdWord, MeasureWord, RegionWord, ViewWord};
+use crate::depths::CutDepths;
+use crate::word::{
+    AskWord, IdWord, MeasureTableWord, MeasureWord, RegionWord, RoundsWord, TableWord, ViewWord,
+};
 use cube_base::{Code, Memory};
 use cube_model::{Edit, Grow, Region};
 
@@ -43,6 +46,25 @@ pub enum Question {
         word: ViewWord,
         view: u32,
     },
+    /// Of a region, after so many rounds.
+    OfRounds {
+        word: RoundsWord,
+        rounds: u32,
+        region: Region,
+    },
+    /// Of the regions at these depths that lie in one.
+    OfTable {
+        word: TableWord,
+        depths: CutDepths,
+        region: Region,
+    },
+    /// Of the measure at a place, over each of such regions.
+    OfMeasureTable {
+        word: MeasureTableWord,
+        measure: u32,
+        depths: CutDepths,
+        region: Region,
+    },
 }
 
 impl Question {
@@ -55,6 +77,9 @@ impl Question {
             Question::OfMeasure { word, .. } => AskWord::OfMeasure(*word),
             Question::OfId { word, .. } => AskWord::OfId(*word),
             Question::OfView { word, .. } => AskWord::OfView(*word),
+            Question::OfRounds { word, .. } => AskWord::OfRounds(*word),
+            Question::OfTable { word, .. } => AskWord::OfTable(*word),
+            Question::OfMeasureTable { word, .. } => AskWord::OfMeasureTable(*word),
         }
     }
 }

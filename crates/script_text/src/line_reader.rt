@@ -4,17 +4,17 @@ ghost use Rattle.std.specs.Str.{bytes_eq};
 ghost use Rattle.cube_base.specs.Name.{is_name};
 ghost use Rattle.text_lines.specs.LineText.{field_at};
 ghost use Rattle.text_lines.specs.Text.{fields_of};
-ghost use Rattle.script_text.specs.LineOf.{IsFaultOf, IsLineOf, IsQuestionOf};
-ghost use Rattle.script_text.specs.declared.word.ScriptWord.TheVariants as asked;
+ghost use Rattle.script_text.specs.LineOf.{IsFaultOf, IsLineOf};
 ghost use Rattle.script_text.specs.LineSteps.{IsReadOf};
-ghost use Rattle.script_text.specs.ScriptLine.{command_line, dim_given, field_count_of, growth_given, line_given, line_of, measure_question_given, new_name_given, parent_given, question_given, view_given};
+ghost use Rattle.script_text.specs.ScriptLine.{command_line, dim_given, field_count_of, growth_given, line_given, line_of, new_name_given, parent_given};
 ghost use Rattle.script_text.specs.ScriptWord.{word_spelled};
 
-use crate::line::{Line, LineFault, Question};
-use crate::word::{AskWord, MeasureWord, ScriptWord, word_spelled};
+use crate::line::{Line, LineFault};
+use crate::question_reader::read_question;
+use crate::word::{AskWord, ScriptWord, word_spelled};
 use cube_base::{Code, Memory, Name, is_name};
 use cube_model::Edit;
-use fact_records::{read_fact, read_id, read_measure, read_region};
+use fact_records::{read_fact, read_id};
 use region_algebra::{Grow, Space};
 use schema_text::Schema;
 use std::alloc::Global;
@@ -23,10 +23,11 @@ use text_lines::{FieldWalk, Fields, clean_text, field_count, is_long, is_skipped
 /// What a line of a script says over a schema. A line that without its final CR is empty or begins with `#` says
 /// nothing. Else the first of these that holds refuses it: `Long`, it has more than 4,096 bytes; `Text`, it is not
 /// UTF-8 or has a byte below 32 but TAB, or 127; `Command`, the first field is no word of a script; `Fields`, their number
-/// is wrong; `Id`, the id is not a number from 1 to 2^63 - 1; `Node`, a field is not the name of a node of its dimension;
-/// `Measure`, a field is not the name of a measure, or of one that the word does not take: `sum` and `avg` take a measure
-/// of numbers, `pool` one of distributions; `Value`, the field of a number measure gives no value; `Parts`, that of a
-/// parts measure; `Name`, no view has the name. A line that lets a dimension grow is judged so, behind its number of fields: `Node`, no
+/// is wrong; `Number`, the rounds are not a number from 1 to 32, or a depth is none from 0 to 8; `Id`, the id is not a number
+/// from 1 to 2^63 - 1; `Node`, a field is not the name of a node of its dimension; `Measure`, a field is not the name of a
+/// measure, or of one that the word does not take: `pool` and `pools` take a measure of distributions, all others one of
+/// numbers; `Value`, the field of a number measure gives no value; `Parts`, that of a parts measure; `Name`, no view has the
+/// name. A line that lets a dimension grow is judged so, behind its number of fields: `Node`, no
 /// dimension has the name, or no node of it that of the parent; `Name`, the last field is no name, or a node of the dimension has it.
 /// No other line takes memory.
 pub fn read_line(alloc: Global, schema: &Schema, line: &[u8]) -> Result<Line, LineFault>
@@ -80,8 +81,10 @@ fn count_of(schema: &Schema, word: ScriptWord) -> usize
         ScriptWord::Withdraw => 2,
         ScriptWord::Grow => 4,
         ScriptWord::Asks(AskWord::OfRegion(_)) => 1 + nodes,
-        ScriptWord::Asks(AskWord::OfMeasure(_)) => 2 + nodes,
+        ScriptWord::Asks(AskWord::OfMeasure(_) | AskWord::OfRounds(_)) => 2 + nodes,
         ScriptWord::Asks(AskWord::OfId(_) | AskWord::OfView(_)) => 2,
+        ScriptWord::Asks(AskWord::OfTable(_)) => 1 + nodes + nodes,
+        ScriptWord::Asks(AskWord::OfMeasureTable(_)) => 2 + nodes + nodes,
     }
 }
 
@@ -105,64 +108,6 @@ fn read_fields(
         ScriptWord::Withdraw => Ok(Line::Edit(Edit::Withdraw(read_id(fields)?))),
         ScriptWord::Grow => read_growth(alloc, schema, fields),
         ScriptWord::Asks(word) => Ok(Line::Ask(read_question(schema, word, fields)?)),
-    }
-}
-
-/// What the fields behind the word of a question ask.
-fn read_question(
-    schema: &Schema,
-    word: AskWord,
-    fields: &mut FieldWalk<'_>,
-) -> Result<Question, Code>
-    requires { length fields.old + 1 ≡ field_count_of schema.now (asked.Asks word) }
-    ensures asked { result ≡ question_given schema.now word fields.old }
-    ensures within { IfOk result (IsQuestionOf schema.now) }
-{
-    match word {
-        AskWord::OfRegion(word) => {
-            let region = read_region(schema.space(), fields)?;
-            Ok(Question::OfRegion { word, region })
-        }
-        AskWord::OfMeasure(word) => read_of_measure(schema, word, fields),
-        AskWord::OfId(word) => {
-            let id = read_id(fields)?;
-            Ok(Question::OfId { word, id })
-        }
-        AskWord::OfView(word) => {
-            let view = read_view(schema, fields.next_field())?;
-            Ok(Question::OfView { word, view })
-        }
-    }
-}
-
-/// What a measure and the nodes behind it ask. The nodes are judged first.
-fn read_of_measure(
-    schema: &Schema,
-    word: MeasureWord,
-    fields: &mut FieldWalk<'_>,
-) -> Result<Question, Code>
-    requires { length fields.old ≡ 1 + length schema.now.dims }
-    ensures asked { result ≡ measure_question_given schema.now word fields.old }
-    ensures within { IfOk result (IsQuestionOf schema.now) }
-{
-    let name = fields.next_field();
-    let region = read_region(schema.space(), fields)?;
-    let measure = read_measure(schema.shape(), word.kind(), name)?;
-    Ok(Question::OfMeasure {
-        word,
-        measure,
-        region,
-    })
-}
-
-/// The view that a name says.
-fn read_view(schema: &Schema, name: &str) -> Result<u32, Code>
-    ensures view { result ≡ view_given schema.now name.now }
-    ensures within { IfOk result (λ view. view < length schema.now.views) }
-{
-    match schema.view_named(name) {
-        Some(view) => Ok(view),
-        None => Err(Code::Name),
     }
 }
 

@@ -5,7 +5,9 @@ ghost use Rattle.script_text.specs.ReplySteps.{Keeps, fields_text};
 
 use crate::reply_fields::{append_field, append_number, append_numbers};
 use crate::reply_numbers::{append_quotient, append_quotients, append_value};
+use crate::reply_picks::append_picks;
 use crate::reply_rows::append_rows;
+use crate::reply_table::append_table;
 use crate::reply_terms::append_terms;
 use crate::reply_view::append_view;
 use crate::word::{AskWord, ScriptWord};
@@ -20,6 +22,9 @@ use std::alloc::Global;
 
 /// Regions, each with what the facts in it add up to.
 pub type ViewList = PlainList<(Region, Terms)>;
+
+/// Regions, each with the quotients that it is told.
+pub type TableList = PlainList<(Region, Pooled)>;
 
 /// The reply to a line.
 #[derive(Debug, Drop)]
@@ -51,6 +56,11 @@ pub enum Answer {
     View(ViewList),
     /// Whole numbers.
     Numbers(Nums),
+    /// A sum in a possible world, and where facts lie in it: how many facts there are and then, for each, its id and the names of
+    /// its cell's leaves, one of each dimension.
+    Picks { sum: i128, picks: Pairs },
+    /// The regions of a table: how many there are and then, for each, the names of its nodes and the fields of its quotients.
+    Table(TableList),
 }
 
 /// Appends the text of a reply over a schema: the word and its fields with TABs between, and LF. `ok` has the number of
@@ -132,5 +142,7 @@ fn append_answer(text: &mut Vec<u8>, space: &Space, answer: &Answer) -> Result<(
         Answer::Rows { den, rows } => append_rows(text, space, *den, rows.as_slice()),
         Answer::View(entries) => append_view(text, space, entries.as_slice()),
         Answer::Numbers(numbers) => append_numbers(text, numbers.as_slice()),
+        Answer::Picks { sum, picks } => append_picks(text, space, *sum, picks.as_slice()),
+        Answer::Table(entries) => append_table(text, space, entries.as_slice()),
     }
 }

@@ -2,7 +2,7 @@
 ghost use Rattle.std.specs.Prelude.{◌≡◌, ◌++◌, ◌<◌, length, OnOk, OnErr};
 ghost use Rattle.cube_model.specs.Cells.{AreRows, all_cells};
 ghost use Rattle.region_algebra.specs.Space.{IsRegion};
-ghost use Rattle.script_text.specs.Reply.{names_of, row_fields, rows_fields};
+ghost use Rattle.script_text.specs.Reply.{cell_fields, names_of, row_fields, rows_fields};
 ghost use Rattle.script_text.specs.ReplySteps.{Keeps, fields_text};
 
 use crate::reply_fields::{append_field, append_number};
@@ -35,8 +35,17 @@ fn append_row(text: &mut Vec<u8>, space: &Space, row: (u64, u64)) -> Result<(), 
     ensures ok { OnOk result (text.new.items ≡ text.old.items ++ fields_text (row_fields space.now row)) }
     ensures err { OnErr result (Keeps text.old.items text.new.items) }
 {
-    append_names(text, space, space.cell_at(row.0))?;
+    append_cell(text, space, row.0)?;
     append_number(text, row.1)
+}
+
+/// Appends the names of a cell's leaves.
+pub fn append_cell(text: &mut Vec<u8>, space: &Space, cell: u64) -> Result<(), Memory>
+    requires { cell < length (all_cells space.now) }
+    ensures ok { OnOk result (text.new.items ≡ text.old.items ++ fields_text (cell_fields space.now cell)) }
+    ensures err { OnErr result (Keeps text.old.items text.new.items) }
+{
+    append_names(text, space, space.cell_at(cell))
 }
 
 /// Appends the names of a region's nodes.

@@ -1,6 +1,6 @@
 //! The words that lines of a script begin with: the kinds of what stands behind them, and how each is spelled.
 ghost use Rattle.std.specs.Prelude.{◌≡◌};
-ghost use Rattle.script_text.specs.ScriptWord.{kind_of, line_of_fact, spelling_of, word_among, word_spelled};
+ghost use Rattle.script_text.specs.ScriptWord.{each_of, kind_of, line_of_fact, spelling_of, word_among, word_spelled};
 
 use crate::line::Line;
 use ScriptWord::Asks;
@@ -40,6 +40,12 @@ pub enum AskWord {
     OfId(IdWord),
     /// The name of a view.
     OfView(ViewWord),
+    /// A number of rounds and a node of each dimension.
+    OfRounds(RoundsWord),
+    /// A depth and then a node of each dimension.
+    OfTable(TableWord),
+    /// The name of a measure, a depth and then a node of each dimension.
+    OfMeasureTable(MeasureTableWord),
 }
 
 /// A word before a region.
@@ -51,6 +57,8 @@ pub enum RegionWord {
     Terms,
     /// `worlds|NODE..`: what all possible worlds of the facts come to in a region.
     Worlds,
+    /// `rangecount|NODE..`: the least and the greatest count of a region in a possible world.
+    RangeCount,
 }
 
 /// A word before a measure and a region.
@@ -62,6 +70,12 @@ pub enum MeasureWord {
     Avg,
     /// `pool|MEASURE|NODE..`: the pooled distribution of a parts measure over a region.
     Pool,
+    /// `range|MEASURE|NODE..`: the least and the greatest sum of a number measure over a region in a possible world.
+    Range,
+    /// `least|MEASURE|NODE..`: the least of these sums, and where each imprecise fact lies in a world that has it.
+    Least,
+    /// `greatest|MEASURE|NODE..`: the greatest of these sums, and the same.
+    Greatest,
 }
 
 /// A word before the id of a fact.
@@ -69,6 +83,8 @@ pub enum MeasureWord {
 pub enum IdWord {
     /// `rows|ID`: how a fact is spread.
     Rows,
+    /// `component|ID`: the ids of the facts on which a fact depends.
+    Component,
 }
 
 /// A word before the name of a view.
@@ -78,8 +94,33 @@ pub enum ViewWord {
     View,
 }
 
+/// A word before a number of rounds and a region.
+#[derive(Clone, Copy, Debug, PartialEq, Eq)]
+pub enum RoundsWord {
+    /// `iterate|ROUNDS|NODE..`: what the facts in a region add up to where imprecise facts are shared round after round.
+    Iterate,
+}
+
+/// A word before the depths and the region of a table.
+#[derive(Clone, Copy, Debug, PartialEq, Eq)]
+pub enum TableWord {
+    /// `counts|DEPTH..|NODE..`: `count` of each region of a table.
+    Counts,
+}
+
+/// A word before a measure and the depths and the region of a table.
+#[derive(Clone, Copy, Debug, PartialEq, Eq)]
+pub enum MeasureTableWord {
+    /// `sums|MEASURE|DEPTH..|NODE..`: `sum` of each region of a table.
+    Sums,
+    /// `avgs|MEASURE|DEPTH..|NODE..`: `avg` of each of them.
+    Avgs,
+    /// `pools|MEASURE|DEPTH..|NODE..`: `pool` of each of them.
+    Pools,
+}
+
 /// All words.
-const WORDS: [ScriptWord; 12] = [
+const WORDS: [ScriptWord; 22] = [
     ScriptWord::OfFact(FactWord::Insert),
     ScriptWord::OfFact(FactWord::Change),
     ScriptWord::Withdraw,
@@ -92,6 +133,16 @@ const WORDS: [ScriptWord; 12] = [
     Asks(AskWord::OfId(IdWord::Rows)),
     Asks(AskWord::OfView(ViewWord::View)),
     Asks(AskWord::OfRegion(RegionWord::Worlds)),
+    Asks(AskWord::OfTable(TableWord::Counts)),
+    Asks(AskWord::OfMeasureTable(MeasureTableWord::Sums)),
+    Asks(AskWord::OfMeasureTable(MeasureTableWord::Avgs)),
+    Asks(AskWord::OfMeasureTable(MeasureTableWord::Pools)),
+    Asks(AskWord::OfMeasure(MeasureWord::Range)),
+    Asks(AskWord::OfRegion(RegionWord::RangeCount)),
+    Asks(AskWord::OfMeasure(MeasureWord::Least)),
+    Asks(AskWord::OfMeasure(MeasureWord::Greatest)),
+    Asks(AskWord::OfRounds(RoundsWord::Iterate)),
+    Asks(AskWord::OfId(IdWord::Component)),
 ];
 
 impl ScriptWord {
@@ -112,6 +163,16 @@ impl ScriptWord {
             Asks(AskWord::OfId(IdWord::Rows)) => "rows",
             Asks(AskWord::OfView(ViewWord::View)) => "view",
             Asks(AskWord::OfRegion(RegionWord::Worlds)) => "worlds",
+            Asks(AskWord::OfTable(TableWord::Counts)) => "counts",
+            Asks(AskWord::OfMeasureTable(MeasureTableWord::Sums)) => "sums",
+            Asks(AskWord::OfMeasureTable(MeasureTableWord::Avgs)) => "avgs",
+            Asks(AskWord::OfMeasureTable(MeasureTableWord::Pools)) => "pools",
+            Asks(AskWord::OfMeasure(MeasureWord::Range)) => "range",
+            Asks(AskWord::OfRegion(RegionWord::RangeCount)) => "rangecount",
+            Asks(AskWord::OfMeasure(MeasureWord::Least)) => "least",
+            Asks(AskWord::OfMeasure(MeasureWord::Greatest)) => "greatest",
+            Asks(AskWord::OfRounds(RoundsWord::Iterate)) => "iterate",
+            Asks(AskWord::OfId(IdWord::Component)) => "component",
         }
     }
 }
@@ -155,6 +216,20 @@ impl MeasureWord {
         match self {
             MeasureWord::Sum | MeasureWord::Avg => MeasureKind::Number,
             MeasureWord::Pool => MeasureKind::Parts,
+            MeasureWord::Range | MeasureWord::Least | MeasureWord::Greatest => MeasureKind::Number,
+        }
+    }
+}
+
+impl MeasureTableWord {
+    /// The word of what each region of the table is told.
+    pub fn each(self) -> MeasureWord
+        ensures { result ≡ each_of self }
+    {
+        match self {
+            MeasureTableWord::Sums => MeasureWord::Sum,
+            MeasureTableWord::Avgs => MeasureWord::Avg,
+            MeasureTableWord::Pools => MeasureWord::Pool,
         }
     }
 }

@@ -22,4 +22,9 @@ returns c = record {
   pool = refl;
   growth = refl;
   view = refl;
+  component = refl;
+  ranges = refl;
+  rounds = refl;
+  table = refl;
+  measure_tables = refl;
 }

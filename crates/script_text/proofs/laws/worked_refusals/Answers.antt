@@ -27,4 +27,9 @@ returns c = record {
   growth_name = refl;
   growth_node_first = refl;
   one_view = refl;
+  number = refl;
+  depth = refl;
+  asked_node = refl;
+  asked_measure = refl;
+  asked_fields = refl;
 }

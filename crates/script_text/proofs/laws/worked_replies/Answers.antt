@@ -25,4 +25,8 @@ returns c = record {
   pool = refl;
   no_entries = refl;
   view = refl;
+  no_picks = refl;
+  picks = refl;
+  no_regions = refl;
+  table = refl;
 }

@@ -3,7 +3,7 @@ use Rattle.std.proofs.Common.{◌≡◌, ◌∙◌, Some, ap, sym}
 use Rattle.std.specs.Prelude.{slice_get}
 use Rattle.fact_records.specs.Shape.{ShapeValue}
 use Rattle.script_answers.proofs.Measures.{first_col-within}
-use Rattle.script_answers.proofs.questions.first_col.Goals as goal
+use Rattle.script_answers.proofs.figures.first_col.Goals as goal
 
 pub returns-clause-within : goal.returns-clause-within
 returns-clause-within c =
