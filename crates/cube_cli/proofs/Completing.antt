@@ -18,12 +18,12 @@ use Rattle.script_run.specs.Seen.{KeeperSeen, SeenAll, SourceSeen}
 use Rattle.line_cutter.specs.Input.{INPUT_LIMIT, GoesOn}
 use Rattle.cube_cli.specs.declared.command.Command.{Command}
 use Rattle.cube_cli.specs.declared.command.Command.TheVariants.{Drill, Store, Try}
-use Rattle.cube_cli.specs.declared.command.StoreCommand.TheVariants.{Init, Input, Tell}
+use Rattle.cube_cli.specs.declared.command.StoreCommand.TheVariants.{Ask, Init, Input, Tell}
 use Rattle.cube_cli.specs.declared.store.InputTask.TheVariants.{Run, Import}
 use Rattle.cube_cli.specs.declared.end.End.{End}
 use Rattle.cube_cli.specs.declared.end.End.TheVariants.{Finished, Usage, Schema, NoCube, HasCube, BadStore, ReadFault, WriteFault, KeepFault, Memory, TooLong, BadRecord, ImportRows}
 use Rattle.cube_cli.specs.Doing.{Fits, doing_of, ends_of}
-use Rattle.cube_cli.specs.End.{IsCompleteOf, IsDone, SaysOf}
+use Rattle.cube_cli.specs.End.{IsCompleteOf, IsDone, SaysAsked}
 use Rattle.cube_cli.specs.Kinds.{IsAmong}
 use Rattle.cube_cli.specs.SchemaAlone.{schema_alone}
 use Rattle.cube_cli.specs.Seen.{Holds, OfContent, OfInput}
@@ -69,90 +69,96 @@ not_empty : (content : Stored) → IsSoundContent content → content ≡ empty_
 not_empty content sound none = subst (λ r. IsOkAnd r (λ schema. IsSoundOver schema content)) (ap (λ (c : Stored). schema_alone c.schema) none ∙ empty_schema) sound
 
 -- which commands may give an end
-reads_failing : (command : Option Command) (done : ℕ) → IsAmong (ends_of command) (ReadFault done) → (doing_of command).reads ≡ true
-reads_failing None done may = absurd (cc may)
-reads_failing (Some Try) done may = refl
-reads_failing (Some (Drill n)) done may = absurd (cc may)
-reads_failing (Some (Store Init)) done may = refl
-reads_failing (Some (Store (Input Run))) done may = refl
-reads_failing (Some (Store (Input Import))) done may = refl
-reads_failing (Some (Store (Tell telling))) done may = absurd (cc may)
+reads_failing : (line : List ℕ) (command : Option Command) (done : ℕ) → IsAmong (ends_of command) (ReadFault done) → (doing_of line command).reads ≡ true
+reads_failing line None done may = absurd (cc may)
+reads_failing line (Some Try) done may = refl
+reads_failing line (Some (Drill n)) done may = absurd (cc may)
+reads_failing line (Some (Store Init)) done may = refl
+reads_failing line (Some (Store (Input Run))) done may = refl
+reads_failing line (Some (Store (Input Import))) done may = refl
+reads_failing line (Some (Store Ask)) done may = absurd (cc may)
+reads_failing line (Some (Store (Tell telling))) done may = absurd (cc may)
 
-reads_long : (command : Option Command) (done : ℕ) → IsAmong (ends_of command) (TooLong done) → (doing_of command).reads ≡ true
-reads_long None done may = absurd (cc may)
-reads_long (Some Try) done may = refl
-reads_long (Some (Drill n)) done may = absurd (cc may)
-reads_long (Some (Store Init)) done may = refl
-reads_long (Some (Store (Input Run))) done may = refl
-reads_long (Some (Store (Input Import))) done may = refl
-reads_long (Some (Store (Tell telling))) done may = absurd (cc may)
+reads_long : (line : List ℕ) (command : Option Command) (done : ℕ) → IsAmong (ends_of command) (TooLong done) → (doing_of line command).reads ≡ true
+reads_long line None done may = absurd (cc may)
+reads_long line (Some Try) done may = refl
+reads_long line (Some (Drill n)) done may = absurd (cc may)
+reads_long line (Some (Store Init)) done may = refl
+reads_long line (Some (Store (Input Run))) done may = refl
+reads_long line (Some (Store (Input Import))) done may = refl
+reads_long line (Some (Store Ask)) done may = absurd (cc may)
+reads_long line (Some (Store (Tell telling))) done may = absurd (cc may)
 
-stores_failing : (command : Option Command) (done : ℕ) → IsAmong (ends_of command) (KeepFault done) → (doing_of command).stores ≡ true
-stores_failing None done may = absurd (cc may)
-stores_failing (Some Try) done may = absurd (cc may)
-stores_failing (Some (Drill n)) done may = absurd (cc may)
-stores_failing (Some (Store Init)) done may = refl
-stores_failing (Some (Store (Input Run))) done may = refl
-stores_failing (Some (Store (Input Import))) done may = refl
-stores_failing (Some (Store (Tell telling))) done may = refl
+stores_failing : (line : List ℕ) (command : Option Command) (done : ℕ) → IsAmong (ends_of command) (KeepFault done) → (doing_of line command).stores ≡ true
+stores_failing line None done may = absurd (cc may)
+stores_failing line (Some Try) done may = absurd (cc may)
+stores_failing line (Some (Drill n)) done may = absurd (cc may)
+stores_failing line (Some (Store Init)) done may = refl
+stores_failing line (Some (Store (Input Run))) done may = refl
+stores_failing line (Some (Store (Input Import))) done may = refl
+stores_failing line (Some (Store Ask)) done may = refl
+stores_failing line (Some (Store (Tell telling))) done may = refl
 
 -- over a store in which there is nothing, or something, or something that is not sound
-record Unfit (command : Option Command) (P : Stored → Type 0) : Type 0 where
-  stores : (doing_of command).stores ≡ true
+record Unfit (line : List ℕ) (command : Option Command) (P : Stored → Type 0) : Type 0 where
+  stores : (doing_of line command).stores ≡ true
   never : (content : Stored) → P content → Fits command content → ⊥
 
-no_cube_unfit : (command : Option Command) → IsAmong (ends_of command) NoCube → Unfit command (λ content. content ≡ empty_content)
-no_cube_unfit None may = absurd (cc may)
-no_cube_unfit (Some Try) may = absurd (cc may)
-no_cube_unfit (Some (Drill n)) may = absurd (cc may)
-no_cube_unfit (Some (Store Init)) may = absurd (cc may)
-no_cube_unfit (Some (Store (Input Run))) may = record { stores = refl; never = λ content none sound. not_empty content sound none }
-no_cube_unfit (Some (Store (Input Import))) may = record { stores = refl; never = λ content none sound. not_empty content sound none }
-no_cube_unfit (Some (Store (Tell telling))) may = record { stores = refl; never = λ content none sound. not_empty content sound none }
+no_cube_unfit : (line : List ℕ) (command : Option Command) → IsAmong (ends_of command) NoCube → Unfit line command (λ content. content ≡ empty_content)
+no_cube_unfit line None may = absurd (cc may)
+no_cube_unfit line (Some Try) may = absurd (cc may)
+no_cube_unfit line (Some (Drill n)) may = absurd (cc may)
+no_cube_unfit line (Some (Store Init)) may = absurd (cc may)
+no_cube_unfit line (Some (Store (Input Run))) may = record { stores = refl; never = λ content none sound. not_empty content sound none }
+no_cube_unfit line (Some (Store (Input Import))) may = record { stores = refl; never = λ content none sound. not_empty content sound none }
+no_cube_unfit line (Some (Store Ask)) may = record { stores = refl; never = λ content none sound. not_empty content sound none }
+no_cube_unfit line (Some (Store (Tell telling))) may = record { stores = refl; never = λ content none sound. not_empty content sound none }
 
-has_cube_unfit : (command : Option Command) → IsAmong (ends_of command) HasCube → Unfit command (λ content. content ≢ empty_content)
-has_cube_unfit None may = absurd (cc may)
-has_cube_unfit (Some Try) may = absurd (cc may)
-has_cube_unfit (Some (Drill n)) may = absurd (cc may)
-has_cube_unfit (Some (Store Init)) may = record { stores = refl; never = λ content some none. some none }
-has_cube_unfit (Some (Store (Input Run))) may = absurd (cc may)
-has_cube_unfit (Some (Store (Input Import))) may = absurd (cc may)
-has_cube_unfit (Some (Store (Tell telling))) may = absurd (cc may)
+has_cube_unfit : (line : List ℕ) (command : Option Command) → IsAmong (ends_of command) HasCube → Unfit line command (λ content. content ≢ empty_content)
+has_cube_unfit line None may = absurd (cc may)
+has_cube_unfit line (Some Try) may = absurd (cc may)
+has_cube_unfit line (Some (Drill n)) may = absurd (cc may)
+has_cube_unfit line (Some (Store Init)) may = record { stores = refl; never = λ content some none. some none }
+has_cube_unfit line (Some (Store (Input Run))) may = absurd (cc may)
+has_cube_unfit line (Some (Store (Input Import))) may = absurd (cc may)
+has_cube_unfit line (Some (Store Ask)) may = absurd (cc may)
+has_cube_unfit line (Some (Store (Tell telling))) may = absurd (cc may)
 
-bad_store_unfit : (command : Option Command) (found : Finding) → IsAmong (ends_of command) (BadStore found) → Unfit command (λ content. (content ≢ empty_content) × Finds content found)
-bad_store_unfit None found may = absurd (cc may)
-bad_store_unfit (Some Try) found may = absurd (cc may)
-bad_store_unfit (Some (Drill n)) found may = absurd (cc may)
-bad_store_unfit (Some (Store Init)) found may = absurd (cc may)
-bad_store_unfit (Some (Store (Input Run))) found may = record { stores = refl; never = λ content is sound. nothing_found content found sound is.1 }
-bad_store_unfit (Some (Store (Input Import))) found may = record { stores = refl; never = λ content is sound. nothing_found content found sound is.1 }
-bad_store_unfit (Some (Store (Tell telling))) found may = record { stores = refl; never = λ content is sound. nothing_found content found sound is.1 }
+bad_store_unfit : (line : List ℕ) (command : Option Command) (found : Finding) → IsAmong (ends_of command) (BadStore found) → Unfit line command (λ content. (content ≢ empty_content) × Finds content found)
+bad_store_unfit line None found may = absurd (cc may)
+bad_store_unfit line (Some Try) found may = absurd (cc may)
+bad_store_unfit line (Some (Drill n)) found may = absurd (cc may)
+bad_store_unfit line (Some (Store Init)) found may = absurd (cc may)
+bad_store_unfit line (Some (Store (Input Run))) found may = record { stores = refl; never = λ content is sound. nothing_found content found sound is.1 }
+bad_store_unfit line (Some (Store (Input Import))) found may = record { stores = refl; never = λ content is sound. nothing_found content found sound is.1 }
+bad_store_unfit line (Some (Store Ask)) found may = record { stores = refl; never = λ content is sound. nothing_found content found sound is.1 }
+bad_store_unfit line (Some (Store (Tell telling))) found may = record { stores = refl; never = λ content is sound. nothing_found content found sound is.1 }
 
-module _ (command : Option Command) (seen : SeenAll) where
+module _ (line : List ℕ) (command : Option Command) (seen : SeenAll) where
   abbrev Complete : End → Type 0
-  Complete end = OfContent (doing_of command).stores seen.keeper (λ content. Fits command content → OfInput (doing_of command).reads seen.source (λ input. length input ≤ INPUT_LIMIT → IsDone end))
+  Complete end = OfContent (doing_of line command).stores seen.keeper (λ content. Fits command content → OfInput (doing_of line command).reads seen.source (λ input. length input ≤ INPUT_LIMIT → IsDone end))
 
   -- it is done
   done : (end : End) → IsDone end → Complete end
-  done end is = each_content (doing_of command).stores seen.keeper _ (λ content fits. each_input (doing_of command).reads seen.source _ (λ input few. is))
+  done end is = each_content (doing_of line command).stores seen.keeper _ (λ content fits. each_input (doing_of line command).reads seen.source _ (λ input few. is))
 
   -- or over what does not fit
-  unfit : (end : End) (P : Stored → Type 0) → Unfit command P → Holds seen.keeper P → Complete end
+  unfit : (end : End) (P : Stored → Type 0) → Unfit line command P → Holds seen.keeper P → Complete end
   unfit end P is here =
-      not_fitting (doing_of command).stores seen.keeper P (Fits command) (λ content. OfInput (doing_of command).reads seen.source (λ input. length input ≤ INPUT_LIMIT → IsDone end)) is.stores is.never here
+      not_fitting (doing_of line command).stores seen.keeper P (Fits command) (λ content. OfInput (doing_of line command).reads seen.source (λ input. length input ≤ INPUT_LIMIT → IsDone end)) is.stores is.never here
 
-  pub complete : (end : End) → SaysOf command seen end → IsCompleteOf command seen end
+  pub complete : (end : End) → SaysAsked line command seen end → IsCompleteOf line command seen end
   complete (Finished refused) says = λ none. done (Finished refused) refl
   complete Usage says = λ none. done Usage refl
   complete (Schema line why) says = λ none. done (Schema line why) refl
   complete (BadRecord bad) says = λ none. done (BadRecord bad) refl
   complete (ImportRows would) says = λ none. done (ImportRows would) refl
   complete (Memory count) says = λ none. done (Memory count) refl
-  complete (ReadFault count) says = λ none. absurd (none.read (reads_failing command count says.may) says.faults.cause)
+  complete (ReadFault count) says = λ none. absurd (none.read (reads_failing line command count says.may) says.faults.cause)
   complete (WriteFault count) says = λ none. absurd (none.write says.faults.cause)
-  complete (KeepFault count) says = λ none. absurd (none.keep (stores_failing command count says.may) says.faults.cause)
+  complete (KeepFault count) says = λ none. absurd (none.keep (stores_failing line command count says.may) says.faults.cause)
   complete (TooLong count) says = λ none.
-      each_content (doing_of command).stores seen.keeper _ (λ content fits. of_long (doing_of command).reads seen.source (IsDone (TooLong count)) (reads_long command count says.may) says.takes)
-  complete NoCube says = λ none. unfit NoCube (λ content. content ≡ empty_content) (no_cube_unfit command says.may) says.fits
-  complete HasCube says = λ none. unfit HasCube (λ content. content ≢ empty_content) (has_cube_unfit command says.may) says.fits
-  complete (BadStore found) says = λ none. unfit (BadStore found) (λ content. (content ≢ empty_content) × Finds content found) (bad_store_unfit command found says.may) says.fits
+      each_content (doing_of line command).stores seen.keeper _ (λ content fits. of_long (doing_of line command).reads seen.source (IsDone (TooLong count)) (reads_long line command count says.may) says.takes)
+  complete NoCube says = λ none. unfit NoCube (λ content. content ≡ empty_content) (no_cube_unfit line command says.may) says.fits
+  complete HasCube says = λ none. unfit HasCube (λ content. content ≢ empty_content) (has_cube_unfit line command says.may) says.fits
+  complete (BadStore found) says = λ none. unfit (BadStore found) (λ content. (content ≢ empty_content) × Finds content found) (bad_store_unfit line command found says.may) says.fits

@@ -1,3 +1,4 @@
+pub mod Asked
 pub mod AtOnce
 pub mod Auditing
 pub mod BeforeScript
@@ -7,6 +8,7 @@ pub mod First
 pub mod Growths
 pub mod HeldLines
 pub mod Keepers
+pub mod KeptFacts
 pub mod Known
 pub mod Making
 pub mod Names

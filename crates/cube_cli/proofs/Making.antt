@@ -1,5 +1,5 @@
 -- What the ends of `init` say.
-use Rattle.std.proofs.Common.{◌≡◌, ℕ, List, [], ◌∷◌, refl, sym, ap, subst, true, false, Option, Some, None, Result, Ok, Err}
+use Rattle.std.proofs.Common.{◌≡◌, ℕ, List, [], ◌∷◌, refl, sym, ap, subst, true, false, Some, None, Result, Ok, Err}
 use Rattle.std.specs.Option.{option_map_or}
 use Rattle.std.specs.Result.{result_ok}
 use Rattle.cube_base.specs.declared.fault.SinkError.{SinkError}
@@ -13,10 +13,10 @@ use Rattle.schema_text.specs.Schema.{SchemaValue}
 use Rattle.schema_text.specs.declared.schema.SchemaFault.{SchemaFault}
 use Rattle.schema_text.specs.declared.schema.SchemaFault.TheVariants as schema_fault
 use Rattle.script_run.specs.Kept.{Commits}
-use Rattle.script_run.specs.Seen.{KeepFailed, NoKeepFault, NoReadFault, NoWriteFault, SeenAll}
+use Rattle.script_run.specs.Seen.{NoKeepFault, NoReadFault, NoWriteFault, SeenAll}
 use Rattle.cube_cli.specs.declared.command.Command.TheVariants.{Store}
 use Rattle.cube_cli.specs.declared.command.StoreCommand.TheVariants.{Init}
-use Rattle.cube_cli.specs.declared.end.End.TheVariants.{Memory, Schema}
+use Rattle.cube_cli.specs.declared.end.End.TheVariants.{Memory}
 use Rattle.cube_cli.specs.Doing.{Fits, INIT_LINE, doing_of, ends_of, init_work, refused_schema}
 use Rattle.cube_cli.specs.End.{SaysOf}
 use Rattle.cube_cli.specs.RunEnd.{end_of_keep, end_of_schema, end_of_stop, end_of_write}
@@ -71,6 +71,6 @@ module _ (seen : SeenAll) (empty : Holds seen.keeper (λ kept. kept ≡ empty_co
 -- the store was not loaded
 pub init_not_loaded : (seen : SeenAll) → IsStill seen → (error : KeepError) → IsUntouched seen.keeper → CountsKeepFault {T = ℕ} seen.keeper.faults seen.keeper.faults_after (Err error) → SaysOf (Some (Store Init)) seen (end_of_keep error)
 init_not_loaded seen still keep_error.Failed kept count =
-    keep_fault seen (left_all seen still kept) (ends_of (Some (Store Init))) (doing_of (Some (Store Init))) (Fits (Some (Store Init))) refl (record { cause = count; read = still.read.count; write = still.write })
+    keep_fault seen (left_all seen still kept) (ends_of (Some (Store Init))) (doing_of [] (Some (Store Init))) (Fits (Some (Store Init))) refl (record { cause = count; read = still.read.count; write = still.write })
 init_not_loaded seen still keep_error.Memory kept count =
-    wants_memory seen (left_all seen still kept) (ends_of (Some (Store Init))) (doing_of (Some (Store Init))) (Fits (Some (Store Init))) refl (record { read = still.read.count; write = still.write; keep = count })
+    wants_memory seen (left_all seen still kept) (ends_of (Some (Store Init))) (doing_of [] (Some (Store Init))) (Fits (Some (Store Init))) refl (record { read = still.read.count; write = still.write; keep = count })

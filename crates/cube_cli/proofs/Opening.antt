@@ -1,5 +1,5 @@
 -- What the ends say of a store that is not opened or not loaded alike a cube.
-use Rattle.std.proofs.Common.{◌≡◌, ℕ, refl, sym, subst, Some}
+use Rattle.std.proofs.Common.{◌≡◌, ℕ, List, [], refl, sym, subst, Some}
 use Rattle.std.specs.Prelude.{◌≢◌}
 use Rattle.fact_keeper.specs.declared.content.Stored.{Stored}
 use Rattle.fact_keeper.specs.Batch.{empty_content}
@@ -15,16 +15,15 @@ use Rattle.stored_state.specs.declared.finding.LoadFault.TheVariants as load_fau
 use Rattle.script_run.specs.Seen.{KeeperSeen, NoKeepFault, SeenAll}
 use Rattle.cube_cli.specs.declared.command.Command.TheVariants.{Store}
 use Rattle.cube_cli.specs.declared.command.StoreCommand.{StoreCommand}
-use Rattle.cube_cli.specs.declared.command.StoreCommand.TheVariants.{Input, Tell}
+use Rattle.cube_cli.specs.declared.command.StoreCommand.TheVariants.{Ask, Input, Tell}
 use Rattle.cube_cli.specs.declared.store.InputTask.{InputTask}
 use Rattle.cube_cli.specs.declared.store.InputTask.TheVariants.{Run, Import}
 use Rattle.cube_cli.specs.declared.telling.Telling.{Telling}
 use Rattle.cube_cli.specs.declared.store.OpenStop.{OpenStop}
 use Rattle.cube_cli.specs.declared.store.OpenStop.TheVariants as open_stop
-use Rattle.cube_cli.specs.declared.end.End.{End}
 use Rattle.cube_cli.specs.declared.end.End.TheVariants.{BadStore, KeepFault, Memory, NoCube}
 use Rattle.cube_cli.specs.Doing.{Fits, doing_of, ends_of}
-use Rattle.cube_cli.specs.End.{SaysOf}
+use Rattle.cube_cli.specs.End.{SaysAsked, SaysOf}
 use Rattle.cube_cli.specs.Kinds.{IsAmong}
 use Rattle.cube_cli.specs.RunEnd.{end_of_load, end_of_open, load_fault_of}
 use Rattle.cube_cli.specs.SchemaAlone.{HasCauseAlone}
@@ -45,20 +44,23 @@ may_input : (task : InputTask) → MayStop (Input task)
 may_input Run = record { no_cube = refl; bad_store = λ found. refl; keep_fault = refl; memory = refl }
 may_input Import = record { no_cube = refl; bad_store = λ found. refl; keep_fault = refl; memory = refl }
 
+may_ask : MayStop Ask
+may_ask = record { no_cube = refl; bad_store = λ found. refl; keep_fault = refl; memory = refl }
+
 may_tell : (telling : Telling) → MayStop (Tell telling)
 may_tell telling = record { no_cube = refl; bad_store = λ found. refl; keep_fault = refl; memory = refl }
 
-module _ (command : StoreCommand) (may : MayStop command) (seen : SeenAll) (still : IsStill seen) where
-  not_opened : (stop : OpenStop) → NotOpened seen.keeper stop → SaysOf (Some (Store command)) seen (end_of_open stop)
+module _ (line : List ℕ) (command : StoreCommand) (may : MayStop command) (seen : SeenAll) (still : IsStill seen) where
+  not_opened : (stop : OpenStop) → NotOpened seen.keeper stop → SaysAsked line (Some (Store command)) seen (end_of_open stop)
   not_opened open_stop.NoCube is =
-      no_cube seen (left_all seen still is.0) (ends_of (Some (Store command))) (doing_of (Some (Store command))) (Fits (Some (Store command))) may.no_cube (record { read = still.read.count; write = still.write; keep = is.1 }) is.2
+      no_cube seen (left_all seen still is.0) (ends_of (Some (Store command))) (doing_of line (Some (Store command))) (Fits (Some (Store command))) may.no_cube (record { read = still.read.count; write = still.write; keep = is.1 }) is.2
   not_opened open_stop.Fault is =
-      keep_fault seen (left_all seen still is.0) (ends_of (Some (Store command))) (doing_of (Some (Store command))) (Fits (Some (Store command))) may.keep_fault (record { cause = is.1; read = still.read.count; write = still.write })
+      keep_fault seen (left_all seen still is.0) (ends_of (Some (Store command))) (doing_of line (Some (Store command))) (Fits (Some (Store command))) may.keep_fault (record { cause = is.1; read = still.read.count; write = still.write })
   not_opened (open_stop.Load (load_fault.Bad found)) is =
-      bad_store seen (left_all seen still is.0) (ends_of (Some (Store command))) (doing_of (Some (Store command))) (Fits (Some (Store command))) found (may.bad_store found)
+      bad_store seen (left_all seen still is.0) (ends_of (Some (Store command))) (doing_of line (Some (Store command))) (Fits (Some (Store command))) found (may.bad_store found)
       (record { read = still.read.count; write = still.write; keep = is.1 }) is.2
   not_opened (open_stop.Load load_fault.Memory) is =
-      wants_memory seen (left_all seen still is.0) (ends_of (Some (Store command))) (doing_of (Some (Store command))) (Fits (Some (Store command))) may.memory (record { read = still.read.count; write = still.write; keep = is.1 })
+      wants_memory seen (left_all seen still is.0) (ends_of (Some (Store command))) (doing_of line (Some (Store command))) (Fits (Some (Store command))) may.memory (record { read = still.read.count; write = still.write; keep = is.1 })
 
   -- a content was loaded, and is not that of a cube
   module _ (schema : SchemaValue) (policy : PolicyWord) (content : Stored) (given : Holds seen.keeper (λ kept. content ≡ kept)) (holds : HoldsSchema schema content) (named : policy ≡ schema.policy) (uncalled : WasNotCalled seen.keeper) where
@@ -66,7 +68,7 @@ module _ (command : StoreCommand) (may : MayStop command) (seen : SeenAll) (stil
     finds_as found is =
         subst (λ r. FindsBy r content found) (sym holds.schema_is) (subst (λ p. IsFinding (policy_in (weigh_of p) schema) (shape_of schema) schema.dims content found) named is)
 
-    not_loaded : (fault : LoadFault) → IsLoadFault (policy_in (weigh_of policy) schema) (shape_of schema) schema.dims content fault → SaysOf (Some (Store command)) seen (end_of_load fault)
+    not_loaded : (fault : LoadFault) → IsLoadFault (policy_in (weigh_of policy) schema) (shape_of schema) schema.dims content fault → SaysAsked line (Some (Store command)) seen (end_of_load fault)
     not_loaded (load_fault.Bad found) is =
         not_opened (open_stop.Load (load_fault.Bad found)) (
           uncalled.kept,
@@ -76,18 +78,24 @@ module _ (command : StoreCommand) (may : MayStop command) (seen : SeenAll) (stil
     not_loaded load_fault.Memory is = not_opened (open_stop.Load load_fault.Memory) (uncalled.kept, uncalled.count)
 
 pub input_not_opened : (task : InputTask) (seen : SeenAll) → IsStill seen → (stop : OpenStop) → NotOpened seen.keeper stop → SaysOf (Some (Store (Input task))) seen (end_of_open stop)
-input_not_opened task seen still stop is = not_opened (Input task) (may_input task) seen still stop is
+input_not_opened task seen still stop is = not_opened [] (Input task) (may_input task) seen still stop is
+
+pub ask_not_opened : (line : List ℕ) (seen : SeenAll) → IsStill seen → (stop : OpenStop) → NotOpened seen.keeper stop → SaysAsked line (Some (Store Ask)) seen (end_of_open stop)
+ask_not_opened line seen still stop is = not_opened line Ask may_ask seen still stop is
 
 pub tell_not_opened : (telling : Telling) (seen : SeenAll) → IsStill seen → (stop : OpenStop) → NotOpened seen.keeper stop → SaysOf (Some (Store (Tell telling))) seen (end_of_open stop)
-tell_not_opened telling seen still stop is = not_opened (Tell telling) (may_tell telling) seen still stop is
+tell_not_opened telling seen still stop is = not_opened [] (Tell telling) (may_tell telling) seen still stop is
 
 module _ (seen : SeenAll) (still : IsStill seen) (schema : SchemaValue) (policy : PolicyWord) (content : Stored) (given : Holds seen.keeper (λ kept. content ≡ kept)) (holds : HoldsSchema schema content) (named : policy ≡ schema.policy) (uncalled : WasNotCalled seen.keeper)
     (fault : LoadFault) (is : IsLoadFault (policy_in (weigh_of policy) schema) (shape_of schema) schema.dims content fault) where
   pub input_not_loaded : (task : InputTask) → SaysOf (Some (Store (Input task))) seen (end_of_load fault)
-  input_not_loaded task = not_loaded (Input task) (may_input task) seen still schema policy content given holds named uncalled fault is
+  input_not_loaded task = not_loaded [] (Input task) (may_input task) seen still schema policy content given holds named uncalled fault is
+
+  pub ask_not_loaded : (line : List ℕ) → SaysAsked line (Some (Store Ask)) seen (end_of_load fault)
+  ask_not_loaded line = not_loaded line Ask may_ask seen still schema policy content given holds named uncalled fault is
 
   pub tell_not_loaded : (telling : Telling) → SaysOf (Some (Store (Tell telling))) seen (end_of_load fault)
-  tell_not_loaded telling = not_loaded (Tell telling) (may_tell telling) seen still schema policy content given holds named uncalled fault is
+  tell_not_loaded telling = not_loaded [] (Tell telling) (may_tell telling) seen still schema policy content given holds named uncalled fault is
 
 -- a store was loaded, and holds this schema
 pub holds_schema : (schema : SchemaValue) (content : Stored) (keeper : KeeperSeen) → Opened schema content keeper → HoldsSchema schema content

@@ -1,5 +1,5 @@
 -- What the ends say where a script is done as it comes over the content of a store.
-use Rattle.std.proofs.Common.{◌≡◌, ℕ, ◌+◌, List, [], ◌∷◌, ◌++◌, length, take, true, refl, sym, ap, ◌∙◌, subst, append_assoc, arith, inr, length-append, Option, Some, None, Result, Ok, Err}
+use Rattle.std.proofs.Common.{◌≡◌, ℕ, ◌+◌, List, [], ◌∷◌, ◌++◌, length, take, true, refl, sym, ap, ◌∙◌, subst, append_assoc, inr, length-append, Some, Result, Ok, Err}
 use Rattle.std.specs.Prelude.{◌⊎◌, IfSome}
 use Rattle.std.specs.List.{concat}
 use Rattle.std.specs.Option.{option_map, option_map_or}
@@ -10,7 +10,7 @@ use Rattle.schema_text.specs.Schema.{SchemaValue, weigh_of}
 use Rattle.schema_text.specs.declared.word.PolicyWord.{PolicyWord}
 use Rattle.text_lines.specs.Text.{lines_of}
 use Rattle.line_cutter.specs.Input.{GoesOn, INPUT_LIMIT, TakesAtMost}
-use Rattle.line_cutter.specs.Pieces.{lf_count, line_end}
+use Rattle.line_cutter.specs.Pieces.{line_end}
 use Rattle.line_cutter.specs.Reading.{PIECE_LIMIT}
 use Rattle.cube_core.specs.Cube.{CubeValue}
 use Rattle.script_run.specs.declared.break_off.BreakOff.{BreakOff}
@@ -56,16 +56,16 @@ module _ (content : Stored) (ground : Ground) (over : IsOver content ground) whe
       ∙ ap (λ w. Some (run w ground.schema (state_over ground.schema content) lines)) (sym over.weighs)
       ∙ ap (λ s. Some (run ground.weigh ground.schema s lines)) (sym over.first_is)
 
-  replies-over : (lines : List (List ℕ)) → replies_over content lines ≡ (outcome_on ground lines).replies
+  pub replies-over : (lines : List (List ℕ)) → replies_over content lines ≡ (outcome_on ground lines).replies
   replies-over lines = ap (λ o. option_map_or (λ outcome. outcome.replies) o []) (outcome-over lines)
 
-  batches-over : (lines : List (List ℕ)) → batches_over content lines ≡ batches_on ground lines
+  pub batches-over : (lines : List (List ℕ)) → batches_over content lines ≡ batches_on ground lines
   batches-over lines =
       ap (λ r. option_map_or (λ (schema : SchemaValue). batches (weigh_of schema.policy) schema (state_over schema content) lines) (result_ok r) []) over.schema_is
       ∙ ap (λ w. batches w ground.schema (state_over ground.schema content) lines) (sym over.weighs)
       ∙ ap (λ s. batches ground.weigh ground.schema s lines) (sym over.first_is)
 
-  count-over : (lines : List (List ℕ)) → count_refused_over content lines ≡ (outcome_on ground lines).refused
+  pub count-over : (lines : List (List ℕ)) → count_refused_over content lines ≡ (outcome_on ground lines).refused
   count-over lines = ap (λ o. option_map_or (λ (outcome : Outcome). outcome.refused) o 0) (outcome-over lines)
 
   module _ (seen : SeenAll) where
@@ -74,10 +74,10 @@ module _ (content : Stored) (ground : Ground) (over : IsOver content ground) whe
     kept-first input done commits = subst (λ bs. Commits bs seen.keeper.told seen.keeper.told_after) (sym (batches-over (take done (lines_of input)))) commits
 
     ran : (input : List ℕ) (refused : ℕ) → ReadWhole seen.source input → Done (outcome_on ground (lines_of input)) seen.sink refused → Commits (batches_on ground (lines_of input)) seen.keeper.told seen.keeper.told_after
-        → DidLines (run_work input content) input refused seen
+        → DidLines (run_work input content) true input refused seen
     ran input refused read done commits = record {
       accepted = refl;
-      read = read;
+      read = λ is. read;
       count = done.count ∙ sym (count-over (lines_of input));
       wrote = subst (λ replies. Appends seen.sink.taken seen.sink.taken_after (concat replies)) (sym (replies-over (lines_of input))) done.bytes;
       kept = subst (λ bs. Commits bs seen.keeper.told seen.keeper.told_after) (sym (batches-over (lines_of input))) commits;
@@ -177,11 +177,11 @@ module _ (content : Stored) (ground : Ground) (over : IsOver content ground) whe
       fits : (end : End) → FitsAt IsSoundContent seen end content → Holds seen.keeper (FitsAt IsSoundContent seen end)
       fits end here = of_given seen.keeper.told.content content (FitsAt IsSoundContent seen end) given here
 
-      means : (end : End) → IfSome seen.source.left (λ input. MeansByLines (run_work input content) input seen end) → Holds seen.keeper (λ content. IfSome seen.source.left (λ input. MeansByLines (run_work input content) input seen end))
-      means end here = of_given seen.keeper.told.content content (λ content. IfSome seen.source.left (λ input. MeansByLines (run_work input content) input seen end)) given here
+      means : (end : End) → IfSome seen.source.left (λ input. MeansByLines (run_work input content) true input seen end) → Holds seen.keeper (λ content. IfSome seen.source.left (λ input. MeansByLines (run_work input content) true input seen end))
+      means end here = of_given seen.keeper.told.content content (λ content. IfSome seen.source.left (λ input. MeansByLines (run_work input content) true input seen end)) given here
 
       says_end : (end : End) → IsAmong (ends_of (Some (Store (Input Run)))) end → Faults seen end → Takes seen.source end → Leaves seen end → FitsAt IsSoundContent seen end content
-          → IfSome seen.source.left (λ input. MeansByLines (run_work input content) input seen end) → SaysOf (Some (Store (Input Run))) seen end
+          → IfSome seen.source.left (λ input. MeansByLines (run_work input content) true input seen end) → SaysOf (Some (Store (Input Run))) seen end
       says_end end may faults takes leaves here told = record {
         may = may;
         faults = faults;
@@ -211,7 +211,7 @@ module _ (content : Stored) (ground : Ground) (over : IsOver content ground) whe
       says_stream (Ok refused) ends count =
           let all = ends.1 in
           says_end (Finished refused) refl (record { read = ends.0; write = all.done.no_fault; keep = count }) (record { input = all.taken; bytes = all.bytes; few = all.few }) tt is_sound
-          (of_input true seen.source all.taken (λ input. DidLines (run_work input content) input refused seen) (record { bytes = all.bytes; end = all.end; within = all.few })
+          (of_input true seen.source all.taken (λ input. DidLines (run_work input content) true input refused seen) (record { bytes = all.bytes; end = all.end; within = all.few })
           (ran all.taken refused (record { within = all.few; end = all.end }) all.done (all.kept.commits over.keeps)))
       says_stream (Err (stream_stop.Broke off)) ends count = says_broke off ends.0 ends.1 count
       says_stream (Err (stream_stop.Read done)) ends count =

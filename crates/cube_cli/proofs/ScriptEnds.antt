@@ -1,6 +1,6 @@
 -- What the ends of `try` say of the whole input, where a schema was taken and the script behind it was done.
-use Rattle.std.proofs.Common.{◌≡◌, ℕ, ◌+◌, ◌-◌, ◌^◌, ◌<◌, ◌≤◌, false, List, [], ◌∷◌, ◌++◌, length, take, drop, refl, ap, sym, subst, ◌∙◌, arith, append-nil, append_assoc, length-append, inl, inr, ◌⊎◌, Option, Some, None, Result, Ok, Err}
-use Rattle.std.specs.Prelude.{IfErr, IfSome, IsSomeAnd}
+use Rattle.std.proofs.Common.{◌≡◌, ℕ, ◌+◌, ◌-◌, ◌^◌, ◌<◌, ◌≤◌, false, true, List, [], ◌∷◌, ◌++◌, length, take, drop, refl, ap, sym, subst, ◌∙◌, arith, append-nil, append_assoc, length-append, inl, inr, ◌⊎◌, Option, Some, None, Result, Ok, Err}
+use Rattle.std.specs.Prelude.{IfErr, IfSome}
 use Rattle.std.specs.List.{concat, slice_split}
 use Rattle.std.specs.Option.{option_map_or}
 use Rattle.std.specs.Io.KnownBytes.{Appends, Consumes, IsAtEnd}
@@ -23,8 +23,8 @@ use Rattle.script_run.specs.declared.streaming.StreamStop.TheVariants as stop
 use Rattle.script_run.specs.Kept.{Commits, is_keep}
 use Rattle.script_run.specs.Progress.{BreaksOff, Done}
 use Rattle.script_run.specs.Run.{Outcome, run_of}
-use Rattle.script_run.specs.Seen.{KeeperSeen, SeenAll, SinkSeen, SourceSeen}
-use Rattle.script_run.specs.Stream.{AnsweredTaken, EndsInLast, EndsStream, Ground, IsNear, StreamBroke, is_keep_stop}
+use Rattle.script_run.specs.Seen.{SeenAll, SinkSeen, SourceSeen}
+use Rattle.script_run.specs.Stream.{EndsInLast, EndsStream, Ground, IsNear, StreamBroke, is_keep_stop}
 use Rattle.script_run.specs.Written.{Answered, Broken, Gathered, Stopped}
 use Rattle.script_run.proofs.Texts.{stopped_gathered}
 use Rattle.script_run.proofs.Writing.{wrote-weaker}
@@ -36,11 +36,11 @@ use Rattle.fact_keeper.specs.declared.content.Stored.{Stored}
 use Rattle.cube_cli.specs.declared.end.End.{End}
 use Rattle.cube_cli.specs.declared.end.End.TheVariants.{Finished, Memory, ReadFault, TooLong, WriteFault}
 use Rattle.cube_cli.specs.Seen.{NoFault, Took, WasNotCalled}
-use Rattle.cube_cli.specs.Trying.{EndsUnkept, count_refused, outcome_of, replies_of, script_line_end}
+use Rattle.cube_cli.specs.Trying.{EndsUnkept, outcome_of, replies_of, script_line_end}
 use Rattle.cube_cli.specs.RunEnd.{end_of_break_off, end_of_run}
 use Rattle.cube_cli.specs.SchemaLines.{TookSchema}
 use Rattle.cube_cli.proofs.Coming.{answered-all, breaks_off-first, first-came, first_part}
-use Rattle.cube_cli.proofs.ScriptBehind.{IsInParts, end-read, in_parts, lines-read, outcome-read, replies-read, some-read}
+use Rattle.cube_cli.proofs.ScriptBehind.{IsInParts, end-read, in_parts, lines-read, outcome-read, replies-read}
 use Rattle.cube_cli.proofs.Keepers.{unkept}
 use Rattle.cube_cli.proofs.Known.{of_any, told-weaker}
 use Rattle.cube_cli.proofs.Unkept.{new_ground}
@@ -68,12 +68,12 @@ module _ (source : SourceSeen) (room : ℕ) (held : List (List ℕ)) (schema : S
   size_in rest input is none few = omega (arith, few, took.room, ap length is.parts, length-append both rest, length-append took.taken second, ap length none)
 
   lines_done : (whole : SeenAll) (kept : Commits [] whole.keeper.told whole.keeper.told_after) (refused : ℕ) (rest input : List ℕ) → IsInParts schema took.size took.taken second rest input → rest ≡ [] → length second ≤ room → IsAtEnd whole.source.left_after
-      → Done (run_of schema (lines_of text)) whole.sink refused → DidLines (try_work input empty_content) input refused whole
+      → Done (run_of schema (lines_of text)) whole.sink refused → DidLines (try_work input empty_content) true input refused whole
   lines_done whole kept refused rest input is none few end done =
       let outcome : outcome_of input ≡ Some (run_of schema (lines_of text)) = outcome_whole rest input is none in
       record {
         accepted = accepted rest input is;
-        read = record { within = size_in rest input is none few; end = end };
+        read = λ reads. record { within = size_in rest input is none few; end = end };
         count = done.count ∙ sym (ap (λ o. option_map_or (λ (outcome : Outcome). outcome.refused) o 0) outcome);
         wrote = subst (λ l. Appends whole.sink.taken whole.sink.taken_after (concat l)) (sym (ap (λ o. option_map_or (λ (outcome : Outcome). outcome.replies) o []) outcome)) done.bytes;
         kept = kept;
@@ -138,9 +138,9 @@ module _ (source : SourceSeen) (room : ℕ) (held : List (List ℕ)) (schema : S
         subst (λ left. IfSome left P) (sym same_left)
         (in_parts source after schema took.size took.taken second P took.is took.within took.bytes two (λ rest input is_rest is. says rest input (λ end. rw is_rest at end) is))
 
-    told_done : (refused : ℕ) → IsAtEnd after → length second ≤ room → Done (run_of schema (lines_of text)) whole.sink refused → IfSome whole.source.left (λ input. DidLines (try_work input empty_content) input refused whole)
+    told_done : (refused : ℕ) → IsAtEnd after → length second ≤ room → Done (run_of schema (lines_of text)) whole.sink refused → IfSome whole.source.left (λ input. DidLines (try_work input empty_content) true input refused whole)
     told_done refused end few done =
-        of_parts (λ input. DidLines (try_work input empty_content) input refused whole) (λ rest input none is. lines_done whole kept refused rest input is (none end) few end done)
+        of_parts (λ input. DidLines (try_work input empty_content) true input refused whole) (λ rest input none is. lines_done whole kept refused rest input is (none end) few end done)
 
     told_failed : (done : ℕ) → done ≡ lf_count text → Answered (run_of schema (lines_of text)).replies done whole.sink → IfSome whole.source.left (λ input. Took whole.source (λ taken. StoppedReading (try_work input empty_content) taken done whole))
     told_failed done count answered =
@@ -228,7 +228,7 @@ module _ (source : SourceSeen) (room : ℕ) (held : List (List ℕ)) (schema : S
   Ends result = EndsStream ground (drop took.size took.taken) room (record { source = second_part; sink = whole.sink; keeper = whole.keeper }) result
 
   says_end : (end : End) → IsAmong (ends_of (Some Try)) end → Faults whole end → Takes whole.source end → Leaves whole end → ((content : Stored) → FitsAt (Fits (Some Try)) whole end content)
-      → IfSome whole.source.left (λ input. MeansByLines (try_work input empty_content) input whole end) → SaysOf (Some Try) whole end
+      → IfSome whole.source.left (λ input. MeansByLines (try_work input empty_content) true input whole end) → SaysOf (Some Try) whole end
   says_end end may faults takes leaves here told = record {
     may = may;
     faults = faults;

@@ -1,12 +1,11 @@
 -- What the ends of `check`, `export` and `drill` say, which take no input and keep nothing.
-use Rattle.std.proofs.Common.{◌≡◌, ℕ, List, [], refl, sym, ap, ◌∙◌, subst, true, false, Some, None, Result}
+use Rattle.std.proofs.Common.{◌≡◌, ℕ, [], refl, sym, ap, ◌∙◌, subst, true, false, Some, Result}
 use Rattle.cube_base.specs.declared.fault.SinkError.{SinkError}
 use Rattle.cube_core.specs.Cube.{CubeValue}
 use Rattle.drill_run.specs.Doing.{drill_of}
 use Rattle.drill_run.specs.Summary.{summary_of}
 use Rattle.fact_keeper.specs.Batch.{empty_content}
 use Rattle.fact_keeper.specs.declared.content.Stored.{Stored}
-use Rattle.line_cutter.specs.Input.{INPUT_LIMIT}
 use Rattle.schema_text.specs.Schema.{policy_in, weigh_of}
 use Rattle.schema_text.specs.declared.word.PolicyWord.{PolicyWord}
 use Rattle.stored_state.specs.Sound.{facts_told}
@@ -55,5 +54,5 @@ module _ (seen : SeenAll) (unread : WasNotRead seen.source) (uncalled : WasNotCa
 
   pub drill_wants : (n : ℕ) → WroteNothing seen.sink → NoWriteFault seen.sink → SaysOf (Some (Drill n)) seen (Memory 0)
   drill_wants n wrote write =
-      wants_memory seen (record { nothing = record { wrote = wrote; kept = uncalled.kept }; read = unread.read }) (ends_of (Some (Drill n))) (doing_of (Some (Drill n))) (Fits (Some (Drill n))) refl
+      wants_memory seen (record { nothing = record { wrote = wrote; kept = uncalled.kept }; read = unread.read }) (ends_of (Some (Drill n))) (doing_of [] (Some (Drill n))) (Fits (Some (Drill n))) refl
       (record { read = unread.count; write = write; keep = uncalled.count })

@@ -1,5 +1,6 @@
--- The command that the words of a command line name.
-use Rattle.std.specs.Prelude.{ℕ, List, [], ◌∷◌, Option, Some, None, codes, if◌then◌else◌}
+-- The command that the words of a command line name, and the line that they ask.
+use Rattle.std.specs.Prelude.{ℕ, List, [], ◌∷◌, ◌++◌, Option, Some, None, codes, drop, if◌then◌else◌}
+use Rattle.std.specs.List.{flat_map}
 use Rattle.std.specs.Option.{option_map}
 use Rattle.std.specs.Cmp.Lexicographic.{pointwise}
 use Rattle.std.specs.Str.{bytes_eq}
@@ -8,7 +9,7 @@ use Rattle.drill_run.specs.Edits.{MAX_DRILL}
 use Rattle.cube_cli.specs.declared.command.Command.{Command}
 use Rattle.cube_cli.specs.declared.command.Command.TheVariants.{Drill, Store, Try}
 use Rattle.cube_cli.specs.declared.command.StoreCommand.{StoreCommand}
-use Rattle.cube_cli.specs.declared.command.StoreCommand.TheVariants.{Init, Input, Tell}
+use Rattle.cube_cli.specs.declared.command.StoreCommand.TheVariants.{Ask, Init, Input, Tell}
 use Rattle.cube_cli.specs.declared.store.InputTask.TheVariants.{Run, Import}
 use Rattle.cube_cli.specs.declared.telling.Telling.TheVariants.{Check, Export, Schema, Rows}
 
@@ -32,13 +33,27 @@ abbrev pub store_named : List ℕ → List ℕ → Option Command
 store_named word [] = None
 store_named word (byte ∷ name) = option_map (λ command. Store command) (store_command word)
 
--- the command of two words
-abbrev pub command_of_two : List (List ℕ) → Option Command
-command_of_two [] = None
-command_of_two (word ∷ []) = None
-command_of_two (word ∷ name ∷ []) = if bytes_eq word (codes "drill") then drill_named name else store_named word name
-command_of_two (word ∷ name ∷ other ∷ words) = None
+-- that which asks a line of the store of a name
+abbrev pub ask_named : List ℕ → List ℕ → Option Command
+ask_named word [] = None
+ask_named word (byte ∷ name) = if bytes_eq word (codes "ask") then Some (Store Ask) else None
+
+-- the command of two words, or of more, of which those behind the name are asked
+abbrev pub command_of_more : List (List ℕ) → Option Command
+command_of_more [] = None
+command_of_more (word ∷ []) = None
+command_of_more (word ∷ name ∷ []) = if bytes_eq word (codes "drill") then drill_named name else store_named word name
+command_of_more (word ∷ name ∷ asked ∷ words) = ask_named word name
 
 -- the command, if the words are those of one
 abbrev pub command_of : List (List ℕ) → Option Command
-command_of words = if pointwise bytes_eq words (codes "try" ∷ []) then Some Try else command_of_two words
+command_of words = if pointwise bytes_eq words (codes "try" ∷ []) then Some Try else command_of_more words
+
+-- words as the fields of one line, with a TAB between two of them
+abbrev pub joined : List (List ℕ) → List ℕ
+joined [] = []
+joined (word ∷ words) = word ++ flat_map (λ word. 9 ∷ word) words
+
+-- the line that is asked: the words behind the command and the name
+abbrev pub asked_line : List (List ℕ) → List ℕ
+asked_line words = joined (drop 2 words)

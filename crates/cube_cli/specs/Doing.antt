@@ -16,7 +16,7 @@ use Rattle.stored_state.specs.Sound.{facts_told}
 use Rattle.text_lines.specs.Text.{line_text, lines_of}
 use Rattle.cube_cli.specs.declared.command.Command.{Command}
 use Rattle.cube_cli.specs.declared.command.Command.TheVariants.{Drill, Store, Try}
-use Rattle.cube_cli.specs.declared.command.StoreCommand.TheVariants.{Init, Input, Tell}
+use Rattle.cube_cli.specs.declared.command.StoreCommand.TheVariants.{Ask, Init, Input, Tell}
 use Rattle.cube_cli.specs.declared.end.End.{End}
 use Rattle.cube_cli.specs.declared.end.End.TheVariants as ends
 use Rattle.cube_cli.specs.declared.store.InputTask.TheVariants.{Run, Import}
@@ -82,19 +82,27 @@ try_work input content = record {
   line_end = script_line_end input;
 }
 
--- the lines of a script over a content, which has no head
-abbrev pub run_work : List ℕ → Stored → LineWork
-run_work input content = record {
+-- lines over a content, which have no head
+abbrev pub lines_work : List (List ℕ) → (List ℕ → ℕ) → (ℕ → ℕ) → Stored → LineWork
+lines_work lines lines_in end_of content = record {
   refusal = None;
   head = 0;
   has_head = λ taken. true;
-  replies = replies_over content (lines_of input);
-  refused = count_refused_over content (lines_of input);
-  kept = λ n. batches_over content (take n (lines_of input));
-  all_kept = batches_over content (lines_of input);
-  lines_in = lf_count;
-  line_end = line_end input;
+  replies = replies_over content lines;
+  refused = count_refused_over content lines;
+  kept = λ n. batches_over content (take n lines);
+  all_kept = batches_over content lines;
+  lines_in = lines_in;
+  line_end = end_of;
 }
+
+-- those of a script
+abbrev pub run_work : List ℕ → Stored → LineWork
+run_work input content = lines_work (lines_of input) lf_count (line_end input) content
+
+-- the one line that words ask, of which nothing stands in an input
+abbrev pub ask_work : List ℕ → List ℕ → Stored → LineWork
+ask_work line input content = lines_work (line ∷ []) (λ taken. 0) (λ n. 0) content
 
 -- the reply of `init`
 abbrev pub INIT_LINE : List ℕ
@@ -131,15 +139,16 @@ import_work input content = with_schema (λ schema. file_work (policy_of schema)
 abbrev pub telling_work : Telling → List ℕ → Stored → OneWork
 telling_work telling input content = with_schema (λ schema. text_work (text_told telling (policy_of schema) schema (facts_told content))) content
 
--- what the command does
-abbrev pub doing_of : Option Command → Doing
-doing_of None = record { reads = false; stores = false; keeps = false; over = false; works = AtOnce 0 0 (λ input content. text_work []) }
-doing_of (Some Try) = record { reads = true; stores = false; keeps = false; over = false; works = ByLines try_work }
-doing_of (Some (Drill n)) = record { reads = false; stores = false; keeps = false; over = false; works = AtOnce (drill_of n).refused 0 (λ input content. text_work (summary_of n)) }
-doing_of (Some (Store Init)) = record { reads = true; stores = true; keeps = true; over = false; works = AtOnce 0 1 init_work }
-doing_of (Some (Store (Input Run))) = record { reads = true; stores = true; keeps = true; over = true; works = ByLines run_work }
-doing_of (Some (Store (Input Import))) = record { reads = true; stores = true; keeps = true; over = true; works = AtOnce 0 1 import_work }
-doing_of (Some (Store (Tell telling))) = record { reads = false; stores = true; keeps = false; over = true; works = AtOnce 0 0 (telling_work telling) }
+-- what the command does, where its words ask this line: `ask` alone looks at it
+abbrev pub doing_of : List ℕ → Option Command → Doing
+doing_of line None = record { reads = false; stores = false; keeps = false; over = false; works = AtOnce 0 0 (λ input content. text_work []) }
+doing_of line (Some Try) = record { reads = true; stores = false; keeps = false; over = false; works = ByLines try_work }
+doing_of line (Some (Drill n)) = record { reads = false; stores = false; keeps = false; over = false; works = AtOnce (drill_of n).refused 0 (λ input content. text_work (summary_of n)) }
+doing_of line (Some (Store Init)) = record { reads = true; stores = true; keeps = true; over = false; works = AtOnce 0 1 init_work }
+doing_of line (Some (Store (Input Run))) = record { reads = true; stores = true; keeps = true; over = true; works = ByLines run_work }
+doing_of line (Some (Store (Input Import))) = record { reads = true; stores = true; keeps = true; over = true; works = AtOnce 0 1 import_work }
+doing_of line (Some (Store Ask)) = record { reads = false; stores = true; keeps = true; over = true; works = ByLines (ask_work line) }
+doing_of line (Some (Store (Tell telling))) = record { reads = false; stores = true; keeps = false; over = true; works = AtOnce 0 0 (telling_work telling) }
 
 -- the ends that it may give
 abbrev pub ends_of : Option Command → List EndKind
@@ -149,6 +158,7 @@ ends_of (Some (Drill n)) = Finished ∷ WriteFault ∷ Memory ∷ []
 ends_of (Some (Store Init)) = HasCube ∷ Schema ∷ Finished ∷ ReadFault ∷ TooLong ∷ WriteFault ∷ KeepFault ∷ Memory ∷ []
 ends_of (Some (Store (Input Run))) = NoCube ∷ BadStore ∷ Finished ∷ ReadFault ∷ TooLong ∷ WriteFault ∷ KeepFault ∷ Memory ∷ []
 ends_of (Some (Store (Input Import))) = NoCube ∷ BadStore ∷ BadRecord ∷ ImportRows ∷ Finished ∷ ReadFault ∷ TooLong ∷ WriteFault ∷ KeepFault ∷ Memory ∷ []
+ends_of (Some (Store Ask)) = NoCube ∷ BadStore ∷ Finished ∷ WriteFault ∷ KeepFault ∷ Memory ∷ []
 ends_of (Some (Store (Tell telling))) = NoCube ∷ BadStore ∷ Finished ∷ WriteFault ∷ KeepFault ∷ Memory ∷ []
 
 -- what the store must hold for it to go on
@@ -158,4 +168,5 @@ Fits (Some Try) content = ⊤
 Fits (Some (Drill n)) content = ⊤
 Fits (Some (Store Init)) content = content ≡ empty_content
 Fits (Some (Store (Input task))) content = IsSoundContent content
+Fits (Some (Store Ask)) content = IsSoundContent content
 Fits (Some (Store (Tell telling))) content = IsSoundContent content

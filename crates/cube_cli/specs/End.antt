@@ -10,7 +10,7 @@ use Rattle.line_cutter.specs.Reading.{PIECE_LIMIT}
 use Rattle.script_run.specs.Kept.{Commits}
 use Rattle.script_run.specs.Seen.{KeepFailed, ReadFailed, SeenAll, SourceSeen, WriteFailed, Wrote, WroteNothing}
 use Rattle.script_run.specs.Written.{Answered, Broken, Stopped}
-use Rattle.cube_cli.specs.Command.{command_of}
+use Rattle.cube_cli.specs.Command.{asked_line, command_of}
 use Rattle.cube_cli.specs.declared.command.Command.{Command}
 use Rattle.cube_cli.specs.declared.end.End.{End}
 use Rattle.cube_cli.specs.declared.end.End.TheVariants.{Finished, Usage, Schema, NoCube, HasCube, BadStore, ReadFault, WriteFault, KeepFault, Memory, TooLong, BadRecord, ImportRows}
@@ -84,10 +84,10 @@ pub record StoppedReading (work : LineWork) (taken : List ℕ) (done : ℕ) (see
   pub answered : Answered work.replies done seen.sink
   pub kept : Commits (work.kept done) seen.keeper.told seen.keeper.told_after
 
--- The whole input was read, and its lines done and answered.
-pub record DidLines (work : LineWork) (input : List ℕ) (refused : ℕ) (seen : SeenAll) : Type 0 where
+-- The whole input, where one is taken, was read, and its lines are done and answered.
+pub record DidLines (work : LineWork) (reads : Bool) (input : List ℕ) (refused : ℕ) (seen : SeenAll) : Type 0 where
   pub accepted : work.refusal ≡ None
-  pub read : ReadWhole seen.source input
+  pub read : reads ≡ true → ReadWhole seen.source input
   pub count : refused ≡ work.refused
   pub wrote : Appends seen.sink.taken seen.sink.taken_after (concat work.replies)
   pub kept : Commits work.all_kept seen.keeper.told seen.keeper.told_after
@@ -116,17 +116,17 @@ pub record RefusedHead (work : LineWork) (end : End) (seen : SeenAll) : Type 0 w
   pub near : TakesAtMost (work.head + PIECE_LIMIT) seen.source.left seen.source.left_after
 
 -- What each end says of an input that is done by its lines.
-abbrev pub MeansByLines : LineWork → List ℕ → SeenAll → End → Type 0
-MeansByLines work input seen (Finished refused) = DidLines work input refused seen
-MeansByLines work input seen (ReadFault done) = Took seen.source (λ taken. StoppedReading work taken done seen)
-MeansByLines work input seen (TooLong done) = StoppedReading work (take INPUT_LIMIT input) done seen
-MeansByLines work input seen (WriteFault done) = BrokeOff work done seen
-MeansByLines work input seen (KeepFault done) = StoppedFirst seen done ⊎ StoppedAtEdit work done seen
-MeansByLines work input seen (Memory done) = StoppedFirst seen done ⊎ WantedMemory work done seen
-MeansByLines work input seen (Schema line why) = RefusedHead work (Schema line why) seen
-MeansByLines work input seen (BadRecord bad) = RefusedHead work (BadRecord bad) seen
-MeansByLines work input seen (ImportRows would) = RefusedHead work (ImportRows would) seen
-MeansByLines work input seen end = ⊤
+abbrev pub MeansByLines : LineWork → Bool → List ℕ → SeenAll → End → Type 0
+MeansByLines work reads input seen (Finished refused) = DidLines work reads input refused seen
+MeansByLines work reads input seen (ReadFault done) = Took seen.source (λ taken. StoppedReading work taken done seen)
+MeansByLines work reads input seen (TooLong done) = StoppedReading work (take INPUT_LIMIT input) done seen
+MeansByLines work reads input seen (WriteFault done) = BrokeOff work done seen
+MeansByLines work reads input seen (KeepFault done) = StoppedFirst seen done ⊎ StoppedAtEdit work done seen
+MeansByLines work reads input seen (Memory done) = StoppedFirst seen done ⊎ WantedMemory work done seen
+MeansByLines work reads input seen (Schema line why) = RefusedHead work (Schema line why) seen
+MeansByLines work reads input seen (BadRecord bad) = RefusedHead work (BadRecord bad) seen
+MeansByLines work reads input seen (ImportRows would) = RefusedHead work (ImportRows would) seen
+MeansByLines work reads input seen end = ⊤
 
 -- The input, where one is taken, was read whole, and it has this refusal or none.
 pub record Judged (work : OneWork) (reads : Bool) (input : List ℕ) (refusal : Option End) (seen : SeenAll) : Type 0 where
@@ -155,7 +155,7 @@ MeansAtOnce work reads commits input seen end = ⊤
 
 -- What it says of an input and a content.
 abbrev pub Means : Works → Bool → List ℕ → Stored → SeenAll → End → Type 0
-Means (ByLines work) reads input content seen end = MeansByLines (work input content) input seen end
+Means (ByLines work) reads input content seen end = MeansByLines (work input content) reads input seen end
 Means (AtOnce refused commits work) reads input content seen end = MeansAtOnce (work input content) reads commits input seen end
 
 -- What an end says of a run that may give these ends, does this, and goes on over what the store must hold.
@@ -170,13 +170,21 @@ pub record SaysBy (kinds : List EndKind) (doing : Doing) (Fitting : Stored → T
   pub fits : Holds seen.keeper (FitsAt Fitting seen end)
   pub means : OfContent doing.over seen.keeper (λ content. OfInput doing.reads seen.source (λ input. Means doing.works doing.reads input content seen end))
 
--- what an end says of a run of a command, if one is named
+-- what an end says of a run of a command, if one is named, whose words ask a line
+abbrev pub SaysAsked : List ℕ → Option Command → SeenAll → End → Type 0
+SaysAsked line command seen end = SaysBy (ends_of command) (doing_of line command) (Fits command) seen end
+
+-- the same of one whose words ask none
 abbrev pub SaysOf : Option Command → SeenAll → End → Type 0
-SaysOf command seen end = SaysBy (ends_of command) (doing_of command) (Fits command) seen end
+SaysOf command seen end = SaysAsked [] command seen end
 
 -- what the end of a run says, by the words of the command line
 abbrev pub Says : List (List ℕ) → SeenAll → End → Type 0
-Says words seen end = SaysOf (command_of words) seen end
+Says words seen end = SaysAsked (asked_line words) (command_of words) seen end
+
+-- what the words of the command line do
+abbrev pub doing_by : List (List ℕ) → Doing
+doing_by words = doing_of (asked_line words) (command_of words)
 
 -- no fault was met of what a command calls
 pub record NoneFailed (doing : Doing) (seen : SeenAll) : Type 0 where
@@ -190,9 +198,9 @@ IsDone end = IsAmong (EndKind.Finished ∷ EndKind.Usage ∷ EndKind.Schema ∷ 
 
 -- Where no fault comes, the store holds what the command must find, and the input is not too long, it is so. With what the end says an
 -- input that is accepted is done to its end then, unless memory is wanting.
-abbrev pub IsCompleteOf : Option Command → SeenAll → End → Type 0
-IsCompleteOf command seen end = NoneFailed (doing_of command) seen
-    → OfContent (doing_of command).stores seen.keeper (λ content. Fits command content → OfInput (doing_of command).reads seen.source (λ input. length input ≤ INPUT_LIMIT → IsDone end))
+abbrev pub IsCompleteOf : List ℕ → Option Command → SeenAll → End → Type 0
+IsCompleteOf line command seen end = NoneFailed (doing_of line command) seen
+    → OfContent (doing_of line command).stores seen.keeper (λ content. Fits command content → OfInput (doing_of line command).reads seen.source (λ input. length input ≤ INPUT_LIMIT → IsDone end))
 
 abbrev pub IsComplete : List (List ℕ) → SeenAll → End → Type 0
-IsComplete words seen end = IsCompleteOf (command_of words) seen end
+IsComplete words seen end = IsCompleteOf (asked_line words) (command_of words) seen end

@@ -32,6 +32,11 @@ end_of_break_off (break_off.SinkMemory line) = Memory line
 end_of_break_off (break_off.Memory done) = Memory done
 end_of_break_off (break_off.Keep done) = KeepFault done
 
+-- the end of a line that was done alone, which was refused or not, or broke off
+abbrev pub end_of_line : Result ℕ BreakOff → End
+end_of_line (Ok refused) = Finished refused
+end_of_line (Err off) = end_of_break_off off
+
 -- the end of a script's run, which refused so many lines or stopped
 abbrev pub end_of_run : Result ℕ StreamStop → End
 end_of_run (Ok refused) = Finished refused

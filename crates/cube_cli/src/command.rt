@@ -1,14 +1,14 @@
 //! The commands, and the top call.
-ghost use Rattle.std.specs.Prelude.{◌≡◌, map, string_bytes, IfSome};
+ghost use Rattle.std.specs.Prelude.{◌≡◌, drop, map, string_bytes, IfSome};
 ghost use Rattle.line_cutter.specs.Input.{EndsOnce};
 ghost use Rattle.script_run.specs.Seen.{seen_of};
-ghost use Rattle.cube_cli.specs.Command.{command_of, drill_named, store_command, store_named};
-ghost use Rattle.cube_cli.specs.Doing.{doing_of};
-ghost use Rattle.cube_cli.specs.End.{IsComplete, Says};
-ghost use Rattle.cube_cli.specs.Expectations.{AddsUpAfterEachLine, AddsUpOverStore, ExpectsAfterEachLine, ExpectsOverStore};
+ghost use Rattle.cube_cli.specs.Command.{ask_named, asked_line, command_of, drill_named, store_command, store_named};
+ghost use Rattle.cube_cli.specs.End.{IsComplete, Says, doing_by};
+ghost use Rattle.cube_cli.specs.Expectations.{AddsUpAfterEachLine, AddsUpOverStore, ComponentsAfterEachLine, ComponentsOverStore, ExpectsAfterEachLine, ExpectsOverStore, HoldsAroundLine, RangesAfterEachLine, RangesOverStore, TablesAfterEachLine, TablesOverStore};
 ghost use Rattle.cube_cli.specs.Loaded.{Loads, second_word};
 
 use crate::End;
+use crate::asking::ask;
 use crate::drill::drill;
 use crate::init::init;
 use crate::store::{InputTask, do_input};
@@ -38,6 +38,8 @@ pub enum StoreCommand {
     Init,
     /// Something is done with the input over the cube of the store.
     Input(InputTask),
+    /// The line that the words behind the name make is done over the cube of the store.
+    Ask,
     /// Something is told of the store.
     Tell(Telling),
 }
@@ -61,6 +63,9 @@ pub enum StoreCommand {
 /// answers `sound` with the numbers of the facts and of their rows. A store with nothing in it has no cube, and one that is not sound is left
 /// as it is.
 ///
+/// The word `ask`, the name of a store and one word or more do one line over the cube of the store as `run` does: the words behind the name,
+/// with a TAB between two of them. No input is taken, and nothing in a word ends the line. `done` is 1 once the line is done.
+///
 /// `import` takes a CSV file of facts over the schema of the store, of which the first record is the header, and puts all of them as one
 /// batch or none: where a record is refused, the first one's index, from 0 for the header, and its code are told. The reply is `imported`
 /// with the number of facts in the file and that of the facts that are new or lie otherwise than before. `export` takes no input and
@@ -69,7 +74,9 @@ pub enum StoreCommand {
 ///
 /// What is answered over the facts and the dimensions as they stand after each number of lines is the exact expectation over all possible
 /// worlds of the facts, in each of which every fact stands in one cell of its allocation; and where a node of a region has children, the
-/// answers at the regions with each child in its place merge to that at the region.
+/// answers at the regions with each child in its place merge to that at the region. In each region each column has a least and a greatest
+/// sum over these worlds, which are reached, and the sum of every world lies between them. The labels of the facts tell their components.
+/// The terms of a table's regions, at any depths, merge to the answer at the region that it is asked for.
 pub fn cube<S: Source, K: Sink, Q: Keeper>(
     alloc: Global,
     words: &[String],
@@ -79,12 +86,34 @@ pub fn cube<S: Source, K: Sink, Q: Keeper>(
 ) -> End
     ensures says { Says (map string_bytes words.now) (seen_of S.tells K.tells Q.tells source.old source.new out.old out.new keeper.old keeper.new) result }
     ensures complete { IsComplete (map string_bytes words.now) (seen_of S.tells K.tells Q.tells source.old source.new out.old out.new keeper.old keeper.new) result }
-    ensures loaded { Loads (doing_of (command_of (map string_bytes words.now))).stores (second_word (map string_bytes words.now)) (Q.tells keeper.old) (Q.tells keeper.new) (seen_of S.tells K.tells Q.tells source.old source.new out.old out.new keeper.old keeper.new) result }
+    ensures loaded { Loads (doing_by (map string_bytes words.now)).stores (second_word (map string_bytes words.now)) (Q.tells keeper.old) (Q.tells keeper.new) (seen_of S.tells K.tells Q.tells source.old source.new out.old out.new keeper.old keeper.new) result }
     ensures ended { EndsOnce (S.tells source.old).ends (S.tells source.new).ends }
     ensures expectations { IfSome (S.tells source.old).left ExpectsAfterEachLine }
     ensures children { IfSome (S.tells source.old).left AddsUpAfterEachLine }
+    ensures ranges { IfSome (S.tells source.old).left RangesAfterEachLine }
+    ensures components { IfSome (S.tells source.old).left ComponentsAfterEachLine }
+    ensures tables { IfSome (S.tells source.old).left TablesAfterEachLine }
     ensures expectations_over_store { IfSome (Q.tells keeper.old).content (λ content. IfSome (S.tells source.old).left (ExpectsOverStore content)) }
     ensures children_over_store { IfSome (Q.tells keeper.old).content (λ content. IfSome (S.tells source.old).left (AddsUpOverStore content)) }
+    ensures ranges_over_store { IfSome (Q.tells keeper.old).content (λ content. IfSome (S.tells source.old).left (RangesOverStore content)) }
+    ensures components_over_store { IfSome (Q.tells keeper.old).content (λ content. IfSome (S.tells source.old).left (ComponentsOverStore content)) }
+    ensures tables_over_store { IfSome (Q.tells keeper.old).content (λ content. IfSome (S.tells source.old).left (TablesOverStore content)) }
+    ensures around_asked { IfSome (Q.tells keeper.old).content (HoldsAroundLine (asked_line (map string_bytes words.now))) }
+{
+    run_command(alloc, words, source, out, keeper)
+}
+
+// Does what the words say.
+fn run_command<S: Source, K: Sink, Q: Keeper>(
+    alloc: Global,
+    words: &[String],
+    source: &mut S,
+    out: &mut K,
+    keeper: &mut Q,
+) -> End
+    ensures says { Says (map string_bytes words.now) (seen_of S.tells K.tells Q.tells source.old source.new out.old out.new keeper.old keeper.new) result }
+    ensures loaded { Loads (doing_by (map string_bytes words.now)).stores (second_word (map string_bytes words.now)) (Q.tells keeper.old) (Q.tells keeper.new) (seen_of S.tells K.tells Q.tells source.old source.new out.old out.new keeper.old keeper.new) result }
+    ensures ended { EndsOnce (S.tells source.old).ends (S.tells source.new).ends }
 {
     match command_of(words) {
         None => End::Usage,
@@ -95,6 +124,9 @@ pub fn cube<S: Source, K: Sink, Q: Keeper>(
         }
         Some(Command::Store(StoreCommand::Input(task))) => {
             do_input(alloc, second_of(words), task, source, out, keeper)
+        }
+        Some(Command::Store(StoreCommand::Ask)) => {
+            ask(alloc, second_of(words), asked_of(words), out, keeper)
         }
         Some(Command::Store(StoreCommand::Tell(telling))) => {
             tell(alloc, second_of(words), telling, out, keeper)
@@ -110,6 +142,7 @@ fn command_of(words: &[String]) -> Option<Command>
         [word] if word.as_str() == "try" => Some(Command::Try),
         [word, number] if word.as_str() == "drill" => drill_named(number.as_bytes()),
         [word, name] => store_named(word.as_bytes(), name.as_bytes()),
+        [word, name, _, ..] => ask_named(word.as_bytes(), name.as_bytes()),
         _ => None,
     }
 }
@@ -153,6 +186,27 @@ fn store_command(word: &[u8]) -> Option<StoreCommand>
         Some(StoreCommand::Tell(Telling::Rows))
     } else {
         None
+    }
+}
+
+// The command that asks a line of a store, where the name of the store is not empty.
+fn ask_named(word: &[u8], name: &[u8]) -> Option<Command>
+    ensures { result ≡ ask_named word.now name.now }
+{
+    if name.is_empty() || !is_text(word, "ask") {
+        return None;
+    }
+    let command = StoreCommand::Ask;
+    Some(Command::Store(command))
+}
+
+// The words behind the first two, which are asked.
+fn asked_of(words: &[String]) -> &[String]
+    ensures { map string_bytes result.now ≡ drop 2 (map string_bytes words.now) }
+{
+    match words {
+        [_, _, asked @ ..] => asked,
+        _ => &[],
     }
 }
 

@@ -1,4 +1,8 @@
-//! Runs that are computed from the definitions. The function does nothing: the law is its contract.
+//! Runs and command lines that are computed from the definitions. The functions do nothing: each law is the contract.
+ghost use Rattle.std.specs.Prelude.{◌≡◌, ◌++◌, ◌∷◌, [], codes, None, Some};
+ghost use Rattle.cube_cli.specs.declared.command.Command.TheVariants as command;
+ghost use Rattle.cube_cli.specs.declared.command.StoreCommand.TheVariants as store_command;
+ghost use Rattle.cube_cli.specs.Command.{asked_line, command_of};
 ghost use Rattle.cube_cli.specs.Examples.{Gives, city_and_state, city_and_state_replies, grown_state, grown_state_replies, hours, hours_replies, listed_worlds, listed_worlds_replies, nothing_to_divide, nothing_to_divide_replies, parts_of_outcomes, parts_of_outcomes_replies, refused_and_skipped, refused_and_skipped_replies, told_in_fractions, told_in_fractions_replies};
 
 /// Two inputs worked out by hand. A fact in a city and one somewhere in its state: the count at the city has a term for
@@ -33,4 +37,14 @@ pub fn worked_growths()
 /// One more: a fact of which two thirds are in a city, and the two worlds in which it stands there or in the other city.
 pub fn worked_listing()
     ensures { Gives listed_worlds listed_worlds_replies 0 }
+{}
+
+/// Words that ask a line of a store: its fields, the last of which may be empty. Without a word behind the name, or with an empty name,
+/// they are no command.
+pub fn worked_asked_words()
+    ensures command { command_of (codes "ask" ∷ codes "s" ∷ codes "count" ∷ codes "TX" ∷ []) ≡ Some (command.Store store_command.Ask) }
+    ensures line { asked_line (codes "ask" ∷ codes "s" ∷ codes "count" ∷ codes "TX" ∷ []) ≡ codes "count" ++ 9 ∷ codes "TX" }
+    ensures empty { asked_line (codes "ask" ∷ codes "s" ∷ codes "count" ∷ [] ∷ []) ≡ codes "count" ++ 9 ∷ [] }
+    ensures no_word { command_of (codes "ask" ∷ codes "s" ∷ []) ≡ None }
+    ensures no_name { command_of (codes "ask" ∷ [] ∷ codes "count" ∷ []) ≡ None }
 {}

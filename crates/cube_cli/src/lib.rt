@@ -1,6 +1,7 @@
 //! The program as a library: the top call, from the bytes that come in to the bytes that go out and the store.
 #![tactic(auto)]
 
+mod asking;
 mod command;
 mod drill;
 mod end;
@@ -19,7 +20,8 @@ mod trying;
 pub use command::{Command, StoreCommand, cube};
 pub use end::{End, ErrorLine};
 pub use laws::{
-    worked_examples, worked_growths, worked_listing, worked_measures, worked_questions,
+    worked_asked_words, worked_examples, worked_growths, worked_listing, worked_measures,
+    worked_questions,
 };
 pub use schema_alone::read_schema_alone;
 pub use store::InputTask;

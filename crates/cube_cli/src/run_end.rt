@@ -25,8 +25,8 @@ pub fn end_of_run(run: Result<u64, StreamStop>) -> End
     }
 }
 
-// The end of the program whose script broke off.
-fn end_of_break_off(off: BreakOff) -> End
+/// The end of the program whose script broke off.
+pub fn end_of_break_off(off: BreakOff) -> End
     ensures { result ≡ end_of_break_off off }
 {
     match off {

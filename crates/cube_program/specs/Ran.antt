@@ -3,9 +3,7 @@ use Rattle.std.specs.Prelude.{◌≡◌, ℕ, List, None, false}
 use Rattle.fact_keeper.specs.Keeper.{KeeperTold}
 use Rattle.script_run.specs.Seen.{SeenAll}
 use Rattle.sqlite_keeper.specs.SqlKeeper.{Opened}
-use Rattle.cube_cli.specs.Command.{command_of}
-use Rattle.cube_cli.specs.Doing.{doing_of}
-use Rattle.cube_cli.specs.End.{IsComplete, Says}
+use Rattle.cube_cli.specs.End.{IsComplete, Says, doing_by}
 use Rattle.cube_cli.specs.Loaded.{Loads, second_word}
 use Rattle.cube_cli.specs.Status.{status_of}
 use Rattle.cube_cli.specs.declared.end.End.{End}
@@ -26,4 +24,4 @@ pub record Ran (words : List (List ℕ)) (seen : Opened → SeenAll) (exit : ℕ
   pub status : exit ≡ status_of end
   pub says : Says words (seen keeper) end
   pub complete : IsComplete words (seen keeper) end
-  pub loaded : Loads (doing_of (command_of words)).stores (second_word words) (told_by NEW) (told_by keeper) (seen keeper) end
+  pub loaded : Loads (doing_by words).stores (second_word words) (told_by NEW) (told_by keeper) (seen keeper) end

@@ -4,7 +4,7 @@
 ghost use Rattle.std.specs.Prelude.{◌≡◌, map, string_bytes, IfSome};
 ghost use Rattle.line_cutter.specs.Input.{EndsOnce};
 ghost use Rattle.script_run.specs.Seen.{seen_of};
-ghost use Rattle.cube_cli.specs.Expectations.{AddsUpAfterEachLine, ExpectsAfterEachLine};
+ghost use Rattle.cube_cli.specs.Expectations.{AddsUpAfterEachLine, ComponentsAfterEachLine, ExpectsAfterEachLine, RangesAfterEachLine, TablesAfterEachLine};
 ghost use Rattle.cube_cli.specs.Status.{status_of};
 ghost use Rattle.cube_program.specs.Ran.{NEW, Ran, told_by};
 
@@ -28,6 +28,9 @@ pub fn run_program<S: Source, K: Sink, W: Write>(
     ensures ended { EndsOnce (S.tells source.old).ends (S.tells source.new).ends }
     ensures expectations { IfSome (S.tells source.old).left ExpectsAfterEachLine }
     ensures children { IfSome (S.tells source.old).left AddsUpAfterEachLine }
+    ensures ranges { IfSome (S.tells source.old).left RangesAfterEachLine }
+    ensures components { IfSome (S.tells source.old).left ComponentsAfterEachLine }
+    ensures tables { IfSome (S.tells source.old).left TablesAfterEachLine }
 {
     let mut keeper = SqlKeeper::new(rt);
     let end = cube(rt.alloc(), words, source, out, &mut keeper);

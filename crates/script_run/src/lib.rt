@@ -3,6 +3,7 @@
 
 mod break_off;
 mod laws;
+mod one_line;
 mod outbox;
 mod script;
 mod script_run;
@@ -10,5 +11,6 @@ mod streaming;
 
 pub use break_off::BreakOff;
 pub use laws::{lines_do_what_their_fronts_do, run_in_two_parts};
+pub use one_line::run_line;
 pub use script::{LineStop, do_read, is_edit, is_refusal, read};
 pub use streaming::{StreamStop, run_stream};

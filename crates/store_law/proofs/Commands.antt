@@ -18,13 +18,13 @@ use Rattle.script_run.specs.Kept.{Commits, apply_all}
 use Rattle.script_run.specs.Seen.{SeenAll, Told}
 use Rattle.cube_cli.specs.declared.command.Command.{Command}
 use Rattle.cube_cli.specs.declared.command.Command.TheVariants.{Drill, Store, Try}
-use Rattle.cube_cli.specs.declared.command.StoreCommand.TheVariants.{Init, Input, Tell}
+use Rattle.cube_cli.specs.declared.command.StoreCommand.TheVariants.{Ask, Init, Input, Tell}
 use Rattle.cube_cli.specs.declared.store.InputTask.TheVariants.{Import, Run}
 use Rattle.cube_cli.specs.declared.end.End.{End}
 use Rattle.cube_cli.specs.declared.end.End.TheVariants.{Finished, Usage, Schema, NoCube, HasCube, BadStore, ReadFault, WriteFault, KeepFault, Memory, TooLong, BadRecord, ImportRows}
-use Rattle.cube_cli.specs.Command.{command_of}
-use Rattle.cube_cli.specs.Doing.{Fits, OneWork, file_work, import_work, init_work, refused_schema, run_work, text_work}
-use Rattle.cube_cli.specs.End.{DidKeep, FitsAt, MeansAtOnce, MeansByLines, Says, SaysOf, StoppedAtEdit, StoppedFirst, WantedMemory}
+use Rattle.cube_cli.specs.Command.{asked_line, command_of}
+use Rattle.cube_cli.specs.Doing.{Fits, OneWork, ask_work, file_work, import_work, init_work, refused_schema, run_work, text_work}
+use Rattle.cube_cli.specs.End.{DidKeep, FitsAt, MeansAtOnce, MeansByLines, Says, SaysAsked, SaysOf, StoppedAtEdit, StoppedFirst, WantedMemory}
 use Rattle.cube_cli.specs.Files.{IsAccepted, import_batch, refused_file, refused_over, rows_with}
 use Rattle.cube_cli.specs.SchemaAlone.{schema_alone}
 use Rattle.cube_cli.specs.Seen.{Holds, IsUntouched}
@@ -87,20 +87,48 @@ module _ (seen : SeenAll) (content : Stored) (input : List ℕ) (told : seen.kee
   run-stays (Schema at why) says = untouched says.leaves.kept
   run-stays (BadRecord bad) says = untouched says.leaves.kept
   run-stays (ImportRows would) says = untouched says.leaves.kept
-  run-stays (Finished refused) says = of_lines (lines_of input) (of_both (λ content input. MeansByLines (run_work input content) input seen (Finished refused)) says.means).kept
-  run-stays (ReadFault done) says = first_lines done (of_both (λ content input. MeansByLines (run_work input content) input seen (ReadFault done)) says.means).says.kept
-  run-stays (TooLong done) says = first_lines done (of_both (λ content input. MeansByLines (run_work input content) input seen (TooLong done)) says.means).kept
-  run-stays (WriteFault done) says = first_lines done (of_both (λ content input. MeansByLines (run_work input content) input seen (WriteFault done)) says.means).kept
-  run-stays (KeepFault done) says = by (of_both (λ content input. MeansByLines (run_work input content) input seen (KeepFault done)) says.means)
+  run-stays (Finished refused) says = of_lines (lines_of input) (of_both (λ content input. MeansByLines (run_work input content) true input seen (Finished refused)) says.means).kept
+  run-stays (ReadFault done) says = first_lines done (of_both (λ content input. MeansByLines (run_work input content) true input seen (ReadFault done)) says.means).says.kept
+  run-stays (TooLong done) says = first_lines done (of_both (λ content input. MeansByLines (run_work input content) true input seen (TooLong done)) says.means).kept
+  run-stays (WriteFault done) says = first_lines done (of_both (λ content input. MeansByLines (run_work input content) true input seen (WriteFault done)) says.means).kept
+  run-stays (KeepFault done) says = by (of_both (λ content input. MeansByLines (run_work input content) true input seen (KeepFault done)) says.means)
     where
       by : StoppedFirst seen done ⊎ StoppedAtEdit (run_work input content) done seen → Stays
       by (inl stopped) = untouched stopped.left.nothing.kept
       by (inr at) = first_lines done at.kept
-  run-stays (Memory done) says = by (of_both (λ content input. MeansByLines (run_work input content) input seen (Memory done)) says.means)
+  run-stays (Memory done) says = by (of_both (λ content input. MeansByLines (run_work input content) true input seen (Memory done)) says.means)
     where
       by : StoppedFirst seen done ⊎ WantedMemory (run_work input content) done seen → Stays
       by (inl stopped) = untouched stopped.left.nothing.kept
       by (inr wanted) = first_lines done wanted.kept
+
+  -- one line
+  module _ (line : List ℕ) where
+    first_asked : (done : ℕ) → Commits (batches_over content (take done (line ∷ []))) seen.keeper.told seen.keeper.told_after → Stays
+    first_asked done commits = of_lines (take done (line ∷ [])) commits
+
+    ask-stays : (end : End) → SaysAsked line (Some (Store Ask)) seen end → Stays
+    ask-stays Usage says = untouched says.leaves.nothing.kept
+    ask-stays NoCube says = untouched says.leaves.nothing.kept
+    ask-stays HasCube says = untouched says.leaves.nothing.kept
+    ask-stays (BadStore found) says = untouched says.leaves.nothing.kept
+    ask-stays (Schema at why) says = untouched says.leaves.kept
+    ask-stays (BadRecord bad) says = untouched says.leaves.kept
+    ask-stays (ImportRows would) says = untouched says.leaves.kept
+    ask-stays (ReadFault done) says = absurd (cc says.may)
+    ask-stays (TooLong done) says = absurd (cc says.may)
+    ask-stays (Finished refused) says = of_lines (line ∷ []) (of_held (λ content. MeansByLines (ask_work line [] content) false [] seen (Finished refused)) says.means).kept
+    ask-stays (WriteFault done) says = first_asked done (of_held (λ content. MeansByLines (ask_work line [] content) false [] seen (WriteFault done)) says.means).kept
+    ask-stays (KeepFault done) says = by (of_held (λ content. MeansByLines (ask_work line [] content) false [] seen (KeepFault done)) says.means)
+      where
+        by : StoppedFirst seen done ⊎ StoppedAtEdit (ask_work line [] content) done seen → Stays
+        by (inl stopped) = untouched stopped.left.nothing.kept
+        by (inr at) = first_asked done at.kept
+    ask-stays (Memory done) says = by (of_held (λ content. MeansByLines (ask_work line [] content) false [] seen (Memory done)) says.means)
+      where
+        by : StoppedFirst seen done ⊎ WantedMemory (ask_work line [] content) done seen → Stays
+        by (inl stopped) = untouched stopped.left.nothing.kept
+        by (inr wanted) = first_asked done wanted.kept
 
   -- a file
   file-sound : (schema : SchemaValue) → schema_alone content.schema ≡ Ok schema → IsSoundOver schema content → IsAccepted (policy_of schema) schema (facts_told content) input
@@ -167,14 +195,15 @@ module _ (seen : SeenAll) (content : Stored) (input : List ℕ) (told : seen.kee
       by (inr none) = empty none
 
   -- any command but `init`
-  command-stays : (command : Option Command) (end : End) → command ≢ Some (Store Init) → SaysOf command seen end → Stays
-  command-stays None end other says = untouched (says.unkept refl)
-  command-stays (Some Try) end other says = untouched (says.unkept refl)
-  command-stays (Some (Drill n)) end other says = untouched (says.unkept refl)
-  command-stays (Some (Store Init)) end other says = absurd (other refl)
-  command-stays (Some (Store (Input Run))) end other says = run-stays end says
-  command-stays (Some (Store (Input Import))) end other says = import-stays end says
-  command-stays (Some (Store (Tell telling))) end other says = untouched (says.unkept refl)
+  command-stays : (line : List ℕ) (command : Option Command) (end : End) → command ≢ Some (Store Init) → SaysAsked line command seen end → Stays
+  command-stays line None end other says = untouched (says.unkept refl)
+  command-stays line (Some Try) end other says = untouched (says.unkept refl)
+  command-stays line (Some (Drill n)) end other says = untouched (says.unkept refl)
+  command-stays line (Some (Store Init)) end other says = absurd (other refl)
+  command-stays line (Some (Store (Input Run))) end other says = run-stays end says
+  command-stays line (Some (Store (Input Import))) end other says = import-stays end says
+  command-stays line (Some (Store Ask)) end other says = ask-stays line end says
+  command-stays line (Some (Store (Tell telling))) end other says = untouched (says.unkept refl)
 
 -- The keeper told an empty content, and the source its input.
 module _ (seen : SeenAll) (input : List ℕ) (told : seen.keeper.told.content ≡ Some empty_content) (left : seen.source.left ≡ Some input) where
@@ -232,6 +261,7 @@ is-init (Some Try) = inr (λ is. cc)
 is-init (Some (Drill n)) = inr (λ is. cc)
 is-init (Some (Store Init)) = inl refl
 is-init (Some (Store (Input task))) = inr (λ is. cc)
+is-init (Some (Store Ask)) = inr (λ is. cc)
 is-init (Some (Store (Tell telling))) = inr (λ is. cc)
 
 -- a content in which there is nothing is not sound
@@ -245,9 +275,9 @@ cube-stays words seen end tells says = by_content seen.keeper.told.content refl
     by_command : (content : Stored) (input : List ℕ) → seen.keeper.told.content ≡ Some content → seen.source.left ≡ Some input → IsSoundContent content → (command_of words ≡ Some (Store Init)) ⊎ (command_of words ≢ Some (Store Init)) → IfSome seen.keeper.told_after.content IsSoundContent
     by_command content input told left sound (inl init) =
         init-stays seen content input told left IsSoundContent sound (λ later holds. holds) (λ lines. scripted-sound content lines sound) end
-        (λ empty. absurd (empty-unsound (subst IsSoundContent empty sound))) (subst (λ command. SaysOf command seen end) init says)
+        (λ empty. absurd (empty-unsound (subst IsSoundContent empty sound))) (subst (λ command. SaysAsked (asked_line words) command seen end) init says)
     by_command content input told left sound (inr other) =
-        command-stays seen content input told left IsSoundContent sound (λ later holds. holds) (λ lines. scripted-sound content lines sound) (command_of words) end other says
+        command-stays seen content input told left IsSoundContent sound (λ later holds. holds) (λ lines. scripted-sound content lines sound) (asked_line words) (command_of words) end other says
 
     by_input : (content : Stored) → seen.keeper.told.content ≡ Some content → IsSoundContent content → (left : Option (List ℕ)) → seen.source.left ≡ left → IsSome left → IfSome seen.keeper.told_after.content IsSoundContent
     by_input content told sound None is none = cc
@@ -261,9 +291,9 @@ pub cube-begins : (words : List (List ℕ)) (seen : SeenAll) (end : End) → IsS
 cube-begins words seen end tells says = by_content seen.keeper.told.content refl
   where
     by_command : (input : List ℕ) → seen.keeper.told.content ≡ Some empty_content → seen.source.left ≡ Some input → (command_of words ≡ Some (Store Init)) ⊎ (command_of words ≢ Some (Store Init)) → IfSome seen.keeper.told_after.content IsEmptyOrSound
-    by_command input told left (inl init) = init-begins seen input told left end (subst (λ command. SaysOf command seen end) init says)
+    by_command input told left (inl init) = init-begins seen input told left end (subst (λ command. SaysAsked (asked_line words) command seen end) init says)
     by_command input told left (inr other) =
-        command-stays seen empty_content input told left IsEmptyOrSound (inl refl) (λ later holds. inr holds) (λ lines. inl (empty-kept lines)) (command_of words) end other says
+        command-stays seen empty_content input told left IsEmptyOrSound (inl refl) (λ later holds. inr holds) (λ lines. inl (empty-kept lines)) (asked_line words) (command_of words) end other says
 
     by_input : seen.keeper.told.content ≡ Some empty_content → (left : Option (List ℕ)) → seen.source.left ≡ left → IsSome left → IfSome seen.keeper.told_after.content IsEmptyOrSound
     by_input told None is none = cc

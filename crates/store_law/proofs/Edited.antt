@@ -23,10 +23,11 @@ use Rattle.edit_plan.specs.Plan.{difference, kept_fact}
 use Rattle.cube_state.specs.State.{withdrawn}
 use Rattle.cube_state.proofs.Accepting.{AreValid-after, allowed, judged}
 use Rattle.stored_state.specs.Sound.{IsSound, facts_told}
+use Rattle.cube_cli.proofs.KeptFacts.{pairs-map}
 use Rattle.store_law.specs.Holds.{HoldsState}
 use Rattle.store_law.proofs.Refreshed.{rows-refreshed}
 use Rattle.store_law.proofs.Told.{good-valid, holds-these, told-kept}
-use Rattle.store_law.proofs.Updated.{find-map, pairs-map, updated-is}
+use Rattle.store_law.proofs.Updated.{find-map, updated-is}
 
 -- whether an edit withdraws an id
 abbrev withdraws : Edit → ℕ → Bool

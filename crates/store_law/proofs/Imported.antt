@@ -30,11 +30,12 @@ use Rattle.stored_state.specs.Sound.{IsSound, facts_told}
 use Rattle.csv_facts.specs.RecordList.{records_of}
 use Rattle.cube_cli.specs.Files.{IsAccepted, facts_with, import_batch, seq_of}
 use Rattle.cube_cli.specs.Store.{IsSoundOver, policy_of}
+use Rattle.cube_cli.proofs.KeptFacts.{pairs-map}
 use Rattle.store_law.specs.Holds.{HoldsState}
 use Rattle.store_law.proofs.Filed.{facts-placed}
 use Rattle.store_law.proofs.Refreshed.{rows-refreshed}
 use Rattle.store_law.proofs.Told.{good-valid, holds-these, told-kept}
-use Rattle.store_law.proofs.Updated.{entry_of-passing, find-map, pairs-map, updated-is}
+use Rattle.store_law.proofs.Updated.{entry_of-passing, find-map, updated-is}
 
 -- new facts of which none is refused are new over the facts
 none-refused : (shape : ShapeValue) (dims : List Dimension) (index : ℕ) (facts new : List Fact) → All (IsPlaced dims) new → refused_among shape dims index facts new ≡ None → AreNew shape dims facts new

@@ -15,7 +15,8 @@ use Rattle.fact_keeper.proofs.Found.{entry_of}
 use Rattle.fact_records.specs.FactList.{fact_of}
 use Rattle.edit_plan.specs.Plan.{kept_rows}
 use Rattle.edit_plan.proofs.RowsKept.{record_of}
-use Rattle.store_law.proofs.Updated.{entry_of-passing, find-map, pairs-map, updated-is}
+use Rattle.cube_cli.proofs.KeptFacts.{pairs-map}
+use Rattle.store_law.proofs.Updated.{entry_of-passing, find-map, updated-is}
 
 -- the rows of a fact among facts
 abbrev pub rows_of : Policy → List Dimension → List Fact → Fact → KeptRows

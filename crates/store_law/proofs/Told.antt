@@ -1,7 +1,6 @@
 -- Facts that are not refused are such as a cube may have, and the other way round.
-use Rattle.std.proofs.Common.{◌≡◌, ℕ, zero, suc, ◌<◌, ◌≤◌, Bool, true, false, List, [], ◌∷◌, get_or, length, map, refl, ap, sym, ◌∙◌, subst, arith}
+use Rattle.std.proofs.Common.{◌≡◌, ℕ, zero, suc, ◌<◌, ◌≤◌, Bool, true, false, List, [], ◌∷◌, get_or, map, refl, ap, sym, ◌∙◌, subst, arith}
 use Rattle.std.specs.Prelude.{Option, Some, None, nat_le, nat_lt, slice_get, ◌||◌}
-use Rattle.std.specs.List.{AllAdjacentBelow}
 use Rattle.std.specs.Option.{option_and_then, option_map, option_map_or}
 use Rattle.std.proofs.lemmas.Bool.Decides.{nat_tests}
 use Rattle.std.proofs.lemmas.Option.{slice_get-get_or, slice_get-map, slice_get_within, get_or_from_slice_get}
@@ -13,19 +12,17 @@ use Rattle.region_algebra.specs.Space.{is_region}
 use Rattle.fact_keeper.specs.declared.content.KeptFact.{KeptFact}
 use Rattle.fact_keeper.specs.declared.content.Stored.{Stored}
 use Rattle.fact_keeper.specs.Batch.{apply_batch, empty_content, fact_id}
-use Rattle.fact_keeper.specs.Order.{IsAscending}
-use Rattle.fact_keeper.proofs.Puts.{ascending_from_adjacent}
 use Rattle.fact_records.specs.Accepted.{cols_refusal, region_refusal}
 use Rattle.fact_records.specs.Shape.{ShapeValue}
 use Rattle.fact_records.specs.Valid.{AreValid, IsValid}
 use Rattle.schema_text.specs.Schema.{SchemaValue, shape_of}
 use Rattle.edit_plan.specs.Plan.{kept_fact, kept_rows}
 use Rattle.stored_state.specs.Sound.{AreGood, fact_fault, fact_told, facts_told, fault_at, has_wrong_id, id_before}
-use Rattle.stored_state.proofs.Judging.{IsGood, good-fact, none-refused}
+use Rattle.stored_state.proofs.Judging.{none-refused}
 use Rattle.stored_state.proofs.Reading.{valid-good}
 use Rattle.cube_cli.specs.Store.{policy_of, schema_batch}
+use Rattle.cube_cli.proofs.KeptFacts.{told-ascends}
 use Rattle.store_law.specs.Holds.{HoldsState}
-use Rattle.store_law.proofs.Updated.{pairs-map}
 
 -- a kept fact is the one that is kept of the fact that it tells
 pub told-kept : (kept : List KeptFact) → kept ≡ map kept_fact (map fact_told kept)
@@ -37,24 +34,10 @@ kept-told [] = refl
 kept-told (fact ∷ facts) = ap (λ rest. fact ∷ rest) (kept-told facts)
 
 module _ (shape : ShapeValue) (dims : List Dimension) where
-  -- kept facts of which none is refused are in order
+  -- kept facts of which none is refused tell such facts
   module _ (kept : List KeptFact) (good : AreGood shape dims kept) where
-    good-at : (place : ℕ) (fact : KeptFact) → slice_get kept place ≡ Some fact → IsGood shape dims place (id_before kept place) fact
-    good-at place fact at =
-        good-fact shape dims place (id_before kept place) fact (ap (option_and_then (fact_fault shape dims place (id_before kept place))) (sym at) ∙ good place)
-
-    adjacent : AllAdjacentBelow (λ x y. true ≡ nat_lt (fact_id x) (fact_id y)) kept (length kept)
-    adjacent i d within =
-        let next = good-at (suc i) (get_or kept (suc i) d) (slice_get-get_or kept (suc i) d (omega (arith, within))) in
-        let before : id_before kept (suc i) ≡ fact_id (get_or kept i d) = ap (λ o. option_map_or fact_id o 0) (slice_get-get_or kept i d (omega (arith, within))) in
-        let less : fact_id (get_or kept i d) < fact_id (get_or kept (suc i) d) = subst (λ n. n < fact_id (get_or kept (suc i) d)) before next.above in
-        grind (arith, nat_tests, less)
-
-    pub good-ascends : IsAscending fact_id kept
-    good-ascends = ascending_from_adjacent fact_id kept adjacent
-
     pub good-valid : AreValid shape dims (map fact_told kept)
-    good-valid = valid-good shape dims kept good (map fact_told kept) refl (pairs-map fact_told (λ f. f.id) kept good-ascends)
+    good-valid = valid-good shape dims kept good (map fact_told kept) refl (told-ascends shape dims kept good)
 
   -- a valid fact at a place is not refused behind the one before
   none-wrong : (before id : ℕ) → before < id → id ≤ MAX_ID → has_wrong_id before (record { id = id; nodes = []; cols = [] }) ≡ false

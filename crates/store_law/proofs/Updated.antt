@@ -1,12 +1,9 @@
 -- Entries that ascend, after a batch: told by the entry of each id.
-use Rattle.std.proofs.Common.{◌≡◌, ℕ, ◌<◌, Bool, true, false, cond, List, [], ◌∷◌, map, refl, ap, sym, ◌∙◌, arith}
-use Rattle.std.specs.Prelude.{AllPairs, Option, None, filter, find, ◌==◌}
+use Rattle.std.proofs.Common.{◌≡◌, ℕ, Bool, true, false, cond, List, [], ◌∷◌, map, refl, ap, sym, ◌∙◌, arith}
+use Rattle.std.specs.Prelude.{Option, None, filter, find, ◌==◌}
 use Rattle.std.specs.List.{list_any}
 use Rattle.std.specs.Option.{option_map, option_or}
 use Rattle.std.proofs.lemmas.Bool.Decides.{nat_tests}
-use Rattle.std.proofs.lemmas.List.Elements.{All-map}
-use Rattle.std.proofs.lemmas.List.Kept.{AllPairs-cons}
-use Rattle.fact_groups.proofs.Ascending.{pairs-first, pairs-rest}
 use Rattle.fact_keeper.specs.Batch.{updated}
 use Rattle.fact_keeper.specs.Order.{IsAscending}
 use Rattle.fact_keeper.proofs.Found.{entry_of, entry_of-updated, same_from_entries, updated-ascends}
@@ -19,13 +16,6 @@ find-map f p (x ∷ xs) = either (p (f x)) refl (find-map f p xs)
     either : (b : Bool) → p (f x) ≡ b → find p (map f xs) ≡ option_map f (find (λ x. p (f x)) xs) → find p (map f (x ∷ xs)) ≡ option_map f (find (λ x. p (f x)) (x ∷ xs))
     either true is rest = rw is refl
     either false is rest = rw is rest
-
--- what is made of items in order is in order
-pub pairs-map : {X Y : Type 0} (f : X → Y) (key : Y → ℕ) (xs : List X) → AllPairs (λ a b. key (f a) < key (f b)) xs → IsAscending key (map f xs)
-pairs-map f key [] up = λ i j d before within. absurd (omega (arith, within))
-pairs-map f key (x ∷ xs) up =
-    AllPairs-cons (λ a b. key a < key b) (f x) (map f xs) (All-map (λ b. key (f x) < key b) f xs (pairs-first (λ a b. key (f a) < key (f b)) x xs up))
-    (pairs-map f key xs (pairs-rest (λ a b. key (f a) < key (f b)) x xs up))
 
 module _ {X : Type 0} (id_of : X → ℕ) where
   -- the entry of an id among those whose ids pass a test

@@ -1,226 +1,47 @@
--- What answers are worth holds of every input that the source tells, and of every content that the keeper tells.
-use Rattle.std.proofs.Common.{◌≡◌, ℕ, List, Option, Some, None, map, string_bytes, refl, sym, subst}
-use Rattle.std.proofs.KnownBytes.{Keeps-refl}
-use Rattle.script_run.specs.Seen.{KeeperSeen, SeenAll, SourceSeen, keeper_seen, seen_of, source_seen}
-use Rattle.cube_cli.specs.Command.{command_of}
-use Rattle.cube_cli.specs.Doing.{Fits, doing_of, ends_of}
-use Rattle.cube_cli.specs.End.{IsCompleteOf, SaysOf}
-use Rattle.cube_cli.specs.Loaded.{LoadedOnce, Loads, second_word}
-use Rattle.fact_keeper.specs.Keeper.{KeeperTold}
-use Rattle.cube_cli.specs.Seen.{WasNotCalled, WasNotRead}
-use Rattle.cube_cli.specs.declared.command.Command.{Command}
-use Rattle.cube_cli.specs.declared.command.Command.TheVariants.{Drill, Store, Try}
-use Rattle.cube_cli.specs.declared.command.StoreCommand.TheVariants.{Init, Input, Tell}
-use Rattle.cube_cli.specs.declared.store.InputTask.{InputTask}
-use Rattle.cube_cli.specs.declared.store.InputTask.TheVariants.{Run, Import}
-use Rattle.cube_cli.specs.declared.end.End.{End}
-use Rattle.cube_cli.specs.declared.end.End.TheVariants.{Usage}
+-- The laws of answers hold of every input that the source tells, and of every content that the keeper tells.
+use Rattle.std.proofs.Common.{map, string_bytes}
+use Rattle.script_run.specs.Seen.{SeenAll, seen_of}
+use Rattle.cube_cli.specs.Command.{asked_line, command_of}
 use Rattle.cube_cli.proofs.Completing.{complete}
-use Rattle.cube_cli.proofs.First.{usage}
-use Rattle.cube_cli.proofs.Known.{of_any}
-use Rattle.cube_cli.proofs.Sound.{adds_up, adds_up_over, expects, expects_over}
+use Rattle.cube_cli.proofs.Sound.{adds_up, adds_up_over, expects, expects_over, holds_around, labels_components, labels_components_over, ranges, ranges_over, tables_merge, tables_merge_over}
 use Rattle.cube_cli.proofs.command.cube.Goals as goal
 
--- what the words say, by the command that they name
-says_named : (words : List (List ℕ)) (command : Option Command) (seen : SeenAll) (end : End) → command_of words ≡ command → SaysOf command seen end → SaysOf (command_of words) seen end
-says_named words command seen end named says = subst (λ command. SaysOf command seen end) (sym named) says
+-- what says how the run ended says that it is done where nothing is in the way
+pub returns-clause-complete : goal.returns-clause-complete
+returns-clause-complete g c =
+    let words = map string_bytes c.args.words.now in
+    let seen : SeenAll = seen_of g.S.Source.tells g.K.Sink.tells g.Q.Keeper.tells c.args.source.now c.run_command.new.source c.args.out.now c.run_command.new.out c.args.keeper.now c.run_command.new.keeper in
+    complete (asked_line words) (command_of words) seen c.run_command.result c.run_command.ensures.says
 
-complete_named : (words : List (List ℕ)) (command : Option Command) (seen : SeenAll) (end : End) → command_of words ≡ command → SaysOf command seen end → IsCompleteOf (command_of words) seen end
-complete_named words command seen end named says = subst (λ command. IsCompleteOf command seen end) (sym named) (complete command seen end says)
+pub returns-clause-expectations : goal.returns-clause-expectations
+returns-clause-expectations g c = expects (g.S.Source.tells c.args.source.now).left
 
-loads_input : (task : InputTask) (words : List (List ℕ)) (before after : KeeperTold) (seen : SeenAll) (end : End) → LoadedOnce (second_word words) before after seen end
-    → Loads (doing_of (Some (Store (Input task)))).stores (second_word words) before after seen end
-loads_input Run words before after seen end loaded = loaded
-loads_input Import words before after seen end loaded = loaded
+pub returns-clause-children : goal.returns-clause-children
+returns-clause-children g c = adds_up (g.S.Source.tells c.args.source.now).left
 
-loads_named : (words : List (List ℕ)) (command : Option Command) (before after : KeeperTold) (seen : SeenAll) (end : End) → command_of words ≡ command → Loads (doing_of command).stores (second_word words) before after seen end
-    → Loads (doing_of (command_of words)).stores (second_word words) before after seen end
-loads_named words command before after seen end named loads = subst (λ command. Loads (doing_of command).stores (second_word words) before after seen end) (sym named) loads
+pub returns-clause-expectations_over_store : goal.returns-clause-expectations_over_store
+returns-clause-expectations_over_store g c = expects_over (g.Q.Keeper.tells c.args.keeper.now).content (g.S.Source.tells c.args.source.now).left
 
--- what is not called
-unread : (left : Option (List ℕ)) (faults : ℕ) → WasNotRead (record { left = left; left_after = left; faults = faults; faults_after = faults })
-unread left faults = record { read = Keeps-refl left; count = refl }
+pub returns-clause-children_over_store : goal.returns-clause-children_over_store
+returns-clause-children_over_store g c = adds_up_over (g.Q.Keeper.tells c.args.keeper.now).content (g.S.Source.tells c.args.source.now).left
 
-pub returns-in-None-clause-expectations : goal.returns-in-None-clause-expectations
-returns-in-None-clause-expectations g c = expects (g.S.Source.tells c.args.source.now).left
+pub returns-clause-ranges : goal.returns-clause-ranges
+returns-clause-ranges g c = ranges (g.S.Source.tells c.args.source.now).left
 
-pub returns-in-None-clause-children : goal.returns-in-None-clause-children
-returns-in-None-clause-children g c = adds_up (g.S.Source.tells c.args.source.now).left
+pub returns-clause-components : goal.returns-clause-components
+returns-clause-components g c = labels_components (g.S.Source.tells c.args.source.now).left
 
-pub returns-in-None-clause-expectations_over_store : goal.returns-in-None-clause-expectations_over_store
-returns-in-None-clause-expectations_over_store g c = expects_over (g.Q.Keeper.tells c.args.keeper.now).content (g.S.Source.tells c.args.source.now).left
+pub returns-clause-tables : goal.returns-clause-tables
+returns-clause-tables g c = tables_merge (g.S.Source.tells c.args.source.now).left
 
-pub returns-in-None-clause-children_over_store : goal.returns-in-None-clause-children_over_store
-returns-in-None-clause-children_over_store g c = adds_up_over (g.Q.Keeper.tells c.args.keeper.now).content (g.S.Source.tells c.args.source.now).left
+pub returns-clause-ranges_over_store : goal.returns-clause-ranges_over_store
+returns-clause-ranges_over_store g c = ranges_over (g.Q.Keeper.tells c.args.keeper.now).content (g.S.Source.tells c.args.source.now).left
 
-pub returns-in-Some-Try-clause-expectations : goal.returns-in-Some-Try-clause-expectations
-returns-in-Some-Try-clause-expectations g c = expects (g.S.Source.tells c.args.source.now).left
+pub returns-clause-components_over_store : goal.returns-clause-components_over_store
+returns-clause-components_over_store g c = labels_components_over (g.Q.Keeper.tells c.args.keeper.now).content (g.S.Source.tells c.args.source.now).left
 
-pub returns-in-Some-Try-clause-children : goal.returns-in-Some-Try-clause-children
-returns-in-Some-Try-clause-children g c = adds_up (g.S.Source.tells c.args.source.now).left
+pub returns-clause-tables_over_store : goal.returns-clause-tables_over_store
+returns-clause-tables_over_store g c = tables_merge_over (g.Q.Keeper.tells c.args.keeper.now).content (g.S.Source.tells c.args.source.now).left
 
-pub returns-in-Some-Try-clause-expectations_over_store : goal.returns-in-Some-Try-clause-expectations_over_store
-returns-in-Some-Try-clause-expectations_over_store g c = expects_over (g.Q.Keeper.tells c.args.keeper.now).content (g.S.Source.tells c.args.source.now).left
-
-pub returns-in-Some-Try-clause-children_over_store : goal.returns-in-Some-Try-clause-children_over_store
-returns-in-Some-Try-clause-children_over_store g c = adds_up_over (g.Q.Keeper.tells c.args.keeper.now).content (g.S.Source.tells c.args.source.now).left
-
-pub returns-in-Some-Drill-clause-expectations : goal.returns-in-Some-Drill-clause-expectations
-returns-in-Some-Drill-clause-expectations g c = expects (g.S.Source.tells c.args.source.now).left
-
-pub returns-in-Some-Drill-clause-children : goal.returns-in-Some-Drill-clause-children
-returns-in-Some-Drill-clause-children g c = adds_up (g.S.Source.tells c.args.source.now).left
-
-pub returns-in-Some-Drill-clause-expectations_over_store : goal.returns-in-Some-Drill-clause-expectations_over_store
-returns-in-Some-Drill-clause-expectations_over_store g c = expects_over (g.Q.Keeper.tells c.args.keeper.now).content (g.S.Source.tells c.args.source.now).left
-
-pub returns-in-Some-Drill-clause-children_over_store : goal.returns-in-Some-Drill-clause-children_over_store
-returns-in-Some-Drill-clause-children_over_store g c = adds_up_over (g.Q.Keeper.tells c.args.keeper.now).content (g.S.Source.tells c.args.source.now).left
-
-pub returns-in-Some-Store-Init-clause-expectations : goal.returns-in-Some-Store-Init-clause-expectations
-returns-in-Some-Store-Init-clause-expectations g c = expects (g.S.Source.tells c.args.source.now).left
-
-pub returns-in-Some-Store-Init-clause-children : goal.returns-in-Some-Store-Init-clause-children
-returns-in-Some-Store-Init-clause-children g c = adds_up (g.S.Source.tells c.args.source.now).left
-
-pub returns-in-Some-Store-Init-clause-expectations_over_store : goal.returns-in-Some-Store-Init-clause-expectations_over_store
-returns-in-Some-Store-Init-clause-expectations_over_store g c = expects_over (g.Q.Keeper.tells c.args.keeper.now).content (g.S.Source.tells c.args.source.now).left
-
-pub returns-in-Some-Store-Init-clause-children_over_store : goal.returns-in-Some-Store-Init-clause-children_over_store
-returns-in-Some-Store-Init-clause-children_over_store g c = adds_up_over (g.Q.Keeper.tells c.args.keeper.now).content (g.S.Source.tells c.args.source.now).left
-
-pub returns-in-Some-Store-Input-clause-expectations : goal.returns-in-Some-Store-Input-clause-expectations
-returns-in-Some-Store-Input-clause-expectations g c = expects (g.S.Source.tells c.args.source.now).left
-
-pub returns-in-Some-Store-Input-clause-children : goal.returns-in-Some-Store-Input-clause-children
-returns-in-Some-Store-Input-clause-children g c = adds_up (g.S.Source.tells c.args.source.now).left
-
-pub returns-in-Some-Store-Input-clause-expectations_over_store : goal.returns-in-Some-Store-Input-clause-expectations_over_store
-returns-in-Some-Store-Input-clause-expectations_over_store g c = expects_over (g.Q.Keeper.tells c.args.keeper.now).content (g.S.Source.tells c.args.source.now).left
-
-pub returns-in-Some-Store-Input-clause-children_over_store : goal.returns-in-Some-Store-Input-clause-children_over_store
-returns-in-Some-Store-Input-clause-children_over_store g c = adds_up_over (g.Q.Keeper.tells c.args.keeper.now).content (g.S.Source.tells c.args.source.now).left
-
-pub returns-in-Some-Store-Tell-clause-expectations : goal.returns-in-Some-Store-Tell-clause-expectations
-returns-in-Some-Store-Tell-clause-expectations g c = expects (g.S.Source.tells c.args.source.now).left
-
-pub returns-in-Some-Store-Tell-clause-children : goal.returns-in-Some-Store-Tell-clause-children
-returns-in-Some-Store-Tell-clause-children g c = adds_up (g.S.Source.tells c.args.source.now).left
-
-pub returns-in-Some-Store-Tell-clause-expectations_over_store : goal.returns-in-Some-Store-Tell-clause-expectations_over_store
-returns-in-Some-Store-Tell-clause-expectations_over_store g c = expects_over (g.Q.Keeper.tells c.args.keeper.now).content (g.S.Source.tells c.args.source.now).left
-
-pub returns-in-Some-Store-Tell-clause-children_over_store : goal.returns-in-Some-Store-Tell-clause-children_over_store
-returns-in-Some-Store-Tell-clause-children_over_store g c = adds_up_over (g.Q.Keeper.tells c.args.keeper.now).content (g.S.Source.tells c.args.source.now).left
-
-pub returns-in-None-clause-says : goal.returns-in-None-clause-says
-returns-in-None-clause-says g c =
-    let seen : SeenAll = seen_of g.S.Source.tells g.K.Sink.tells g.Q.Keeper.tells c.args.source.now c.args.source.now c.args.out.now c.args.out.now c.args.keeper.now c.args.keeper.now in
-    let named : command_of (map string_bytes c.args.words.now) ≡ None = cc (c.command_of.ensures, c.in-None.is) in
-    says_named (map string_bytes c.args.words.now) None seen Usage named (usage seen (record { nothing = record { wrote = Keeps-refl _; kept = refl }; read = Keeps-refl _ }) (ends_of None) (doing_of None) (Fits None) refl (record { read = refl; write = refl; keep = refl }) (of_any seen.keeper.told.content _ (λ content. tt)))
-
-pub returns-in-None-clause-complete : goal.returns-in-None-clause-complete
-returns-in-None-clause-complete g c =
-    let seen : SeenAll = seen_of g.S.Source.tells g.K.Sink.tells g.Q.Keeper.tells c.args.source.now c.args.source.now c.args.out.now c.args.out.now c.args.keeper.now c.args.keeper.now in
-    let named : command_of (map string_bytes c.args.words.now) ≡ None = cc (c.command_of.ensures, c.in-None.is) in
-    complete_named (map string_bytes c.args.words.now) None seen Usage named (usage seen (record { nothing = record { wrote = Keeps-refl _; kept = refl }; read = Keeps-refl _ }) (ends_of None) (doing_of None) (Fits None) refl (record { read = refl; write = refl; keep = refl }) (of_any seen.keeper.told.content _ (λ content. tt)))
-
-pub returns-in-Some-Try-clause-says : goal.returns-in-Some-Try-clause-says
-returns-in-Some-Try-clause-says g c =
-    let seen : SeenAll = seen_of g.S.Source.tells g.K.Sink.tells g.Q.Keeper.tells c.args.source.now c.try_input.new.source c.args.out.now c.try_input.new.out c.args.keeper.now c.args.keeper.now in
-    let named : command_of (map string_bytes c.args.words.now) ≡ Some Try = cc (c.command_of.ensures, c.in-Some-Try.is, c.in-Some-Try.field-0-is) in
-    says_named (map string_bytes c.args.words.now) (Some Try) seen c.try_input.result named (c.try_input.ensures.says seen.keeper (record { kept = refl; count = refl }))
-
-pub returns-in-Some-Try-clause-complete : goal.returns-in-Some-Try-clause-complete
-returns-in-Some-Try-clause-complete g c =
-    let seen : SeenAll = seen_of g.S.Source.tells g.K.Sink.tells g.Q.Keeper.tells c.args.source.now c.try_input.new.source c.args.out.now c.try_input.new.out c.args.keeper.now c.args.keeper.now in
-    let named : command_of (map string_bytes c.args.words.now) ≡ Some Try = cc (c.command_of.ensures, c.in-Some-Try.is, c.in-Some-Try.field-0-is) in
-    complete_named (map string_bytes c.args.words.now) (Some Try) seen c.try_input.result named (c.try_input.ensures.says seen.keeper (record { kept = refl; count = refl }))
-
-pub returns-in-Some-Drill-clause-says : goal.returns-in-Some-Drill-clause-says
-returns-in-Some-Drill-clause-says g c =
-    let seen : SeenAll = seen_of g.S.Source.tells g.K.Sink.tells g.Q.Keeper.tells c.args.source.now c.args.source.now c.args.out.now c.drill.new.out c.args.keeper.now c.args.keeper.now in
-    let named : command_of (map string_bytes c.args.words.now) ≡ Some (Drill c.in-Some-Drill.n) = cc (c.command_of.ensures, c.in-Some-Drill.is, c.in-Some-Drill.field-0-is) in
-    says_named (map string_bytes c.args.words.now) (Some (Drill c.in-Some-Drill.n)) seen c.drill.result named (c.drill.ensures seen.source seen.keeper (unread _ _) (record { kept = refl; count = refl }))
-
-pub returns-in-Some-Drill-clause-complete : goal.returns-in-Some-Drill-clause-complete
-returns-in-Some-Drill-clause-complete g c =
-    let seen : SeenAll = seen_of g.S.Source.tells g.K.Sink.tells g.Q.Keeper.tells c.args.source.now c.args.source.now c.args.out.now c.drill.new.out c.args.keeper.now c.args.keeper.now in
-    let named : command_of (map string_bytes c.args.words.now) ≡ Some (Drill c.in-Some-Drill.n) = cc (c.command_of.ensures, c.in-Some-Drill.is, c.in-Some-Drill.field-0-is) in
-    complete_named (map string_bytes c.args.words.now) (Some (Drill c.in-Some-Drill.n)) seen c.drill.result named (c.drill.ensures seen.source seen.keeper (unread _ _) (record { kept = refl; count = refl }))
-
-pub returns-in-Some-Store-Init-clause-says : goal.returns-in-Some-Store-Init-clause-says
-returns-in-Some-Store-Init-clause-says g c =
-    let seen : SeenAll = seen_of g.S.Source.tells g.K.Sink.tells g.Q.Keeper.tells c.args.source.now c.init.new.source c.args.out.now c.init.new.out c.args.keeper.now c.init.new.keeper in
-    let named : command_of (map string_bytes c.args.words.now) ≡ Some (Store Init) = cc (c.command_of.ensures, c.in-Some-Store-Init.is, c.in-Some-Store-Init.field-0-is, c.in-Some-Store-Init.field-0-0-is) in
-    says_named (map string_bytes c.args.words.now) (Some (Store Init)) seen c.init.result named (c.init.ensures.says)
-
-pub returns-in-Some-Store-Init-clause-complete : goal.returns-in-Some-Store-Init-clause-complete
-returns-in-Some-Store-Init-clause-complete g c =
-    let seen : SeenAll = seen_of g.S.Source.tells g.K.Sink.tells g.Q.Keeper.tells c.args.source.now c.init.new.source c.args.out.now c.init.new.out c.args.keeper.now c.init.new.keeper in
-    let named : command_of (map string_bytes c.args.words.now) ≡ Some (Store Init) = cc (c.command_of.ensures, c.in-Some-Store-Init.is, c.in-Some-Store-Init.field-0-is, c.in-Some-Store-Init.field-0-0-is) in
-    complete_named (map string_bytes c.args.words.now) (Some (Store Init)) seen c.init.result named (c.init.ensures.says)
-
-pub returns-in-Some-Store-Input-clause-says : goal.returns-in-Some-Store-Input-clause-says
-returns-in-Some-Store-Input-clause-says g c =
-    let seen : SeenAll = seen_of g.S.Source.tells g.K.Sink.tells g.Q.Keeper.tells c.args.source.now c.do_input.new.source c.args.out.now c.do_input.new.out c.args.keeper.now c.do_input.new.keeper in
-    let named : command_of (map string_bytes c.args.words.now) ≡ Some (Store (Input c.in-Some-Store-Input.task)) = cc (c.command_of.ensures, c.in-Some-Store-Input.is, c.in-Some-Store-Input.field-0-is, c.in-Some-Store-Input.field-0-0-is) in
-    says_named (map string_bytes c.args.words.now) (Some (Store (Input c.in-Some-Store-Input.task))) seen c.do_input.result named (c.do_input.ensures.says)
-
-pub returns-in-Some-Store-Input-clause-complete : goal.returns-in-Some-Store-Input-clause-complete
-returns-in-Some-Store-Input-clause-complete g c =
-    let seen : SeenAll = seen_of g.S.Source.tells g.K.Sink.tells g.Q.Keeper.tells c.args.source.now c.do_input.new.source c.args.out.now c.do_input.new.out c.args.keeper.now c.do_input.new.keeper in
-    let named : command_of (map string_bytes c.args.words.now) ≡ Some (Store (Input c.in-Some-Store-Input.task)) = cc (c.command_of.ensures, c.in-Some-Store-Input.is, c.in-Some-Store-Input.field-0-is, c.in-Some-Store-Input.field-0-0-is) in
-    complete_named (map string_bytes c.args.words.now) (Some (Store (Input c.in-Some-Store-Input.task))) seen c.do_input.result named (c.do_input.ensures.says)
-
-pub returns-in-Some-Store-Tell-clause-says : goal.returns-in-Some-Store-Tell-clause-says
-returns-in-Some-Store-Tell-clause-says g c =
-    let seen : SeenAll = seen_of g.S.Source.tells g.K.Sink.tells g.Q.Keeper.tells c.args.source.now c.args.source.now c.args.out.now c.tell.new.out c.args.keeper.now c.tell.new.keeper in
-    let named : command_of (map string_bytes c.args.words.now) ≡ Some (Store (Tell c.in-Some-Store-Tell.telling)) = cc (c.command_of.ensures, c.in-Some-Store-Tell.is, c.in-Some-Store-Tell.field-0-is, c.in-Some-Store-Tell.field-0-0-is) in
-    says_named (map string_bytes c.args.words.now) (Some (Store (Tell c.in-Some-Store-Tell.telling))) seen c.tell.result named (c.tell.ensures.says seen.source (unread _ _))
-
-pub returns-in-Some-Store-Tell-clause-complete : goal.returns-in-Some-Store-Tell-clause-complete
-returns-in-Some-Store-Tell-clause-complete g c =
-    let seen : SeenAll = seen_of g.S.Source.tells g.K.Sink.tells g.Q.Keeper.tells c.args.source.now c.args.source.now c.args.out.now c.tell.new.out c.args.keeper.now c.tell.new.keeper in
-    let named : command_of (map string_bytes c.args.words.now) ≡ Some (Store (Tell c.in-Some-Store-Tell.telling)) = cc (c.command_of.ensures, c.in-Some-Store-Tell.is, c.in-Some-Store-Tell.field-0-is, c.in-Some-Store-Tell.field-0-0-is) in
-    complete_named (map string_bytes c.args.words.now) (Some (Store (Tell c.in-Some-Store-Tell.telling))) seen c.tell.result named (c.tell.ensures.says seen.source (unread _ _))
-
-pub returns-in-None-clause-loaded : goal.returns-in-None-clause-loaded
-returns-in-None-clause-loaded g c =
-    let named : command_of (map string_bytes c.args.words.now) ≡ None = cc (c.command_of.ensures, c.in-None.is) in
-    loads_named (map string_bytes c.args.words.now) None _ _ _ _ named (record { loads = refl; name = refl })
-
-pub returns-in-Some-Try-clause-loaded : goal.returns-in-Some-Try-clause-loaded
-returns-in-Some-Try-clause-loaded g c =
-    let named : command_of (map string_bytes c.args.words.now) ≡ Some Try = cc (c.command_of.ensures, c.in-Some-Try.is, c.in-Some-Try.field-0-is) in
-    loads_named (map string_bytes c.args.words.now) (Some Try) _ _ _ _ named (record { loads = refl; name = refl })
-
-pub returns-in-Some-Drill-clause-loaded : goal.returns-in-Some-Drill-clause-loaded
-returns-in-Some-Drill-clause-loaded g c =
-    let named : command_of (map string_bytes c.args.words.now) ≡ Some (Drill c.in-Some-Drill.n) = cc (c.command_of.ensures, c.in-Some-Drill.is, c.in-Some-Drill.field-0-is) in
-    loads_named (map string_bytes c.args.words.now) (Some (Drill c.in-Some-Drill.n)) _ _ _ _ named (record { loads = refl; name = refl })
-
-pub returns-in-Some-Store-Init-clause-loaded : goal.returns-in-Some-Store-Init-clause-loaded
-returns-in-Some-Store-Init-clause-loaded g c =
-    let named : command_of (map string_bytes c.args.words.now) ≡ Some (Store Init) = cc (c.command_of.ensures, c.in-Some-Store-Init.is, c.in-Some-Store-Init.field-0-is, c.in-Some-Store-Init.field-0-0-is) in
-    let tells = g.Q.Keeper.tells in
-    let seen : SeenAll = seen_of g.S.Source.tells g.K.Sink.tells g.Q.Keeper.tells c.args.source.now c.init.new.source c.args.out.now c.init.new.out c.args.keeper.now c.init.new.keeper in
-    loads_named (map string_bytes c.args.words.now) (Some (Store Init)) _ _ _ _ named
-    (subst (λ name. LoadedOnce name (tells c.args.keeper.now) (tells c.init.new.keeper) seen c.init.result) c.second_of.ensures (c.init.ensures.loaded))
-
-pub returns-in-Some-Store-Input-clause-loaded : goal.returns-in-Some-Store-Input-clause-loaded
-returns-in-Some-Store-Input-clause-loaded g c =
-    let named : command_of (map string_bytes c.args.words.now) ≡ Some (Store (Input c.in-Some-Store-Input.task)) = cc (c.command_of.ensures, c.in-Some-Store-Input.is, c.in-Some-Store-Input.field-0-is, c.in-Some-Store-Input.field-0-0-is) in
-    let tells = g.Q.Keeper.tells in
-    let seen : SeenAll = seen_of g.S.Source.tells g.K.Sink.tells g.Q.Keeper.tells c.args.source.now c.do_input.new.source c.args.out.now c.do_input.new.out c.args.keeper.now c.do_input.new.keeper in
-    loads_named (map string_bytes c.args.words.now) (Some (Store (Input c.in-Some-Store-Input.task))) _ _ _ _ named
-    (loads_input c.in-Some-Store-Input.task (map string_bytes c.args.words.now) _ _ seen c.do_input.result
-    (subst (λ name. LoadedOnce name (tells c.args.keeper.now) (tells c.do_input.new.keeper) seen c.do_input.result) c.second_of-in-Some-Store-Input.ensures (c.do_input.ensures.loaded)))
-
-pub returns-in-Some-Store-Tell-clause-loaded : goal.returns-in-Some-Store-Tell-clause-loaded
-returns-in-Some-Store-Tell-clause-loaded g c =
-    let named : command_of (map string_bytes c.args.words.now) ≡ Some (Store (Tell c.in-Some-Store-Tell.telling)) = cc (c.command_of.ensures, c.in-Some-Store-Tell.is, c.in-Some-Store-Tell.field-0-is, c.in-Some-Store-Tell.field-0-0-is) in
-    let tells = g.Q.Keeper.tells in
-    let seen : SeenAll = seen_of g.S.Source.tells g.K.Sink.tells g.Q.Keeper.tells c.args.source.now c.args.source.now c.args.out.now c.tell.new.out c.args.keeper.now c.tell.new.keeper in
-    loads_named (map string_bytes c.args.words.now) (Some (Store (Tell c.in-Some-Store-Tell.telling))) _ _ _ _ named
-    (subst (λ name. LoadedOnce name (tells c.args.keeper.now) (tells c.tell.new.keeper) seen c.tell.result) c.second_of-in-Some-Store-Tell.ensures (c.tell.ensures.loaded (source_seen g.S.Source.tells c.args.source.now c.args.source.now) (unread _ _)))
+pub returns-clause-around_asked : goal.returns-clause-around_asked
+returns-clause-around_asked g c = holds_around (asked_line (map string_bytes c.args.words.now)) (g.Q.Keeper.tells c.args.keeper.now).content

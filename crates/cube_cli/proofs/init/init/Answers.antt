@@ -1,6 +1,6 @@
-use Rattle.std.proofs.Common.{refl, Some}
+use Rattle.std.proofs.Common.{[], refl, Some}
 use Rattle.std.proofs.KnownBytes.{Keeps-refl}
-use Rattle.script_run.specs.Seen.{KeeperSeen, SeenAll, SinkSeen, SourceSeen, Told, seen_of, sink_seen, source_seen, told_of}
+use Rattle.script_run.specs.Seen.{SeenAll, SinkSeen, SourceSeen, Told, seen_of, sink_seen, source_seen, told_of}
 use Rattle.cube_cli.specs.declared.command.Command.TheVariants.{Store}
 use Rattle.cube_cli.specs.declared.command.StoreCommand.TheVariants.{Init}
 use Rattle.cube_cli.specs.Doing.{Fits, doing_of, ends_of}
@@ -28,7 +28,7 @@ returns-else-is_empty-clause-says g c =
     let seen : SeenAll = seen_of g.S.Source.tells g.K.Sink.tells g.Q.Keeper.tells c.args.source.now c.args.source.now c.args.out.now c.args.out.now c.args.keeper.now c.load.new.self in
     let before : Told = told_of g.Q.Keeper.tells c.args.keeper.now in
     let after : Told = told_of g.Q.Keeper.tells c.load.new.self in
-    has_cube seen (record { nothing = record { wrote = Keeps-refl _; kept = same_told before after c.in-Ok.ensures.content c.in-Ok.ensures.journal }; read = Keeps-refl _ }) (ends_of (Some (Store Init))) (doing_of (Some (Store Init))) (Fits (Some (Store Init))) refl
+    has_cube seen (record { nothing = record { wrote = Keeps-refl _; kept = same_told before after c.in-Ok.ensures.content c.in-Ok.ensures.journal }; read = Keeps-refl _ }) (ends_of (Some (Store Init))) (doing_of [] (Some (Store Init))) (Fits (Some (Store Init))) refl
     (record { read = refl; write = refl; keep = c.in-Ok.ensures.count })
     (given_some before.content c.in-Ok.content c.in-Ok.ensures.given (λ none. absurd (cc (c.is_empty-is_empty.ensures.1 none, c.if-is_empty.false))))
 

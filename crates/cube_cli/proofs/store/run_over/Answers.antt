@@ -39,7 +39,7 @@ returns-clause-says g c = λ content given is.
 pub returns-in_default-clause-says : goal.returns-in_default-clause-says
 returns-in_default-clause-says g c = λ content given is.
     let seen : SeenAll = seen_of g.S.Source.tells g.K.Sink.tells g.Q.Keeper.tells c.args.source.now c.args.source.now c.args.out.now c.args.out.now c.args.keeper.now c.args.keeper.now in
-    wants_memory seen (record { nothing = record { wrote = Keeps-refl _; kept = refl }; read = Keeps-refl _ }) (ends_of (Some (Store (Input Run)))) (doing_of (Some (Store (Input Run)))) (Fits (Some (Store (Input Run)))) refl
+    wants_memory seen (record { nothing = record { wrote = Keeps-refl _; kept = refl }; read = Keeps-refl _ }) (ends_of (Some (Store (Input Run)))) (doing_of [] (Some (Store (Input Run)))) (Fits (Some (Store (Input Run)))) refl
     (record { read = refl; write = refl; keep = refl })
 
 pub returns-clause-ended : goal.returns-clause-ended

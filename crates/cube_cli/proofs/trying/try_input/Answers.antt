@@ -1,5 +1,5 @@
 -- The schema is taken, and the script behind it done; or nothing is done.
-use Rattle.std.proofs.Common.{ap, refl, Some}
+use Rattle.std.proofs.Common.{[], ap, refl, Some}
 use Rattle.std.proofs.KnownBytes.{Keeps-refl}
 use Rattle.schema_text.specs.Schema.{SchemaValue}
 use Rattle.line_cutter.specs.Pieces.{Held}
@@ -15,7 +15,7 @@ use Rattle.cube_cli.proofs.trying.try_input.Goals as goal
 pub returns-in_default-clause-says : goal.returns-in_default-clause-says
 returns-in_default-clause-says g c = λ keeper uncalled.
     let seen : SeenAll = record { source = source_seen g.S.Source.tells c.args.source.now c.args.source.now; sink = sink_seen g.K.Sink.tells c.args.out.now c.args.out.now; keeper = keeper } in
-    wants_memory seen (record { nothing = record { wrote = Keeps-refl _; kept = uncalled.kept }; read = Keeps-refl _ }) (ends_of (Some Try)) (doing_of (Some Try)) (Fits (Some Try)) refl
+    wants_memory seen (record { nothing = record { wrote = Keeps-refl _; kept = uncalled.kept }; read = Keeps-refl _ }) (ends_of (Some Try)) (doing_of [] (Some Try)) (Fits (Some Try)) refl
     (record { read = refl; write = refl; keep = uncalled.count })
 
 pub take_schema-requires-clause-pieces : goal.take_schema-requires-clause-pieces
