@@ -8,7 +8,7 @@ use line_cutter::{InputStop, take_input};
 use std::alloc::{AllocError, Global};
 
 /// Words of no command.
-const NO_COMMANDS: [&[&str]; 19] = [
+const NO_COMMANDS: [&[&str]; 23] = [
     &["run"],
     &["init"],
     &["init", "s", "t"],
@@ -25,6 +25,10 @@ const NO_COMMANDS: [&[&str]; 19] = [
     &["drill"],
     &["drill", "1", "1"],
     &["run", ""],
+    &["ask"],
+    &["ask", "s"],
+    &["ask", "", "count"],
+    &["run", "s", "count"],
     &["try", "x"],
     &["--help"],
     &[],
@@ -52,7 +56,7 @@ const ENDS: [(Ending, u8, &str); 14] = [
     (
         Ending::Usage,
         2,
-        "cube: usage: cube try, init NAME, run NAME, check NAME, import NAME, export NAME, drill N, schema NAME, rows NAME",
+        "cube: usage: cube try, init NAME, run NAME, check NAME, import NAME, export NAME, drill N, ask NAME WORD.., schema NAME, rows NAME",
     ),
     (
         Ending::Schema {

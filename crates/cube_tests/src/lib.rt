@@ -2,6 +2,8 @@
 #![tactic(auto)]
 
 #[cfg(test)]
+mod asked;
+#[cfg(test)]
 mod calls;
 #[cfg(test)]
 mod cubes;
@@ -30,6 +32,8 @@ mod lines;
 #[cfg(test)]
 mod replies;
 #[cfg(test)]
+mod rounds;
+#[cfg(test)]
 mod runs;
 #[cfg(test)]
 mod schemas;
@@ -43,6 +47,10 @@ mod stored;
 mod stores;
 #[cfg(test)]
 mod streams;
+#[cfg(test)]
+mod sum_ends;
+#[cfg(test)]
+mod tables;
 #[cfg(test)]
 mod weights;
 #[cfg(test)]

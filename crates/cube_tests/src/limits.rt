@@ -44,16 +44,34 @@ const SCRIPT: &str =
 const REPLIES: &str =
     "error\tregion\nok\t1\nok\t1\nerror\trows\nok\t3\nok\t1\nerror\trows\nok\t0\nok\t2\n";
 
-/// Whether the most cells and rows are told.
-fn has_limits(alloc: Global) -> Result<bool, AllocError> {
-    let input = joined(alloc, &large_schema(alloc)?, SCRIPT)?;
+/// Facts up to the most cells that are shared in rounds, those of each fact counted, one region more, and back. Each is drawn to
+/// the one cell in which a fact is known to be.
+const SHARED: &str =
+    "insert\t9\tl1\ts1\ninsert\t1\tL\tS\ninsert\t2\tL\tS\ncomponent\t2\niterate\t1\tl1\ts1\niterate\t2\tL\tR\ninsert\t3\tl1\tR\ncomponent\t9\ncomponent\t3\ncomponent\t7\niterate\t1\tl1\ts1\niterate\t0\tl1\ts1\nwithdraw\t3\ncomponent\t9\n";
+
+const SHARED_REPLIES: &str =
+    "ok\t1\nok\t1\nok\t1\ncomponent\t2\t1\t2\niterate\t3145728\niterate\t3145728\nok\t1\nerror\tmany\nerror\tmany\nerror\tmissing\nerror\tmany\nerror\tnumber\nok\t0\ncomponent\t1\t9\n";
+
+/// Whether a script over the large schema is answered so.
+fn has_limits(
+    alloc: Global,
+    script: &str,
+    replies: &str,
+    refused: u64,
+) -> Result<bool, AllocError> {
+    let input = joined(alloc, &large_schema(alloc)?, script)?;
     let ran = run(alloc, &["try"], input.as_bytes(), &WHOLE)?;
-    Ok(ran.is(Ending::Finished { refused: 3 }, REPLIES))
+    Ok(ran.is(Ending::Finished { refused }, replies))
 }
 
 #[test]
 fn most_cells_and_rows(rt: HostRuntime) {
-    assert!(rt; has_limits(rt.alloc()) == Ok(true));
+    assert!(rt; has_limits(rt.alloc(), SCRIPT, REPLIES, 3) == Ok(true));
+}
+
+#[test]
+fn most_cells_that_are_shared(rt: HostRuntime) {
+    assert!(rt; has_limits(rt.alloc(), SHARED, SHARED_REPLIES, 5) == Ok(true));
 }
 
 /// The number of leaves under a root, what is written of a script about them, and the end.

@@ -7,7 +7,7 @@ const EVENLY: &str =
     "cube\t1\npolicy\tuniform\nnumber\tRepair\ndimension\tPlace\nnode\t0\tAll\nnode\t1\tTX\nnode\t2\tAustin\nnode\t2\tDallas\nnode\t2\tHouston\nnode\t1\tCA\nnode\t2\tLA\nnode\t2\tSF\ndimension\tAuto\nnode\t0\tAll\nnode\t1\tSedan\nnode\t2\tCamry\nnode\t2\tCivic\nnode\t1\tTruck\nnode\t2\tF150\nnode\t2\tSierra\nend\n";
 
 /// A state with one city, and one with two.
-const STATES: &str =
+pub const STATES: &str =
     "cube\t1\npolicy\tcount\ndimension\tPlace\nnode\t0\tAll\nnode\t1\tNV\nnode\t2\tReno\nnode\t1\tTX\nnode\t2\tAustin\nnode\t2\tDallas\nend\n";
 
 /// A state with two cities, and a district without one, which is a leaf like them.
@@ -15,7 +15,7 @@ pub const UNEVEN: &str =
     "cube\t1\npolicy\tcount\ndimension\tPlace\nnode\t0\tAll\nnode\t1\tNV\nnode\t2\tReno\nnode\t2\tElko\nnode\t1\tDC\nview\tall\t0\nview\tdeep\t2\nview\tstates\t1\nend\n";
 
 /// Two states, of which the first has the greater number.
-const NUMBERED: &str =
+pub const NUMBERED: &str =
     "cube\t2\npolicy\tcount\ndimension\tPlace\nnode\t0\tAll\t0\nnode\t1\tTX\t2\nnode\t1\tNV\t1\nview\tstates\t1\nend\n";
 
 /// One node.

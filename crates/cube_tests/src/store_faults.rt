@@ -103,7 +103,7 @@ const AUDITS: [Fault; 3] = [
 ];
 
 /// Whether a store has so many batches, and facts of these ids.
-fn has_kept(keeper: &MemKeeper, batches: usize, ids: &[u64]) -> bool {
+pub fn has_kept(keeper: &MemKeeper, batches: usize, ids: &[u64]) -> bool {
     keeper.journal().len() == batches
         && keeper
             .content()

@@ -129,9 +129,21 @@ pub fn run_stored(
     input: &[u8],
     outside: &Outside,
 ) -> Result<KeptRun, Memory> {
+    run_words(alloc, &[word, "s"], content, fails, input, outside)
+}
+
+/// The same of all words of a command line.
+pub fn run_words(
+    alloc: Global,
+    words: &[&str],
+    content: Content<'_>,
+    fails: u64,
+    input: &[u8],
+    outside: &Outside,
+) -> Result<KeptRun, Memory> {
     let (schema, facts, spreads) = content;
     let mut keeper = keeper_of(alloc, schema, facts, spreads, &[fails])?;
-    match run_kept(alloc, &[word, "s"], input, outside, &mut keeper) {
+    match run_kept(alloc, words, input, outside, &mut keeper) {
         Ok(ran) => Ok(KeptRun { ran, keeper }),
         Err(fault) => {
             // Dropped by a call, which is proved once: in place it would be proved on each way out.

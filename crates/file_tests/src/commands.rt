@@ -37,7 +37,7 @@ const REFUSED: &str =
 
 /// What is told where the words name no command.
 const USAGE: &str =
-    "cube: usage: cube try, init NAME, run NAME, check NAME, import NAME, export NAME, drill N, schema NAME, rows NAME\n";
+    "cube: usage: cube try, init NAME, run NAME, check NAME, import NAME, export NAME, drill N, ask NAME WORD.., schema NAME, rows NAME\n";
 
 /// The words, the input, the read and the write that fail, what is written, what is told of the end, and the status.
 type Call = (
@@ -52,7 +52,7 @@ type Call = (
 
 /// Each call is a run of the program. The fourth fact lies two thirds in Austin and one third in Dallas, which makes five rows. A city
 /// that Texas gets changes none of them, and then has a repair.
-const CALLS: [Call; 24] = [
+const CALLS: [Call; 27] = [
     (&["init", "cities.cube"], CITIES, 0, 0, "ok\t0\n", "", 0),
     (
         &["run", "cities.cube"],
@@ -114,6 +114,25 @@ const CALLS: [Call; 24] = [
         "",
         1,
     ),
+    (
+        &["ask", "cities.cube", "count", "Austin"],
+        "",
+        0,
+        0,
+        "count\t2.666666666\t2.666666667\t8/3\n",
+        "",
+        0,
+    ),
+    (
+        &["ask", "cities.cube", "count", "Austin\ncount\tTX"],
+        "",
+        0,
+        0,
+        "error\ttext\n",
+        "",
+        1,
+    ),
+    (&["ask", "cities.cube"], "", 0, 0, "", USAGE, 2),
     (&["run"], "", 0, 0, "", USAGE, 2),
     (
         &["try"],

@@ -10,6 +10,8 @@ mod covers;
 #[cfg(test)]
 mod fixtures;
 #[cfg(test)]
+mod ranges;
+#[cfg(test)]
 mod replies;
 #[cfg(test)]
 mod terms;
