@@ -3,7 +3,7 @@
 
     python3 examples/chart.py SCHEMA WORDS.. < REPLY > PICTURE.svg
 
-SCHEMA is a file that begins with the schema, as a script for `try` does. REPLY is one line, TAB separated. WORDS say what
+SCHEMA is a store, or a file that begins with the schema, as a script for `try` does. REPLY is one line, TAB separated. WORDS say what
 is drawn, as in a script: `count`, `sum MEASURE`, `avg MEASURE`, or `pool MEASURE OUTCOME`. A view has all of these, a reply
 to `sums` has sums alone.
 
@@ -14,8 +14,14 @@ import re
 import sys
 from fractions import Fraction
 from itertools import product
+from pathlib import Path
 from typing import NamedTuple
 from xml.sax.saxutils import escape
+
+sys.dont_write_bytecode = True
+sys.path.insert(0, str(Path(__file__).resolve().parent.parent / "tools"))
+
+from facts import STORE_MAGIC, Misuse, read_store
 
 USAGE = "usage: chart.py SCHEMA count | sum MEASURE | avg MEASURE | pool MEASURE OUTCOME"
 
@@ -65,6 +71,14 @@ class Entry(NamedTuple):
 
 
 # Reading.
+
+
+def schema_text(path):
+    """The text of a file that begins with a schema, or that of a store's schema."""
+    with open(path, "rb") as file:
+        front = file.read(len(STORE_MAGIC))
+        text = read_store(path)[0] if front == STORE_MAGIC else front + file.read()
+    return text.decode("utf-8")
 
 
 def number_of(text):
@@ -335,11 +349,10 @@ def main():
     sys.stdin.reconfigure(encoding="utf-8")
     sys.stdout.reconfigure(encoding="utf-8")
     try:
-        with open(sys.argv[1], encoding="utf-8") as file:
-            schema = read_schema(file)
+        schema = read_schema(schema_text(sys.argv[1]).split("\n"))
         words = sys.argv[2:]
         sys.stdout.write(chart(schema, read_reply(sys.stdin.readline(), schema, words), words))
-    except (Fault, OSError, UnicodeDecodeError) as fault:
+    except (Fault, Misuse, OSError, UnicodeDecodeError) as fault:
         sys.exit(f"chart.py: {fault}")
 
 
