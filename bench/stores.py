@@ -124,7 +124,7 @@ def asked(program, path, schema, facts, lines):
 def askable(random, piece):
     """How many lines at the front of a piece `ask` is to do: few, since each is a call, and none that no word can hold."""
     most = random.randint(0, 4)
-    return next((k for k, line in enumerate(piece[:most]) if b"\0" in line), len(piece[:most]))
+    return next((k for k, line in enumerate(piece[:most]) if b"\0" in line or not plain_model.is_utf8(line)), len(piece[:most]))
 
 
 def compare_case(program, folder, seed, number):
