@@ -19,19 +19,6 @@ def of_mixed(*asked):
     return mixed([], 0, (), asked)
 
 
-def one_region(*asked):
-    """Facts in some city of one state, by values on both sides of 0, and a fact in one of its cities."""
-
-    def make():
-        yield schema("count", ["Amount"], [Tree("Place", 2, 4)], [])
-        yield line("insert", 1, "p0.0", 5)
-        for i in range(2, FACTS + 1):
-            yield line("insert", i, "p0", i % 7 - 3)
-        yield from asked
-
-    return make
-
-
 def one_component(*asked):
     """Facts known to a row of 1,024 cells or to a column, each of which crosses all others: 2^21 cells of facts that depend on each
     other. All other facts lie on the diagonal, so that each of these has one row."""
@@ -71,8 +58,6 @@ def main(program, runs=3):
         bench.ask("mixed: rangecount of it", of_mixed, line("rangecount", *region), 20_000, part)
         found = bench.ask("mixed: component", of_mixed, line("component", 100_000), 100)
         bench.ask("mixed: 32 rounds of a small component", of_mixed, line("iterate", 32, "p1.2", "t1.2", "k1"), 100, found)
-        bench.ask("2^20 facts of one region: range", one_region, line("range", "Amount", "p0.1"), 5)
-        bench.ask("2^20 facts of one region: least", one_region, line("least", "Amount", "p0.1"), 5)
         bench.ask("2^21 cells in one component: component", one_component, line("component", FACTS), 3)
         bench.ask("2^21 cells in one component: 32 rounds", one_component, line("iterate", 32, "p3", "All"), 3)
     return 0
