@@ -4,7 +4,8 @@
 `check` of a store of a million precise facts that SQLite made, with its seconds of a processor and its memory; and a script of ten thousand
 inserts over a store, beside the same script without one, and beside the same rows put by SQLite from Python, a transaction each. Last, three
 times in turn, the script beside the same batches through the `sqlite` crate of the kit alone: `sqlite_alone`, which is proved and built first,
-in some three minutes where that was never done. The stores are made in FOLDER, the current one where none is named.
+in some three minutes where that was never done. Before that one fact of 2^20 rows, the most that a fact may have: it is put into a store, whose
+blob of 16 MiB is then read again. The stores are made in FOLDER, the current one where none is named.
 """
 import os
 import resource
@@ -89,6 +90,22 @@ def built_alone(name, libraries, words, text, folder):
     return crate / "out" / name
 
 
+def largest_blob(program, folder):
+    """One fact of 2^20 cells, put and read again; and the length of the blob of its rows."""
+    leaves = ["".join(f"node\t1\t{letter}{k}\n" for k in range(1024)) for letter in "pq"]
+    dims = "".join(f"dimension\t{name}\nnode\t0\tAll\n{nodes}" for name, nodes in zip(("Place", "Time"), leaves))
+    path = f"{folder}/blob.cube"
+    stores.must(stores.call(program, ["init", path], f"cube\t1\npolicy\tcount\n{dims}end\n".encode())[:2], (b"ok\t0\n", 0), "init")
+    seconds, clock, memory, said, status = timed(["ask", path, "insert", "1", "All", "All"], b"", program)
+    stores.must((said, status), (b"ok\t1\n", 0), "insert")
+    print(f"one fact of 2^20 rows put: {seconds:.2f} s of a processor, {clock:.2f} s on the clock, {memory:.0f} MB")
+    seconds, clock, memory, said, status = timed(["check", path], b"", program)
+    stores.must((said, status), (b"sound\t1\t1048576\n", 0), "check")
+    length = sqlite3.connect(f"file:{path}?mode=ro", uri=True).execute("SELECT length(body) FROM alloc").fetchone()[0]
+    stores.must(length, 2**24, "length of the blob")
+    print(f"and read again by check: {seconds:.2f} s of a processor, {clock:.2f} s on the clock, {memory:.0f} MB")
+
+
 def content(path):
     base = sqlite3.connect(f"file:{path}?mode=ro", uri=True)
     kept = [base.execute(f"SELECT * FROM {table} ORDER BY id").fetchall() for table in ("fact", "alloc")]
@@ -132,6 +149,7 @@ def main():
         print(f"try of the same: {seconds:.2f} s of a processor, {clock:.2f} s on the clock, {memory:.0f} MB")
         seconds, clock = put_by_sqlite(f"{folder}/python.cube")
         print(f"the same rows by stock SQLite from Python: {seconds:.2f} s of a processor, {clock:.2f} s on the clock")
+        largest_blob(program, folder)
         alone = built_alone("sqlite_alone", "anyhow sqlite", [f"{folder}/tried.cube", "1"], b"", project)
         for _ in range(RUNS):
             with tempfile.TemporaryDirectory(dir=place) as run:
