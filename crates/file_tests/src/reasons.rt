@@ -1,6 +1,6 @@
 //! Why a store is not to be had, over files of each kind; and what stays as it was then.
 use crate::contents::{FIRST, SECOND, batch_of};
-use crate::sql::run_script;
+use crate::sql::{are_found, run_script};
 use cube_base::Memory;
 use fact_keeper::Keeper;
 use sqlite_file::Reason;
@@ -17,6 +17,8 @@ enum Made {
     Bytes(&'static str, &'static str),
     /// The file of a script.
     Sql(&'static str, &'static str),
+    /// The file of a script, with another byte at a place.
+    Byte(&'static str, &'static str, usize, u8),
     /// The file of an empty script, and a second link to it.
     Linked(&'static str, &'static str),
 }
@@ -24,7 +26,8 @@ enum Made {
 /// What stands there, the name that is loaded, why it is not to be had, and what that is called.
 type Row = (Made, &'static str, Reason, &'static str);
 
-const ROWS: [Row; 12] = [
+/// The byte of the damaged page says of which kind it is. The other one stands in the text of a rule, at the end of the first page.
+const ROWS: [Row; 15] = [
     (Made::Nothing, "", Reason::BadName, "not a name for a store"),
     (
         Made::Nothing,
@@ -90,6 +93,29 @@ const ROWS: [Row; 12] = [
         "its table cube is not laid out as a store's",
     ),
     (
+        Made::Nothing,
+        "/dev/null",
+        Reason::NotAFile,
+        "not a plain file",
+    ),
+    (
+        Made::Byte("page.cube", "CREATE TABLE other (a TEXT)", 4096, 255),
+        "page.cube",
+        Reason::Damaged,
+        "a page of it or of its log is damaged",
+    ),
+    (
+        Made::Byte(
+            "rule.cube",
+            "CREATE TABLE other (a INTEGER CHECK (a < 9)); INSERT INTO other VALUES (5)",
+            4093,
+            b'2',
+        ),
+        "rule.cube",
+        Reason::Unreadable,
+        "it holds what cannot be read here, or rows that break its own schema",
+    ),
+    (
         Made::Sql(
             "row.cube",
             "CREATE TABLE cube (k INTEGER PRIMARY KEY, body BLOB NOT NULL); INSERT INTO cube VALUES (2, x'61')",
@@ -100,6 +126,16 @@ const ROWS: [Row; 12] = [
     ),
 ];
 
+/// Puts a byte at a place of a file.
+fn put_byte(rt: &HostRuntime, path: &str, at: usize, byte: u8) -> Result<(), Fail> {
+    let mut bytes = fs::read(rt, path)?;
+    if let Some(place) = bytes.get_mut(at) {
+        *place = byte;
+    }
+    fs::write(rt, path, bytes)?;
+    Ok(())
+}
+
 /// Makes what is to stand there.
 fn make(rt: &HostRuntime, made: &Made) -> Result<(), Fail> {
     match made {
@@ -107,6 +143,10 @@ fn make(rt: &HostRuntime, made: &Made) -> Result<(), Fail> {
         Made::Folder(path) => fs::create_dir(rt, *path)?,
         Made::Bytes(path, bytes) => fs::write(rt, *path, *bytes)?,
         Made::Sql(path, script) => run_script(rt, path, script)?,
+        Made::Byte(path, script, at, byte) => {
+            run_script(rt, path, script)?;
+            put_byte(rt, path, *at, *byte)?;
+        }
         Made::Linked(path, link) => {
             run_script(rt, path, "")?;
             fs::hard_link(rt, *path, *link)?;
@@ -190,5 +230,34 @@ fn stores_in_use_and_exchanged_are_told(rt: HostRuntime) -> Result<(), Fail> {
     run_script(&rt, "table.cube", "CREATE TABLE other (a TEXT)")?;
     let told = are_told(&rt)?;
     assert!(rt; told);
+    Ok(())
+}
+
+/// A table of facts that takes no id above 2.
+const RULED: &str =
+    "CREATE TABLE fact (id INTEGER PRIMARY KEY, nodes BLOB NOT NULL, cols BLOB NOT NULL, CHECK (id < 3))";
+
+/// What SQL finds where nothing of a batch is kept: no fact, and no other table of a store.
+const NOT_KEPT: [&str; 2] = [
+    "SELECT count(*) = 0 FROM fact",
+    "SELECT count(*) = 1 FROM sqlite_schema",
+];
+
+/// Whether the first batch, which puts facts 1 and 3, is refused by a table.
+fn is_refused(rt: &HostRuntime, path: &str) -> Result<bool, Memory> {
+    let first = batch_of(rt.alloc(), &FIRST)?;
+    let mut keeper = SqlKeeper::new(rt);
+    let opened = keeper.load(rt.alloc(), path).is_ok();
+    let refused = opened && keeper.commit(&first).is_err();
+    let reason = keeper.reason();
+    drop(keeper);
+    Ok(refused && reason == Some(Reason::Refused))
+}
+
+#[test]
+fn what_a_table_refuses_is_not_kept(rt: HostRuntime) -> Result<(), Fail> {
+    run_script(&rt, "ruled.cube", RULED)?;
+    let told = is_refused(&rt, "ruled.cube")?;
+    assert!(rt; told && are_found(&rt, "ruled.cube", &NOT_KEPT));
     Ok(())
 }
