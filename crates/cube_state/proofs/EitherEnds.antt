@@ -7,6 +7,8 @@ use Rattle.std.proofs.lemmas.List.{take_more}
 use Rattle.std.proofs.lemmas.List.Elements.{All-filter}
 use Rattle.cube_model.specs.declared.edit.Fact.{Fact}
 use Rattle.cube_model.specs.Answer.{total_by}
+use Rattle.cube_model.specs.Tree.{Dimension}
+use Rattle.region_index.specs.Indexed.{is_indexed_at}
 use Rattle.exact_fraction.proofs.TotalLaws.{total_by-same}
 use Rattle.fact_groups.proofs.Groups.{first-holds, total_by-map}
 use Rattle.fact_groups.proofs.Partition.{total_by-append}
@@ -14,7 +16,8 @@ use Rattle.world_range.specs.declared.extreme.Extreme.{Extreme}
 use Rattle.world_range.specs.declared.extreme.Extreme.TheVariants.{Greatest, Least}
 use Rattle.world_range.specs.Picks.{wants_inside}
 use Rattle.cube_state.specs.declared.ranging.Ends.{Ends}
-use Rattle.cube_state.specs.Ranging.{LieWithin, column_in, either_part, id_part}
+use Rattle.cube_state.specs.Ranging.{AreIdsOfSome, LieWithin, column_in, either_part, id_part}
+use Rattle.cube_state.specs.State.{ids_with}
 use Rattle.cube_state.proofs.GroupEnds.{either_end}
 
 -- the ids of facts stand for the facts
@@ -26,9 +29,16 @@ either-ids extreme column facts found p =
     ∙ total_by-same (λ f. id_part extreme column facts f.id) (λ f. either_part extreme (column_in column f)) (filter p facts)
     (λ k d within. ap (λ (o : Option Fact). option_map_or (λ f. either_part extreme (column_in column f)) o (pos 0)) (there k d within))
 
+-- the ids of the imprecise facts of a region are those of some of the facts
+pub ids-some : (dims : List Dimension) (facts all : List Fact) → facts ≡ all → (code : ℕ) (ids : List ℕ) → ids ≡ ids_with dims all code → AreIdsOfSome facts ids
+ids-some dims facts all are code ids listed = record { holds = is_indexed_at dims code; are = listed ∙ ap (λ fs. ids_with dims fs code) (sym are) }
+
 -- a fact that is found is one of the facts
-pub found-wide : (column : ℕ) (facts : List Fact) (id : ℕ) (found : Option (Bor Fact)) (fact : Bor Fact) → All (λ f. column ≤ length f.cols) facts → option_copied found ≡ find (λ f. f.id == id) facts → found ≡ Some fact → column ≤ length fact.now.cols
-found-wide column facts id found fact wide is some = first-holds (λ f. column ≤ length f.cols) (λ f. f.id == id) facts fact.now wide (sym is ∙ ap option_copied some)
+pub found-wide : (column : ℕ) (facts : List Fact) (id : ℕ) (fact : Fact) → All (λ f. column ≤ length f.cols) facts → find (λ f. f.id == id) facts ≡ Some fact → column ≤ length fact.cols
+found-wide column facts id fact wide found = first-holds (λ f. column ≤ length f.cols) (λ f. f.id == id) facts fact wide found
+
+pub copied-some : (facts : List Fact) (id : ℕ) (found : Option (Bor Fact)) (fact : Bor Fact) → option_copied found ≡ find (λ f. f.id == id) facts → found ≡ Some fact → find (λ f. f.id == id) facts ≡ Some fact.now
+copied-some facts id found fact is some = sym is ∙ ap option_copied some
 
 either-le : (b : Bool) (value : ℤ) (limit : ℕ) → nat_abs value ≤ limit → nat_abs (if not b then pos 0 else value) ≤ limit
 either-le true value limit small = small
@@ -49,10 +59,9 @@ module _ (column : ℕ) (facts : List Fact) where
         let all = ap (total_by (id_part extreme column facts)) (take_more ids i d within) in
         omega (arith, ints, both, all)
 
-    pub of-id-some : (id : ℕ) → id ≡ get_or ids i d → (found : Option (Bor Fact)) → option_copied found ≡ find (λ f. f.id == id) facts → (fact : Bor Fact) → found ≡ Some fact
-        → (value : ℤ) → value ≡ column_in column fact.now → nat_abs value ≤ 2 ^ 63 → (new : Ends) → new.least ≡ ends.least +ℤ either_part Least value → new.greatest ≡ ends.greatest +ℤ either_part Greatest value
+    pub of-id-some : (id : ℕ) → id ≡ get_or ids i d → (fact : Fact) → find (λ f. f.id == id) facts ≡ Some fact → (value : ℤ) → value ≡ column_in column fact → nat_abs value ≤ 2 ^ 63 → (new : Ends) → new.least ≡ ends.least +ℤ either_part Least value → new.greatest ≡ ends.greatest +ℤ either_part Greatest value
         → AreOfIds (take (i + 1) ids) (i + 1) new
-    of-id-some id at found is fact some value valued fits new least greatest = record {
+    of-id-some id at fact found value valued fits new least greatest = record {
       least = more Least ends.least new.least before.least least;
       greatest = more Greatest ends.greatest new.greatest before.greatest greatest;
       small = record {
@@ -64,7 +73,7 @@ module _ (column : ℕ) (facts : List Fact) where
         here : (extreme : Extreme) → id_part extreme column facts (get_or ids i d) ≡ either_part extreme value
         here extreme =
             ap (id_part extreme column facts) (sym at)
-            ∙ ap (λ (o : Option Fact). option_map_or (λ f. either_part extreme (column_in column f)) o (pos 0)) (sym is ∙ ap option_copied some)
+            ∙ ap (λ (o : Option Fact). option_map_or (λ f. either_part extreme (column_in column f)) o (pos 0)) found
             ∙ ap (either_part extreme) (sym valued)
 
         more : (extreme : Extreme) (old later : ℤ) → old ≡ total_by (id_part extreme column facts) (take i ids) → later ≡ old +ℤ either_part extreme value → later ≡ total_by (id_part extreme column facts) (take (i + 1) ids)

@@ -39,3 +39,4 @@ pub mod TableViews
 pub mod TouchingShares
 pub mod ViewAnswers
 pub mod ViewsFit
+pub mod Walking

@@ -1,5 +1,5 @@
 -- What facts add at the ends of a region's sum, code by code.
-use Rattle.std.specs.Prelude.{◌≡◌, ℕ, ◌*◌, ◌≤◌, List, ◌∷◌, true, map, ℤ, pos, nat_abs, slice_index_or}
+use Rattle.std.specs.Prelude.{◌≡◌, ℕ, ◌*◌, ◌≤◌, Bool, List, ◌∷◌, true, false, filter, map, ℤ, pos, nat_abs, slice_get, slice_index_or, ◌==◌}
 use Rattle.std.specs.Option.{option_map_or}
 use Rattle.cube_model.specs.declared.edit.Fact.{Fact}
 use Rattle.cube_model.specs.declared.statistic.CellStat.{CellStat}
@@ -36,6 +36,15 @@ either_part extreme value = part_where extreme (record { inside = true; outside 
 
 abbrev pub id_part : Extreme → ℕ → List Fact → ℕ → ℤ
 id_part extreme column facts id = option_map_or (λ f. either_part extreme (column_in column f)) (fact_of id facts) (pos 0)
+
+-- these are the ids of some of these facts, in order: those of which a test holds
+pub record AreIdsOfSome (facts : List Fact) (ids : List ℕ) : Type 0 where
+  pub holds : Fact → Bool
+  pub are : ids ≡ map (λ f. f.id) (filter holds facts)
+
+-- an id is the one at a place of some ids
+abbrev pub is_next : List ℕ → ℕ → ℕ → Bool
+is_next ids place id = option_map_or (λ next. next == id) (slice_get ids place) false
 
 -- neither end is further from 0 than a limit
 pub record LieWithin (limit : ℕ) (ends : Ends) : Type 0 where

@@ -11,7 +11,7 @@ ghost use Rattle.region_index.specs.Touching.{codes_touching};
 ghost use Rattle.staged_map.specs.Staged.{held};
 ghost use Rattle.world_range.specs.Picks.{end_of};
 ghost use Rattle.world_range.specs.declared.extreme.Extreme.TheVariants.{Greatest, Least};
-ghost use Rattle.cube_state.specs.Ranging.{AreEndsAt, LieWithin, column_in, either_part, end_over, id_part};
+ghost use Rattle.cube_state.specs.Ranging.{AreEndsAt, AreIdsOfSome, LieWithin, column_in, either_part, end_over, id_part, is_next};
 ghost use Rattle.cube_state.specs.State.{policy_in, rows_in};
 
 use crate::{Group, State};
@@ -123,8 +123,53 @@ impl<P: WeightPolicy + Drop> State<P> {
     }
 }
 
-/// The ends of the facts of these ids, where each may stand inside and outside. An id without a fact adds nothing.
+/// The ends of the facts of these ids, where each may stand inside and outside. The ids are those of some of the facts, in order.
 fn either_ends(facts: &FactList, ids: &[u64], column: u32) -> Ends
+    requires wide { All (λ f. column ≤ length f.cols) facts.now.facts }
+    requires ids { AreIdsOfSome facts.now.facts ids.now }
+    ensures least { result.least ≡ total_by (id_part Least column facts.now.facts) ids.now }
+    ensures greatest { result.greatest ≡ total_by (id_part Greatest column facts.now.facts) ids.now }
+{
+    // To look up one fact takes as long as to walk past some of them.
+    if ids.len() as u64 > facts.len() / 16 {
+        walked_ends(facts, ids, column)
+    } else {
+        found_ends(facts, ids, column)
+    }
+}
+
+/// The same, for which all facts are walked through beside the ids.
+fn walked_ends(facts: &FactList, ids: &[u64], column: u32) -> Ends
+    requires wide { All (λ f. column ≤ length f.cols) facts.now.facts }
+    requires ids { AreIdsOfSome facts.now.facts ids.now }
+    ensures least { result.least ≡ total_by (id_part Least column facts.now.facts) ids.now }
+    ensures greatest { result.greatest ≡ total_by (id_part Greatest column facts.now.facts) ids.now }
+{
+    // What a list of facts says of their order.
+    let _ = facts.len();
+    let mut ends = Ends {
+        least: 0,
+        greatest: 0,
+    };
+    let mut place = 0;
+    for fact in facts.iter() {
+        if is_next(ids, place, fact.id) {
+            ends = with_either(ends, column_of(fact, column));
+            place += 1;
+        }
+    }
+    ends
+}
+
+/// Whether an id is the one at a place of these.
+fn is_next(ids: &[u64], place: usize, id: u64) -> bool
+    ensures { result ≡ is_next ids.now place id }
+{
+    place < ids.len() && ids[place] == id
+}
+
+/// The same, for which each id is looked up. An id without a fact adds nothing.
+fn found_ends(facts: &FactList, ids: &[u64], column: u32) -> Ends
     requires { All (λ f. column ≤ length f.cols) facts.now.facts }
     ensures least { result.least ≡ total_by (id_part Least column facts.now.facts) ids.now }
     ensures greatest { result.greatest ≡ total_by (id_part Greatest column facts.now.facts) ids.now }
