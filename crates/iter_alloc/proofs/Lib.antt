@@ -13,8 +13,10 @@ pub mod LabelledFacts
 pub mod LabelsSoFar
 pub mod Marking
 pub mod Numbering
+pub mod PlaceLists
 pub mod PlaceSums
 pub mod PortionSteps
+pub mod Quotients
 pub mod Roots
 pub mod Sharing
 pub mod SpotFacts

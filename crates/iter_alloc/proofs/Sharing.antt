@@ -1,11 +1,14 @@
 -- What the facts of spots give is added place by place, and spot by spot.
+use Rattle.iter_alloc.specs.declared.rounds.Place.{Place}
 use Rattle.iter_alloc.specs.declared.rounds.Span.{Span}
 use Rattle.cube_model.specs.Limits.{MAX_CELLS}
+use Rattle.iter_alloc.proofs.PlaceLists.{none, levels-long, nexts-long, next-at, raised-levels, raised-nexts, share-at}
 use Rattle.iter_alloc.proofs.PlaceSums.{raised-at}
 use Rattle.iter_alloc.proofs.Tests.{itself}
 use Rattle.iter_alloc.specs.Forest.{at}
-use Rattle.iter_alloc.specs.Places.{Part, parts, falls, amount, amounts, AreLevels, ArePlaced, IsRaised, LEVEL_LIMIT}
-use Rattle.std.proofs.Common.{◌≡◌, ℕ, ◌+◌, ◌^◌, ◌<◌, ◌≤◌, List, ◌∷◌, get_or, set, take, drop, length, ap, sym, ◌∙◌, subst, arith}
+use Rattle.iter_alloc.specs.Places.{Part, parts, falls, amount, amounts, AreLevels, ArePlaced, IsRaised, LEVEL_LIMIT, levels_in, nexts_in}
+use Rattle.iter_alloc.specs.Rounds.{share_by, share_of}
+use Rattle.std.proofs.Common.{◌≡◌, ℕ, ◌+◌, ◌^◌, ◌<◌, ◌≤◌, List, ◌∷◌, get_or, set, take, drop, length, refl, ap, sym, ◌∙◌, subst, arith}
 use Rattle.std.proofs.lemmas.List.{drop_more, length-drop, length-set}
 use Rattle.std.proofs.lemmas.List.Elements.{All-drop, All-tail}
 use Rattle.std.proofs.lemmas.List.Sums.{sum_by-cons, sum_by-le}
@@ -35,6 +38,29 @@ module _ (gets : ℕ → ℕ) (own old : List ℕ) where
       where
         here : (if x == x then gets x else 0) ≡ gets x
         here = ap (λ b. if b then gets x else 0) (itself x)
+
+-- to places is added, and they stand as they stood
+pub record Giving (gets : ℕ → ℕ) (own : List ℕ) (old : List Place) (rest : List ℕ) (places : List Place) : Type 0 where
+  pub levels : levels_in places ≡ levels_in old
+  pub nexts : Sharing gets own (nexts_in old) rest (nexts_in places)
+
+module _ (gets : ℕ → ℕ) (own : List ℕ) (old : List Place) (k x : ℕ) (places : List Place) (more : k < length own) (is : x ≡ get_or own k x) (within : x < length places) (giving : Giving gets own old (drop k own) places) where
+  in-nexts : x < length (nexts_in old)
+  in-nexts = omega (arith, within, nexts-long places, giving.nexts.as_many)
+
+  pub giving-share : (shared sum count : ℕ) → shared ≡ share_of (get_or places x none).level sum count → sum ≡ sum_by (at (levels_in old)) own → count ≡ length own → shared ≡ share_by (at (levels_in old)) own x
+  giving-share shared sum count is_shared is_sum is_count =
+      share-at places own x within shared sum count is_shared (is_sum ∙ ap (λ (ls : List ℕ). sum_by (at ls) own) (sym giving.levels)) is_count ∙ ap (λ (ls : List ℕ). share_by (at ls) own x) giving.levels
+
+  pub giving-fits : (bound : ℕ) → ((i : ℕ) → i < length old → at (nexts_in old) i + falls gets own i < bound) → (get_or places x none).next + gets x < bound
+  giving-fits bound fits =
+      omega (arith, next-at places x within, sharing-fits gets own (nexts_in old) k x (nexts_in places) more is in-nexts giving.nexts bound (λ i inside. fits i (omega (arith, inside, nexts-long old))))
+
+  pub giving-next : (given : ℕ) → given ≡ gets x → Giving gets own old (drop (k + 1) own) (set places x (record { level = (get_or places x none).level; next = (get_or places x none).next + given }))
+  giving-next given is_given = record {
+    levels = raised-levels places x ((get_or places x none).next + given) ∙ giving.levels;
+    nexts = sharing-next gets own (nexts_in old) k x (nexts_in places) more is in-nexts giving.nexts _ (raised-nexts places x given within ∙ ap (λ n. set (nexts_in places) x (at (nexts_in places) x + n)) is_given);
+  }
 
 -- the sum of levels at places fits
 pub mass-fits : (levels own : List ℕ) → AreLevels levels → All (λ i. i < length levels) own → length own ≤ MAX_CELLS → sum_by (at levels) own < 2 ^ 64
@@ -80,3 +106,39 @@ module _ (levels : List ℕ) (all : List Part) (old : List ℕ) (k : ℕ) (spans
         };
         sums = λ i within. omega (arith, adds.each i (omega (arith, within, rounding.as_many)), amounts-next i, rounding.sums i within);
       })
+
+-- the spots so far have given, and the places stand as they stood
+pub record Adding (all : List Part) (old : List Place) (left : List Span) (rest : List ℕ) (places : List Place) : Type 0 where
+  pub levels : levels_in places ≡ levels_in old
+  pub nexts : Rounding (levels_in old) all (nexts_in old) left rest (nexts_in places)
+
+pub adding-start : (old : List Place) (spans : List Span) (flat : List ℕ) → ArePlaced spans flat (length old) → Adding (parts spans flat) old spans flat old
+adding-start old spans flat placed = record {
+  levels = refl;
+  nexts = record { as_many = refl; placed = subst (λ n. ArePlaced spans flat n) (sym (levels-long old)) placed; sums = λ i within. refl };
+}
+
+module _ (all : List Part) (old : List Place) (k : ℕ) (spans : List Span) (span : Span) (rest : List ℕ) (places : List Place) (more : k < length spans) (is : span ≡ get_or spans k span) (adding : Adding all old (drop k spans) rest places) where
+  long : length places ≡ length old
+  long = sym (nexts-long places) ∙ adding.nexts.as_many ∙ nexts-long old
+
+  pub adding-within : All (λ i. i < length places) rest
+  adding-within j d inside = omega (arith, adding.nexts.placed.within j d inside, levels-long old, long)
+
+  pub adding-low : AreLevels (levels_in old) → AreLevels (levels_in places)
+  adding-low low = subst (λ (ls : List ℕ). AreLevels ls) (sym adding.levels) low
+
+  pub adding-fits : (bound : ℕ) → ((i : ℕ) → i < length old → at (nexts_in old) i + amounts (at (levels_in old)) all i < bound) → (i : ℕ) → i < length places
+      → at (nexts_in places) i + amount (at (levels_in places)) i (record { own = take span.len rest; members = span.members }) < bound
+  adding-fits bound fits i within =
+      subst (λ (ls : List ℕ). at (nexts_in places) i + amount (at ls) i (record { own = take span.len rest; members = span.members }) < bound) (sym adding.levels)
+      (round-fits (levels_in old) all (nexts_in old) k spans span rest (nexts_in places) more is adding.nexts bound (λ j inside. fits j (omega (arith, inside, nexts-long old))) i (omega (arith, within, nexts-long places)))
+
+  pub adding-next : (raised : List Place) (behind : List ℕ) → behind ≡ drop span.len rest → levels_in raised ≡ levels_in places
+      → IsRaised (λ i. amount (at (levels_in places)) i (record { own = take span.len rest; members = span.members })) (nexts_in places) (nexts_in raised) → Adding all old (drop (k + 1) spans) behind raised
+  adding-next raised behind is_behind same adds = record {
+    levels = same ∙ adding.levels;
+    nexts =
+        round-next (levels_in old) all (nexts_in old) k spans span rest (nexts_in places) more is adding.nexts (nexts_in raised) behind is_behind
+        (subst (λ (ls : List ℕ). IsRaised (λ i. amount (at ls) i (record { own = take span.len rest; members = span.members })) (nexts_in places) (nexts_in raised)) adding.levels adds);
+  }

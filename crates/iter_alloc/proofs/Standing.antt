@@ -4,7 +4,7 @@ use Rattle.iter_alloc.proofs.PlaceSums.{sum_by-among}
 use Rattle.iter_alloc.specs.Forest.{at}
 use Rattle.iter_alloc.specs.Places.{Part, parts, amount, amounts, placed_level, AreLevels, IsRaised, LEVEL_LIMIT}
 use Rattle.iter_alloc.specs.Rounds.{share_of, share_by}
-use Rattle.std.proofs.Common.{◌≡◌, ℕ, suc, ◌+◌, ◌*◌, ◌^◌, ◌<◌, ◌≤◌, List, [], ◌∷◌, get_or, take, drop, length, ap, ◌∙◌, arith}
+use Rattle.std.proofs.Common.{◌≡◌, ℕ, suc, ◌+◌, ◌*◌, ◌^◌, ◌<◌, ◌≤◌, List, [], ◌∷◌, get_or, take, drop, length, ap, sym, ◌∙◌, subst, arith}
 use Rattle.std.proofs.lemmas.List.{get_or_default}
 use Rattle.std.proofs.lemmas.List.Elements.{All-take, All-drop, All-cons}
 use Rattle.std.specs.List.{sum_by}
@@ -29,17 +29,17 @@ module _ (l m : ℕ → ℕ) (count : ℕ) (same : (i : ℕ) → i < count → l
   pub amounts-same : (i : ℕ) (all : List Part) → All (λ part. All (λ j. j < count) part.own) all → amounts l all i ≡ amounts m all i
   amounts-same i all within = sum_by-among (amount l i) (amount m i) all (λ k d inside. amount-same i (get_or all k d) (within k d inside))
 
--- the places stand as after so many rounds, and there is room for the next
+-- the places stand as after so many rounds, and are to begin the next anew
 pub record Standing (begun : List ℕ) (all : List Part) (n : ℕ) (levels next : List ℕ) : Type 0 where
   pub as_many : length levels ≡ length begun
-  pub room : length next ≡ length begun
+  pub anew : next ≡ begun
   pub each : (i : ℕ) → i < length begun → at levels i ≡ placed_level begun all n i
 
-pub standing-start : (begun : List ℕ) (all : List Part) (levels next : List ℕ) → levels ≡ begun → length next ≡ length begun → Standing begun all 0 levels next
+pub standing-start : (begun : List ℕ) (all : List Part) (levels next : List ℕ) → levels ≡ begun → next ≡ begun → Standing begun all 0 levels next
 unfolding placed_level
-standing-start begun all levels next is room = record {
+standing-start begun all levels next is anew = record {
   as_many = ap (λ (xs : List ℕ). length xs) is;
-  room = room;
+  anew = anew;
   each = λ i within. ap (λ (xs : List ℕ). at xs i) is;
 }
 
@@ -52,14 +52,19 @@ module _ (begun : List ℕ) (all : List Part) (n : ℕ) (levels next : List ℕ)
     unfolding placed_level
     round-is i inside = ap (λ m. at begun i + m) (amounts-same (at levels) (placed_level begun all n) (length begun) standing.each i all within)
 
-    pub standing-fits : ((n i : ℕ) → i < length begun → placed_level begun all n i ≤ LEVEL_LIMIT) → (i : ℕ) → i < length begun → at begun i + amounts (at levels) all i < 2 ^ 64
-    standing-fits low i inside = omega (arith, round-is i inside, low (suc n) i inside)
+    pub standing-fits : ((n i : ℕ) → i < length begun → placed_level begun all n i ≤ LEVEL_LIMIT) → (i : ℕ) → i < length begun → at next i + amounts (at levels) all i < 2 ^ 64
+    standing-fits low i inside = omega (arith, ap (λ (xs : List ℕ). at xs i) standing.anew, round-is i inside, low (suc n) i inside)
 
-    pub standing-next : (raised : List ℕ) → IsRaised (amounts (at levels) all) begun raised → Standing begun all (n + 1) raised levels
-    standing-next raised adds = record {
-      as_many = adds.as_many;
-      room = standing.as_many;
-      each = λ i inside. adds.each i inside ∙ round-is i inside ∙ ap (λ m. placed_level begun all m i) next_number;
+    pub standing-next : (raised now later : List ℕ) → IsRaised (amounts (at levels) all) next raised → now ≡ raised → later ≡ begun → Standing begun all (n + 1) now later
+    standing-next raised now later adds is anew = record {
+      as_many = ap (λ (xs : List ℕ). length xs) is ∙ adds.as_many ∙ ap (λ (xs : List ℕ). length xs) standing.anew;
+      anew = anew;
+      each = λ i inside.
+          ap (λ (xs : List ℕ). at xs i) is
+          ∙ adds.each i (subst (λ (xs : List ℕ). i < length xs) (sym standing.anew) inside)
+          ∙ ap (λ (xs : List ℕ). at xs i + amounts (at levels) all i) standing.anew
+          ∙ round-is i inside
+          ∙ ap (λ m. placed_level begun all m i) next_number;
     }
       where
         next_number : suc n ≡ n + 1

@@ -1,10 +1,12 @@
 -- Rounds over places: each cell has a place, and of the facts of a spot, which share a region, each gives to the spot's places.
+use Rattle.iter_alloc.specs.declared.rounds.Place.{Place}
 use Rattle.iter_alloc.specs.declared.rounds.Span.{Span}
+use Rattle.iter_alloc.specs.declared.shares.Mass.{Mass}
 use Rattle.cube_model.specs.Limits.{MAX_CELLS}
 use Rattle.iter_alloc.specs.Forest.{at}
 use Rattle.iter_alloc.specs.Rounds.{share_by}
 use Rattle.std.specs.List.{sum_by}
-use Rattle.std.specs.Prelude.{All, ◌==◌, if◌then◌else◌, ◌≡◌, ℕ, zero, suc, ◌+◌, ◌*◌, ◌^◌, ◌<◌, ◌≤◌, List, [], ◌∷◌, length, take, drop}
+use Rattle.std.specs.Prelude.{All, ◌==◌, if◌then◌else◌, ◌≡◌, ℕ, zero, suc, ◌+◌, ◌*◌, ◌^◌, ◌<◌, ◌≤◌, List, [], ◌∷◌, length, map, take, drop, ◌/◌, ◌-◌}
 
 -- the places of a spot, and the number of its facts
 pub record Part : Type 0 where
@@ -39,6 +41,17 @@ LEVEL_LIMIT = 2 ^ 40
 
 abbrev pub AreLevels : List ℕ → Type 0
 AreLevels levels = All (λ level. level ≤ LEVEL_LIMIT) levels
+
+-- how places stand, and how they are to stand after the round
+abbrev pub levels_in : List Place → List ℕ
+levels_in places = map (λ place. place.level) places
+
+abbrev pub nexts_in : List Place → List ℕ
+nexts_in places = map (λ place. place.next) places
+
+-- if anything stands in its places, a mass has the most that its sum goes into a number of 64 bits
+abbrev pub HasInverse : Mass → Type 0
+HasInverse mass = 1 ≤ mass.sum → mass.inverse ≡ (2 ^ 64 - 1) / mass.sum
 
 -- spots have all of these places between them, which are below a count, and none has too many
 pub record ArePlaced (spans : List Span) (flat : List ℕ) (count : ℕ) : Type 0 where

@@ -14,6 +14,7 @@ mod marks;
 mod one_component;
 mod portions;
 mod rounds;
+mod shares;
 mod spots;
 mod totals;
 

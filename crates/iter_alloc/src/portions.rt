@@ -9,7 +9,7 @@ ghost use Rattle.iter_alloc.specs.Counting.{ArePlacedIn};
 ghost use Rattle.iter_alloc.specs.Forest.{at};
 ghost use Rattle.iter_alloc.specs.LaidOut.{AreOwnPlaces};
 ghost use Rattle.iter_alloc.specs.Marks.{AreMarks};
-ghost use Rattle.iter_alloc.specs.Places.{AreLevels, ArePlaced, LEVEL_LIMIT, Part, parts, placed_level};
+ghost use Rattle.iter_alloc.specs.Places.{AreLevels, ArePlaced, LEVEL_LIMIT, Part, levels_in, parts, placed_level};
 ghost use Rattle.iter_alloc.specs.Portions.{ArePortions, portion_in, portions_by};
 ghost use Rattle.iter_alloc.specs.Rounds.{start};
 ghost use Rattle.iter_alloc.specs.Spotting.{Spotted, spotted_all};
@@ -18,7 +18,8 @@ use crate::begun::begun_levels;
 use crate::claims::roots_of_spots;
 use crate::layout::{Layout, lay_out};
 use crate::marks::{marks_of, members_of};
-use crate::rounds::{UNIT, levels_after, mass_of, share};
+use crate::rounds::{Place, UNIT, places_after};
+use crate::shares::{mass_of, share};
 use crate::spots::Spots;
 use cube_base::Memory;
 use cube_model::Region;
@@ -92,47 +93,46 @@ fn laid_portions(
         (parts layout.now.spans.items layout.now.flat.items)) }
 {
     let begun = begun_levels(alloc, space, facts, &layout.cells)?;
-    let levels = levels_after(alloc, &begun, &layout.spans, &layout.flat, rounds)?;
-    portions_by_levels(alloc, layout, &levels, &space.inside(r))
+    let places = places_after(alloc, &begun, &layout.spans, &layout.flat, rounds)?;
+    portions_by_places(alloc, layout, &places, &space.inside(r))
 }
 
 /// The portions where the places stand so.
-fn portions_by_levels(
+fn portions_by_places(
     alloc: Global,
     layout: &Layout,
-    levels: &[u64],
+    places: &[Place],
     inside: &Inside<'_>,
 ) -> Result<Vec<u64>, Memory>
-    requires as_many { length levels.now ≡ length layout.now.cells.keys }
-    requires placed { ArePlaced layout.now.spans.items layout.now.flat.items (length levels.now) }
-    requires levels { AreLevels levels.now }
-    ensures { IfOk result (λ portions. portions.items ≡ map (portion_in (cells_inside inside.now) layout.now.cells.keys (at levels.now))
+    requires as_many { length places.now ≡ length layout.now.cells.keys }
+    requires placed { ArePlaced layout.now.spans.items layout.now.flat.items (length places.now) }
+    requires levels { AreLevels (levels_in places.now) }
+    ensures { IfOk result (λ portions. portions.items ≡ map (portion_in (cells_inside inside.now) layout.now.cells.keys (at (levels_in places.now)))
         (parts layout.now.spans.items layout.now.flat.items)) }
 {
     let mut portions = Vec::new(alloc);
     let mut rest = layout.flat.as_slice();
     for span in &layout.spans {
         let (own, behind) = rest.split_at(span.len);
-        portions.push(portion_of(&layout.cells, levels, own, inside))?;
+        portions.push(portion_of(&layout.cells, places, own, inside))?;
         rest = behind;
     }
     Ok(portions)
 }
 
 /// What of a fact that is shared among these places is in a region.
-fn portion_of(cells: &IndexSet<u64>, levels: &[u64], own: &[usize], inside: &Inside<'_>) -> u64
-    requires as_many { length levels.now ≡ length cells.now.keys }
-    requires within { All (λ i. i < length levels.now) own.now }
-    requires levels { AreLevels levels.now }
+fn portion_of(cells: &IndexSet<u64>, places: &[Place], own: &[usize], inside: &Inside<'_>) -> u64
+    requires as_many { length places.now ≡ length cells.now.keys }
+    requires within { All (λ i. i < length places.now) own.now }
+    requires levels { AreLevels (levels_in places.now) }
     requires few { length own.now ≤ MAX_CELLS }
-    ensures { result ≡ portion_in (cells_inside inside.now) cells.now.keys (at levels.now) (record { own = own.now; members = 0 }) }
+    ensures { result ≡ portion_in (cells_inside inside.now) cells.now.keys (at (levels_in places.now)) (record { own = own.now; members = 0 }) }
 {
-    let mass = mass_of(levels, own);
+    let mass = mass_of(places, own);
     let mut portion = 0;
     for i in own {
-        let place = *i;
-        if inside.holds(cells[place]) {
-            portion += share(levels[place], mass, own.len());
+        if inside.holds(cells[*i]) {
+            portion += share(places[*i].level, mass);
         }
     }
     portion
