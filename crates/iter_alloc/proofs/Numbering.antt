@@ -87,6 +87,25 @@ module _ (before keys begun flat cells : List ℕ) (are : AreNumbered before key
         own = insert-own keys cell are.own;
       })
 
+-- places are left free, which changes none
+pub free-start : (keys : List ℕ) → AreOwnPlaces keys → AreNumbered keys keys [] [] []
+free-start keys own = record { longer = omega arith; kept = λ x has. record { has = has; place = refl }; flat_is = refl; has = λ k d within. absurd (omega (arith, within)); own = own }
+
+pub free-behind : (before keys now begun flat cells : List ℕ) → AreNumbered before keys begun flat cells → AreNumbered keys now [] [] [] → AreNumbered before now begun flat cells
+free-behind before keys now begun flat cells are free = record {
+  longer = omega (arith, are.longer, free.longer);
+  kept = λ x has. let was = are.kept x has in let is = free.kept x was.has in record { has = is.has; place = is.place ∙ was.place };
+  flat_is = are.flat_is ∙ ap (λ (ps : List ℕ). begun ++ ps) (map-alike (place_in keys) (place_in now) cells (λ k d within. sym (free.kept (get_or cells k d) (are.has k d within)).place));
+  has = All-weaker (λ c. has_code keys c ≡ true) (λ c. has_code now c ≡ true) (λ c has. (free.kept c has).has) cells are.has;
+  own = free.own;
+}
+
+pub free-next : (before keys now : List ℕ) → AreNumbered before keys [] [] [] → (key : ℕ) → now ≡ insert_key nat_eq keys key → AreNumbered before now [] [] []
+free-next before keys now are key is =
+    subst (λ (ks : List ℕ). AreNumbered before ks [] [] []) (sym is)
+    (free-behind before keys (insert_key nat_eq keys key) [] [] [] are
+    (record { longer = insert-long keys key; kept = insert-kept keys key; flat_is = refl; has = λ k d within. absurd (omega (arith, within)); own = insert-own keys key are.own }))
+
 -- the cells of a region so far
 pub record Numbering (before begun cells done left keys flat : List ℕ) : Type 0 where
   pub all : done ++ left ≡ cells

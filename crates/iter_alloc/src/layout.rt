@@ -15,6 +15,13 @@ use indexmap::IndexSet;
 use region_algebra::Space;
 use std::alloc::Global;
 
+/// The fewest cells of a spot behind which places are left free.
+const MANY: usize = 64;
+
+/// How many places are left free there. Regions that cross, as rows and columns, would else have their cells so far apart that
+/// a cache has room for a few alone: with these they lie an odd number of its lines apart.
+const GAP: usize = 4;
+
 /// Cells at their places, and the places of the cells of each spot, one spot's behind the other's.
 #[derive(Debug, Drop)]
 pub(crate) struct Layout {
@@ -68,7 +75,20 @@ fn add_spot(
         return Ok(0);
     }
     add_cells(space, r, cells, flat)?;
-    Ok(space.cell_count(r) as usize)
+    let len = space.cell_count(r) as usize;
+    leave_free(cells, if len < MANY { 0 } else { GAP })?;
+    Ok(len)
+}
+
+/// Leaves so many places free: what has them is the code of no cell.
+fn leave_free(cells: &mut IndexSet<u64>, count: usize) -> Result<(), Memory>
+    requires { AreOwnPlaces cells.old.keys }
+    ensures { OnOk result (AreNumbered cells.old.keys cells.new.keys [] [] []) }
+{
+    for done in 0..count {
+        cells.insert(u64::MAX - cells.len() as u64)?;
+    }
+    Ok(())
 }
 
 /// Appends the places of a region's cells.
