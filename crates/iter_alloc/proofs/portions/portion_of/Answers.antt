@@ -7,7 +7,7 @@ use Rattle.iter_alloc.specs.Forest.{at}
 use Rattle.cube_model.specs.Cells.{is_among}
 use Rattle.iter_alloc.specs.Places.{levels_in}
 use Rattle.std.proofs.lemmas.Option.{get_or_from_slice_get}
-use Rattle.std.proofs.Common.{◌≡◌, ◌+◌, true, get_or, length, ap, sym, subst, ◌∙◌, arith}
+use Rattle.std.proofs.Common.{◌≡◌, ◌+◌, true, get_or, ap, sym, subst, ◌∙◌, arith}
 
 pub loop-i-init : goal.loop-i-init
 loop-i-init c = find-start c.args.inside.now c.args.cells.now.keys (levels_in c.args.places.now) c.args.own.now c.requires.few
