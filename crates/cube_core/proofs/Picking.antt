@@ -41,16 +41,16 @@ picked-cell dims extreme cells value rows are some =
     subst (λ cell. cell < length (all_cells dims)) one.is (All-contains (λ (row : ℕ × ℕ). row.0 < length (all_cells dims)) rows one.row are one.there)
 
 -- a fact is told to be imprecise, or not
-pub pushed-imprecise : (dims space : List Dimension) → space ≡ dims → (f : Fact) (imprecise : Bool) → imprecise ≡ not (is_precise space f) → imprecise ≡ true → (picks new : List (ℕ × ℕ)) (pair : ℕ × ℕ) → new ≡ picks ++ pair ∷ []
+pub pushed-imprecise : (dims : List Dimension) (f : Fact) (imprecise : Bool) → imprecise ≡ not (is_precise dims f) → imprecise ≡ true → (picks new : List (ℕ × ℕ)) (pair : ℕ × ℕ) → new ≡ picks ++ pair ∷ []
     → new ≡ picks ++ (if is_precise dims f then [] else pair ∷ [])
-pushed-imprecise dims space same f imprecise told is picks new pair pushed =
-    let many : is_precise dims f ≡ false = not-true (is_precise dims f) (sym (ap (λ ds. not (is_precise ds f)) same) ∙ sym told ∙ is) in
+pushed-imprecise dims f imprecise told is picks new pair pushed =
+    let many : is_precise dims f ≡ false = not-true (is_precise dims f) (sym told ∙ is) in
     pushed ∙ sym (ap (λ (b : Bool). picks ++ (if b then [] else pair ∷ [])) many)
 
-pub pushed-precise : (dims space : List Dimension) → space ≡ dims → (f : Fact) (imprecise : Bool) → imprecise ≡ not (is_precise space f) → imprecise ≡ false → (picks : List (ℕ × ℕ)) (pair : ℕ × ℕ)
+pub pushed-precise : (dims : List Dimension) (f : Fact) (imprecise : Bool) → imprecise ≡ not (is_precise dims f) → imprecise ≡ false → (picks : List (ℕ × ℕ)) (pair : ℕ × ℕ)
     → picks ≡ picks ++ (if is_precise dims f then [] else pair ∷ [])
-pushed-precise dims space same f imprecise told is picks pair =
-    let one : is_precise dims f ≡ true = not-false (is_precise dims f) (sym (ap (λ ds. not (is_precise ds f)) same) ∙ sym told ∙ is) in
+pushed-precise dims f imprecise told is picks pair =
+    let one : is_precise dims f ≡ true = not-false (is_precise dims f) (sym told ∙ is) in
     sym (ap (λ (b : Bool). picks ++ (if b then [] else pair ∷ [])) one ∙ append-nil picks)
 
 module _ (policy : Policy) (shape : ShapeValue) (dims : List Dimension) (facts : List Fact) (extreme : Extreme) (region : List ℕ) (column : ℕ) where

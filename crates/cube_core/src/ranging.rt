@@ -20,7 +20,7 @@ use cell_weight::WeightPolicy;
 use cube_base::{Memory, Pairs};
 use cube_model::{Fact, Region};
 use cube_state::{Ends, State, column_of};
-use region_algebra::{Inside, Space};
+use region_algebra::Inside;
 use std::alloc::Global;
 use world_range::{Extreme, pick};
 
@@ -81,8 +81,7 @@ fn picks_of<P: WeightPolicy + Drop>(
     ensures picks { IfOk result (λ picked. picked.picks ≡ picks_in P.weigh state.now extreme r column) }
     ensures cells { IfOk result (λ picked. All (λ pick. pick.1 < length (all_cells state.now.dims)) picked.picks) }
 {
-    let space = state.space();
-    let inside = space.inside(r);
+    let inside = state.space().inside(r);
     let mut sum = 0;
     let mut picks = Pairs::new(alloc);
     for fact in state.facts().iter() {
@@ -90,7 +89,7 @@ fn picks_of<P: WeightPolicy + Drop>(
         let value = column_of(fact, column);
         let cell = pick(extreme, value, spread.rows(), &inside);
         sum = with_own(sum, value, cell, &inside);
-        if is_imprecise(space, fact) {
+        if is_imprecise(state, fact) {
             picks.push((fact.id, cell))?;
         }
     }
@@ -110,12 +109,13 @@ fn spread_of<'a, P: WeightPolicy + Drop>(state: &'a State<P>, fact: &Fact) -> &'
     spread
 }
 
-/// Whether a fact is imprecise: its region has several cells, however many rows it has.
-fn is_imprecise(space: &Space, fact: &Fact) -> bool
-    requires { IsRegion space.now fact.now.region }
-    ensures { result ≡ not (is_precise space.now fact.now) }
+/// Whether a fact of a state is imprecise: its region has several cells, however many rows it has.
+fn is_imprecise<P: WeightPolicy + Drop>(state: &State<P>, fact: &Fact) -> bool
+    requires there { fact_of fact.now.id state.now.facts ≡ Some fact.now }
+    requires region { IsRegion state.now.dims fact.now.region }
+    ensures { result ≡ not (is_precise state.now.dims fact.now) }
 {
-    space.cell_count(fact.region) > 1
+    state.space().cell_count(fact.region) > 1
 }
 
 /// The sum with that of a fact that stands at a cell: its value if the cell is the region's.
