@@ -1,5 +1,10 @@
 pub mod Comparing
 pub mod Judging
+pub mod Kept
 pub mod Loaded
+pub mod Mended
 pub mod Once
+pub mod PutRight
+pub mod Putting
 pub mod Reading
+pub mod Walking

@@ -35,10 +35,13 @@ module _ (policy : Policy) (shape : ShapeValue) (dims : List Dimension) (content
       (subst (λ (rs : List KeptRows). IsRowsFault rs (rows_anew policy dims content) fault) rows_are (subst (λ (rs : List KeptRows). IsRowsFault rows rs fault) made is))
 
 -- the rows of a state over a policy, measures, a space and facts
-pub rows-of_state : {P : Type 0} (weigh : P → CellStat → ℕ) (state : StateValue P) (policy : P) (shape : ShapeValue) (dims : List Dimension) (facts : List Fact) → state.policy ≡ policy → state.shape ≡ shape → state.dims ≡ dims → state.facts ≡ facts
-    → map kept_rows (rows_in weigh state) ≡ map kept_rows (extended (policy_over (weigh policy) shape) dims facts)
-rows-of_state weigh state policy shape dims facts policy_is shape_is dims_are facts_are =
-    ap (λ p. map kept_rows (extended (policy_over (weigh p) state.shape) state.dims state.facts)) policy_is
-    ∙ ap (λ (s : ShapeValue). map kept_rows (extended (policy_over (weigh policy) s) state.dims state.facts)) shape_is
-    ∙ ap (λ (ds : List Dimension). map kept_rows (extended (policy_over (weigh policy) shape) ds state.facts)) dims_are
-    ∙ ap (λ (fs : List Fact). map kept_rows (extended (policy_over (weigh policy) shape) dims fs)) facts_are
+module _ {P : Type 0} (weigh : P → CellStat → ℕ) (state : StateValue P) (policy : P) (shape : ShapeValue) (dims : List Dimension) (facts : List Fact) (policy_is : state.policy ≡ policy) (shape_is : state.shape ≡ shape) (dims_are : state.dims ≡ dims) (facts_are : state.facts ≡ facts) where
+  pub extended-of_state : rows_in weigh state ≡ extended (policy_over (weigh policy) shape) dims facts
+  extended-of_state =
+      ap (λ p. extended (policy_over (weigh p) state.shape) state.dims state.facts) policy_is
+      ∙ ap (λ (s : ShapeValue). extended (policy_over (weigh policy) s) state.dims state.facts) shape_is
+      ∙ ap (λ (ds : List Dimension). extended (policy_over (weigh policy) shape) ds state.facts) dims_are
+      ∙ ap (λ (fs : List Fact). extended (policy_over (weigh policy) shape) dims fs) facts_are
+
+  pub rows-of_state : map kept_rows (rows_in weigh state) ≡ map kept_rows (extended (policy_over (weigh policy) shape) dims facts)
+  rows-of_state = ap (map kept_rows) extended-of_state

@@ -103,7 +103,7 @@ module _ (shape : ShapeValue) (dims : List Dimension) (kept : List KeptFact) whe
 
   -- facts of which none is refused are such as a cube may have
   module _ (good : AreGood shape dims kept) where
-    each-good : (place : ℕ) (d : KeptFact) → place < length kept → IsGood shape dims place (id_before kept place) (get_or kept place d)
+    pub each-good : (place : ℕ) (d : KeptFact) → place < length kept → IsGood shape dims place (id_before kept place) (get_or kept place d)
     each-good place d within =
         let at = slice_get-get_or kept place d within in
         good-fact shape dims place (id_before kept place) (get_or kept place d) (sym (fault-here place (id_before kept place) (get_or kept place d) at refl) ∙ good place)

@@ -1,5 +1,6 @@
 -- Small contents, judged by hand.
-use Rattle.std.specs.Prelude.{ℕ, List, [], ◌∷◌, map, pos}
+use Rattle.std.specs.Prelude.{ℕ, List, [], ◌∷◌, map, None, pos}
+use Rattle.fact_keeper.specs.declared.content.Batch.{Batch}
 use Rattle.fact_keeper.specs.declared.content.KeptFact.{KeptFact}
 use Rattle.fact_keeper.specs.declared.content.KeptRows.{KeptRows}
 use Rattle.fact_keeper.specs.declared.content.Stored.{Stored}
@@ -26,3 +27,7 @@ over_two id cell = record { id = id; den = 2; rows = (cell, 1) ∷ [] }
 -- a content of these facts and rows
 abbrev pub content_of : List KeptFact → List KeptRows → Stored
 content_of facts rows = record { schema = []; facts = facts; rows = rows }
+
+-- a batch that drops these ids and puts these rows
+abbrev pub batch_of : List ℕ → List KeptRows → Batch
+batch_of gone rows = record { schema = None; gone = gone; facts = []; rows = rows }

@@ -1,3 +1,4 @@
 pub mod Examples
 pub mod Loading
+pub mod Mending
 pub mod Sound

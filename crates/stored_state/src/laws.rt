@@ -1,13 +1,15 @@
-//! A law of findings, and examples that are computed from the definitions. The functions do nothing: each law is the contract.
+//! Laws of findings and of mending, and examples that are computed from the definitions. The functions do nothing: each law is the contract.
 ghost use Rattle.std.specs.Prelude.{◌≡◌, [], ◌∷◌, List, None, Some, map};
 ghost use Rattle.cube_base.specs.declared.code.Code.TheVariants as code;
 ghost use Rattle.cube_model.specs.Allocation.{Policy, by_count};
 ghost use Rattle.cube_model.specs.Tree.{Dimension};
+ghost use Rattle.fact_keeper.specs.Batch.{apply_batch};
 ghost use Rattle.fact_keeper.specs.declared.content.Stored.{Stored};
 ghost use Rattle.fact_records.specs.Examples.{one_number};
 ghost use Rattle.fact_records.specs.Shape.{ShapeValue};
 ghost use Rattle.region_algebra.specs.Examples.{small_space};
-ghost use Rattle.stored_state.specs.Examples.{content_of, facts_of, kept_at, over_two, two_facts, whole_at};
+ghost use Rattle.stored_state.specs.Examples.{batch_of, content_of, facts_of, kept_at, over_two, two_facts, whole_at};
+ghost use Rattle.stored_state.specs.Mending.{IsMendable, changed_by, mended, mended_batch};
 ghost use Rattle.stored_state.specs.Sound.{IsFinding, IsSound, fact_fault, fault_at};
 ghost use Rattle.stored_state.specs.declared.finding.Finding.{Finding};
 ghost use Rattle.stored_state.specs.declared.finding.Finding.TheVariants as finding;
@@ -38,4 +40,31 @@ pub fn worked_rows()
     ensures den { IsFinding by_count one_number small_space (content_of two_facts (over_two 1 0 ∷ whole_at 2 0 ∷ [])) (finding.Rows 0 (Some (over_two 1 0)) (Some (whole_at 1 0))) }
     ensures missing { IsFinding by_count one_number small_space (content_of two_facts (whole_at 1 0 ∷ [])) (finding.Rows 1 None (Some (whole_at 2 0))) }
     ensures more { IsFinding by_count one_number small_space (content_of two_facts (whole_at 1 0 ∷ whole_at 2 0 ∷ whole_at 3 0 ∷ [])) (finding.Rows 2 (Some (whole_at 3 0)) None) }
+{}
+
+/// Where a content's facts are sound, the batch of mending leaves the content with the rows that they make, which is sound. It changes
+/// nothing exactly where the content was sound.
+pub fn mending_makes_sound()
+    ensures applied { (policy : Policy) (shape : ShapeValue) (dims : List Dimension) (content : Stored)
+        → IsMendable policy shape dims content → apply_batch (mended_batch policy dims content) content ≡ mended policy dims content }
+    ensures sound { (policy : Policy) (shape : ShapeValue) (dims : List Dimension) (content : Stored)
+        → IsMendable policy shape dims content → IsSound policy shape dims (mended policy dims content) }
+    ensures needless { (policy : Policy) (shape : ShapeValue) (dims : List Dimension) (content : Stored)
+        → IsSound policy shape dims content → changed_by (mended_batch policy dims content) ≡ 0 }
+    ensures was_sound { (policy : Policy) (shape : ShapeValue) (dims : List Dimension) (content : Stored)
+        → IsMendable policy shape dims content → changed_by (mended_batch policy dims content) ≡ 0 → IsSound policy shape dims content }
+{}
+
+/// Batches of mending that were worked out by hand, of two facts on the first cell. Rows that are kept as they must be are left; others
+/// are put, and so are missing ones; rows of no fact are gone, each entry with its id; and where the entries do not ascend, or an id
+/// stands twice, the rows of all facts are put.
+pub fn worked_mending()
+    ensures sound { mended_batch by_count small_space (content_of two_facts (whole_at 1 0 ∷ whole_at 2 0 ∷ [])) ≡ batch_of [] [] }
+    ensures cell { mended_batch by_count small_space (content_of two_facts (whole_at 1 0 ∷ whole_at 2 1 ∷ [])) ≡ batch_of [] (whole_at 2 0 ∷ []) }
+    ensures den { mended_batch by_count small_space (content_of two_facts (over_two 1 0 ∷ whole_at 2 0 ∷ [])) ≡ batch_of [] (whole_at 1 0 ∷ []) }
+    ensures missing { mended_batch by_count small_space (content_of two_facts (whole_at 2 0 ∷ [])) ≡ batch_of [] (whole_at 1 0 ∷ []) }
+    ensures stray { mended_batch by_count small_space (content_of two_facts (whole_at 1 0 ∷ whole_at 2 0 ∷ whole_at 3 0 ∷ [])) ≡ batch_of (3 ∷ []) [] }
+    ensures order { mended_batch by_count small_space (content_of two_facts (whole_at 2 0 ∷ whole_at 1 0 ∷ [])) ≡ batch_of [] (whole_at 1 0 ∷ whole_at 2 0 ∷ []) }
+    ensures twice { mended_batch by_count small_space (content_of two_facts (whole_at 1 0 ∷ whole_at 1 1 ∷ whole_at 2 0 ∷ [])) ≡ batch_of [] (whole_at 1 0 ∷ whole_at 2 0 ∷ []) }
+    ensures strays { mended_batch by_count small_space (content_of two_facts (whole_at 9 0 ∷ whole_at 0 0 ∷ whole_at 9 1 ∷ whole_at 2 0 ∷ [])) ≡ batch_of (9 ∷ 0 ∷ 9 ∷ []) (whole_at 1 0 ∷ whole_at 2 0 ∷ []) }
 {}

@@ -54,7 +54,7 @@ fn check_fact<P: WeightPolicy + Drop>(
 }
 
 /// The allocation of the fact of an id, whose step is not counted.
-fn look_up<L: Ledger, P: WeightPolicy + Drop>(
+pub(crate) fn look_up<L: Ledger, P: WeightPolicy + Drop>(
     state: &State<P>,
     id: u64,
     blank: Blank,
@@ -119,7 +119,7 @@ fn is_kept(kept: Option<&KeptRows>, id: u64, spread: &Alloc) -> bool
 }
 
 /// Whether kept rows are those of a fact of this id, which is spread so.
-fn are_rows_of(kept: &KeptRows, id: u64, spread: &Alloc) -> bool
+pub(crate) fn are_rows_of(kept: &KeptRows, id: u64, spread: &Alloc) -> bool
     ensures { result ≡ (kept.now.id == id && is_same (spread_told kept.now) spread.now) }
 {
     kept.id == id && is_spread(kept, spread)
@@ -147,7 +147,7 @@ fn share_kept(kept: Option<&KeptRows>) -> Result<Option<KeptRows>, Memory>
 }
 
 /// The rows of a fact of this id, which is spread so, as they are kept. They share their storage.
-fn rows_of(id: u64, spread: &Alloc) -> Result<KeptRows, Memory>
+pub(crate) fn rows_of(id: u64, spread: &Alloc) -> Result<KeptRows, Memory>
     ensures { IfOk result (λ rows. rows ≡ rows_told id spread.now) }
 {
     Ok(KeptRows {
