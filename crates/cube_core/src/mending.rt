@@ -1,0 +1,46 @@
+//! The rows of a stored content put right over a schema.
+ghost use Rattle.std.specs.Prelude.{◌≡◌, IfErr, IfOk, OnOk, length};
+ghost use Rattle.fact_keeper.specs.Batch.{apply_batch};
+ghost use Rattle.schema_text.specs.Schema.{policy_in, shape_of};
+ghost use Rattle.stored_state.specs.Mending.{IsMendFault, IsMendable, mended, mended_batch};
+ghost use Rattle.stored_state.specs.Sound.{IsSound, rows_counted};
+
+use crate::Cube;
+use cell_weight::WeightPolicy;
+use fact_keeper::Stored;
+use schema_text::Schema;
+use std::alloc::Global;
+use stored_state::{LoadFault, Mending, mend_rows};
+
+impl<P: WeightPolicy + Drop> Cube<P> {
+    /// What puts the rows of a stored content right, which weighs cells by this policy: behind its batch the content is sound, and the
+    /// batch is empty where it was. `Bad` is answered exactly where the facts of the content are not sound over the schema, with what
+    /// is found first, and the one other error is want of memory. Whatever rows are kept, they are no error. The text of the content's
+    /// schema, which must read as this one, is not looked at. It takes time in proportion to the facts and rows, with a search for each
+    /// fact and each kept entry.
+    pub fn mend_rows(
+        alloc: Global,
+        schema: &Schema,
+        stored: &Stored,
+        policy: P,
+    ) -> Result<Mending, LoadFault>
+        ensures batch { IfOk result (λ m. m.batch ≡ mended_batch (policy_in (P.weigh policy) schema.now) schema.now.dims stored.now) }
+        ensures facts { IfOk result (λ m. m.facts ≡ length stored.now.facts) }
+        ensures rows { IfOk result (λ m. m.rows ≡ rows_counted (policy_in (P.weigh policy) schema.now) schema.now.dims stored.now) }
+        ensures applied { IfOk result (λ m. apply_batch m.batch stored.now ≡ mended (policy_in (P.weigh policy) schema.now) schema.now.dims stored.now) }
+        ensures sound { OnOk result (IsSound (policy_in (P.weigh policy) schema.now) (shape_of schema.now) schema.now.dims (mended (policy_in (P.weigh policy) schema.now) schema.now.dims stored.now)) }
+        ensures mendable { OnOk result (IsMendable (policy_in (P.weigh policy) schema.now) (shape_of schema.now) schema.now.dims stored.now) }
+        ensures fault { IfErr result (IsMendFault (policy_in (P.weigh policy) schema.now) (shape_of schema.now) schema.now.dims stored.now) }
+    {
+        let space = schema.space().copy()?;
+        let shape = match schema.shape().copy() {
+            Ok(shape) => shape,
+            Err(fault) => {
+                // Dropped by a call, which is proved once.
+                drop(space);
+                return Err(LoadFault::from(fault));
+            }
+        };
+        mend_rows(alloc, space, shape, policy, stored)
+    }
+}
