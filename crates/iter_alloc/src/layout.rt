@@ -22,11 +22,11 @@ const MANY: usize = 64;
 /// a cache has room for a few alone: with these they lie an odd number of its lines apart.
 const GAP: usize = 4;
 
-/// Cells at their places, and the places of the cells of each spot, one spot's behind the other's.
+/// Cells at their places, some of which are free, and the places of the cells of each spot, one spot's behind the other's.
 #[derive(Debug, Drop)]
 pub(crate) struct Layout {
     pub(crate) cells: IndexSet<u64>,
-    pub(crate) flat: Vec<usize>,
+    pub(crate) flat: Vec<u32>,
     pub(crate) spans: Vec<Span>,
 }
 
@@ -63,7 +63,7 @@ fn add_spot(
     r: Region,
     is_marked: bool,
     cells: &mut IndexSet<u64>,
-    flat: &mut Vec<usize>,
+    flat: &mut Vec<u32>,
 ) -> Result<usize, Memory>
     requires region { IsRegion space.now r }
     requires size { length (cells_of space.now r) ≤ MAX_CELLS }
@@ -96,7 +96,7 @@ fn add_cells(
     space: &Space,
     r: Region,
     cells: &mut IndexSet<u64>,
-    flat: &mut Vec<usize>,
+    flat: &mut Vec<u32>,
 ) -> Result<(), Memory>
     requires region { IsRegion space.now r }
     requires own { AreOwnPlaces cells.old.keys }
@@ -110,10 +110,11 @@ fn add_cells(
 }
 
 /// The place of a cell, which is a new one where the cell has none.
-fn place_of(cells: &mut IndexSet<u64>, cell: u64) -> Result<usize, Memory>
+fn place_of(cells: &mut IndexSet<u64>, cell: u64) -> Result<u32, Memory>
     ensures keys { OnOk result (cells.new.keys ≡ insert_key nat_eq cells.old.keys cell) }
     ensures place { IfOk result (λ place. place ≡ place_in cells.old.keys cell) }
 {
     let (place, _) = cells.insert_full(cell)?;
-    Ok(place)
+    // No set has so many keys that this fails.
+    u32::try_from(place).map_err(|_| Memory)
 }

@@ -121,7 +121,7 @@ fn portions_by_places(
 }
 
 /// What of a fact that is shared among these places is in a region.
-fn portion_of(cells: &IndexSet<u64>, places: &[Place], own: &[usize], inside: &Inside<'_>) -> u64
+fn portion_of(cells: &IndexSet<u64>, places: &[Place], own: &[u32], inside: &Inside<'_>) -> u64
     requires as_many { length places.now ≡ length cells.now.keys }
     requires within { All (λ i. i < length places.now) own.now }
     requires levels { AreLevels (levels_in places.now) }
@@ -131,8 +131,9 @@ fn portion_of(cells: &IndexSet<u64>, places: &[Place], own: &[usize], inside: &I
     let mass = mass_of(places, own);
     let mut portion = 0;
     for i in own {
-        if inside.holds(cells[*i]) {
-            portion += share(places[*i].level, mass);
+        let place = *i as usize;
+        if inside.holds(cells[place]) {
+            portion += share(places[place].level, mass);
         }
     }
     portion

@@ -30,7 +30,7 @@ pub(crate) fn places_after(
     alloc: Global,
     begun: &[u64],
     spans: &[Span],
-    flat: &[usize],
+    flat: &[u32],
     rounds: u32,
 ) -> Result<Vec<Place>, Memory>
     requires placed { ArePlaced spans.now flat.now (length begun.now) }
@@ -76,7 +76,7 @@ fn end_round(places: &mut [Place], begun: &[u64])
 }
 
 /// Adds to each place what it gets in a round.
-fn add_round(places: &mut [Place], spans: &[Span], flat: &[usize])
+fn add_round(places: &mut [Place], spans: &[Span], flat: &[u32])
     requires placed { ArePlaced spans.now flat.now (length places.old) }
     requires levels { AreLevels (levels_in places.old) }
     requires fits { (i : ℕ) → i < length places.old → at (nexts_in places.old) i + amounts (at (levels_in places.old)) (parts spans.now flat.now) i < 2 ^ 64 }
@@ -92,7 +92,7 @@ fn add_round(places: &mut [Place], spans: &[Span], flat: &[usize])
 }
 
 /// Adds to each of a spot's places what it gets of the facts of the spot.
-fn add_shares(places: &mut [Place], own: &[usize], members: u64)
+fn add_shares(places: &mut [Place], own: &[u32], members: u64)
     requires within { All (λ i. i < length places.old) own.now }
     requires levels { AreLevels (levels_in places.old) }
     requires few { length own.now ≤ MAX_CELLS }
@@ -102,7 +102,8 @@ fn add_shares(places: &mut [Place], own: &[usize], members: u64)
 {
     let mass = mass_of(places, own);
     for i in own {
-        let given = members * share(places[*i].level, mass);
-        places[*i].next += given;
+        let place = *i as usize;
+        let given = members * share(places[place].level, mass);
+        places[place].next += given;
     }
 }

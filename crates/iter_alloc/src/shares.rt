@@ -21,7 +21,7 @@ pub(crate) struct Mass {
 }
 
 /// How much stands in these places.
-pub(crate) fn mass_of(places: &[Place], own: &[usize]) -> Mass
+pub(crate) fn mass_of(places: &[Place], own: &[u32]) -> Mass
     requires within { All (λ i. i < length places.now) own.now }
     requires levels { AreLevels (levels_in places.now) }
     requires few { length own.now ≤ MAX_CELLS }
@@ -38,7 +38,7 @@ pub(crate) fn mass_of(places: &[Place], own: &[usize]) -> Mass
 }
 
 /// The sum of what stands in these places.
-fn sum_of(places: &[Place], own: &[usize]) -> u64
+fn sum_of(places: &[Place], own: &[u32]) -> u64
     requires within { All (λ i. i < length places.now) own.now }
     requires levels { AreLevels (levels_in places.now) }
     requires few { length own.now ≤ MAX_CELLS }
@@ -46,7 +46,7 @@ fn sum_of(places: &[Place], own: &[usize]) -> u64
 {
     let mut sum = 0;
     for i in own {
-        sum += places[*i].level;
+        sum += places[*i as usize].level;
     }
     sum
 }
