@@ -49,7 +49,7 @@ levels_in places = map (λ place. place.level) places
 abbrev pub nexts_in : List Place → List ℕ
 nexts_in places = map (λ place. place.next) places
 
--- if anything stands in its places, a mass has the most that its sum goes into a number of 64 bits
+-- if anything stands in its places, a mass tells how often its sum goes into 2^64 - 1
 abbrev pub HasInverse : Mass → Type 0
 HasInverse mass = 1 ≤ mass.sum → mass.inverse ≡ (2 ^ 64 - 1) / mass.sum
 

@@ -18,8 +18,8 @@ use std::alloc::Global;
 /// The fewest cells of a spot behind which places are left free.
 const MANY: usize = 64;
 
-/// How many places are left free there. Regions that cross, as rows and columns, would else have their cells so far apart that
-/// a cache has room for a few alone: with these they lie an odd number of its lines apart.
+/// How many places are left free there, a line of a cache. Where rows cross columns of a power of two, the cells of a row would
+/// else lie a power of two apart, and a cache has room for a few such lines alone.
 const GAP: usize = 4;
 
 /// Cells at their places, some of which are free, and the places of the cells of each spot, one spot's behind the other's.

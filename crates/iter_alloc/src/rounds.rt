@@ -18,7 +18,7 @@ pub(crate) struct Span {
     pub(crate) members: u64,
 }
 
-/// How a place stands, and how it is to stand after the round. They lie side by side, since whoever changes one reads the other.
+/// How a place stands, and how it is to stand after the round. The two lie side by side, so that one line of a cache has both.
 #[derive(Clone, Copy, Debug)]
 pub(crate) struct Place {
     pub(crate) level: u64,

@@ -16,7 +16,7 @@ const NUMBERS: u128 = 1 << 64;
 pub(crate) struct Mass {
     pub(crate) sum: u64,
     pub(crate) count: usize,
-    // The most that the sum goes into a number of 64 bits. A product with it takes a few steps, a division many.
+    // How often the sum goes into 2^64 - 1, if anything stands there. A product with it takes a few steps, a division many.
     pub(crate) inverse: u64,
 }
 
