@@ -1,15 +1,19 @@
 #!/usr/bin/env python3
-"""Times questions of large cubes through the built program: questions.py PROGRAM [RUNS]
+"""Times questions of large cubes through the built program: questions.py PROGRAM [RUNS [WORD]]
 
 Of each line are printed the milliseconds of a processor, as the difference of a script with the line some times and one without, the megabytes
-that the script with it took more, and how many times another line's milliseconds these are.
+that the script with it took more, and how many times another line's milliseconds these are. With a WORD only the jobs of this name are done:
+`mixed`, `component` or `sides`. The last are over stores that are made by `import`, and run beside a script without lines over the same store,
+so that what it takes to open the store is in no figure.
 """
+import os
+import statistics
 import sys
 import tempfile
 
 sys.dont_write_bytecode = True
 
-from engine import Bench, Tree, line, mixed, schema
+from engine import Bench, Tree, line, mixed, run, schema
 
 WHOLE = ("All", "All", "All")
 FACTS = 2**20
@@ -36,30 +40,84 @@ def one_component(*asked):
     return make
 
 
+def on_both_sides(program, folder, regions):
+    """A store of 2^20 imported facts in so many regions, each of which has one cell in p0.0 and one in p0.1."""
+    dims = Tree("Place", 1, 2), Tree("Time", regions, 0)
+    store, text = os.path.join(folder, f"sides{regions}.cube"), os.path.join(folder, "text")
+    with open(text, "w") as schema_text:
+        schema_text.write(schema("count", ["Amount"], dims, []))
+    run([program, "init", store], text, os.devnull)
+    with open(text, "w") as file:
+        file.write("id,Place,Time,Amount\n")
+        file.writelines(f"{i},p0,t{i % regions},{i * 7919 % 2001 - 1000}\n" for i in range(1, FACTS + 1))
+    run([program, "import", store], text, os.devnull)
+    return store
+
+
 class Questions(Bench):
     def ask(self, name, cube, asked, times, beside=None):
         """Milliseconds of a line over a cube, and how many times those of a line before."""
-        (few, before), (many, after) = self.measure(cube())[0], self.measure(cube(*[asked] * times))[0]
-        each = (many - few) / times * 1000
-        ratio = f"   {each / beside:5.1f} times" if beside else ""
-        print(f"{name:44} {each:9.2f} ms {after - before:7.1f} MB{ratio}", flush=True)
+        without, with_lines = self.measure(cube())[0], self.measure(cube(*[asked] * times))[0]
+        each = (with_lines[0] - without[0]) / times * 1000
+        return self.tell_line(name, times, without, with_lines, f"   {each / beside:5.1f} times" if beside else "")
+
+    def ask_stored(self, name, store, asked, times):
+        """The same over a store, and the megabytes of a reply."""
+        without, with_lines = self.measure_stored(store, []), self.measure_stored(store, [asked] * times)
+        reply = os.path.getsize(os.path.join(self.folder, "printed")) / times / 2**20
+        self.tell_line(name, times, without, with_lines, f"   a reply of {reply:.1f} MB")
+
+    def measure_stored(self, store, lines):
+        """Median seconds and megabytes of a script over a store."""
+        script, sink = os.path.join(self.folder, "script"), os.path.join(self.folder, "printed")
+        with open(script, "w") as text:
+            text.writelines(lines)
+        taken = [run([self.programs[0], "run", store], script, sink) for _ in range(self.runs)]
+        return statistics.median(s for s, _ in taken), max(m for _, m in taken)
+
+    def tell_line(self, name, times, without, with_lines, more=""):
+        each = (with_lines[0] - without[0]) / times * 1000
+        print(f"{name:44} {each:9.2f} ms {with_lines[1] - without[1]:7.1f} MB{more}", flush=True)
         return each
 
 
-def main(program, runs=3):
+def mixed_jobs(bench):
+    whole = bench.ask("mixed: terms of the whole", of_mixed, line("terms", *WHOLE), 20)
+    bench.ask("mixed: a table of 3,328 regions", of_mixed, line("counts", 2, 2, 0, *WHOLE), 20, whole)
+    bench.ask("mixed: a table of 64 regions", of_mixed, line("sums", "Amount", 2, 0, 0, *WHOLE), 20, whole)
+    region = ("p1", "t1.2", "All")
+    part = bench.ask("mixed: terms of a region", of_mixed, line("terms", *region), 20_000)
+    bench.ask("mixed: range of it", of_mixed, line("range", "Amount", *region), 20_000, part)
+    bench.ask("mixed: rangecount of it", of_mixed, line("rangecount", *region), 20_000, part)
+    found = bench.ask("mixed: component", of_mixed, line("component", 100_000), 100)
+    bench.ask("mixed: 32 rounds of a small component", of_mixed, line("iterate", 32, "p1.2", "t1.2", "k1"), 100, found)
+
+
+def component_jobs(bench):
+    bench.ask("2^21 cells in one component: component", one_component, line("component", FACTS), 3)
+    bench.ask("2^21 cells in one component: 32 rounds", one_component, line("iterate", 32, "p3", "All"), 3)
+
+
+def sides_jobs(bench):
+    """The ends of sums over 2^20 facts on both sides of the asked region's border, by the number of their regions."""
+    region = ("p0.0", "All")
+    for regions in 1, 16, 1024:
+        store = on_both_sides(bench.programs[0], bench.folder, regions)
+        bench.ask_stored(f"both sides, in {regions} regions: range", store, line("range", "Amount", *region), 20)
+        bench.ask_stored(f"both sides, in {regions} regions: rangecount", store, line("rangecount", *region), 20)
+        bench.ask_stored(f"both sides, in {regions} regions: least", store, line("least", "Amount", *region), 4)
+        os.remove(store)
+
+
+JOBS = {"mixed": mixed_jobs, "component": component_jobs, "sides": sides_jobs}
+
+
+def main(program, runs=3, word=None):
     with tempfile.TemporaryDirectory() as folder:
         bench = Questions(int(runs), [program], folder)
-        whole = bench.ask("mixed: terms of the whole", of_mixed, line("terms", *WHOLE), 20)
-        bench.ask("mixed: a table of 3,328 regions", of_mixed, line("counts", 2, 2, 0, *WHOLE), 20, whole)
-        bench.ask("mixed: a table of 64 regions", of_mixed, line("sums", "Amount", 2, 0, 0, *WHOLE), 20, whole)
-        region = ("p1", "t1.2", "All")
-        part = bench.ask("mixed: terms of a region", of_mixed, line("terms", *region), 20_000)
-        bench.ask("mixed: range of it", of_mixed, line("range", "Amount", *region), 20_000, part)
-        bench.ask("mixed: rangecount of it", of_mixed, line("rangecount", *region), 20_000, part)
-        found = bench.ask("mixed: component", of_mixed, line("component", 100_000), 100)
-        bench.ask("mixed: 32 rounds of a small component", of_mixed, line("iterate", 32, "p1.2", "t1.2", "k1"), 100, found)
-        bench.ask("2^21 cells in one component: component", one_component, line("component", FACTS), 3)
-        bench.ask("2^21 cells in one component: 32 rounds", one_component, line("iterate", 32, "p3", "All"), 3)
+        for name, jobs in JOBS.items():
+            if word in (None, name):
+                jobs(bench)
     return 0
 
 
