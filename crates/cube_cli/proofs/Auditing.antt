@@ -47,3 +47,10 @@ fields-joined word a b = simp (append_assoc, append-nil)
 
 pub two_fields : (word a b t0 t1 t2 all : List ℕ) → t0 ≡ word → t1 ≡ t0 ++ 9 ∷ a → t2 ≡ t1 ++ 9 ∷ b → all ≡ t2 ++ 10 ∷ [] → all ≡ line_text word (a ∷ b ∷ [])
 two_fields word a b t0 t1 t2 all e0 e1 e2 end = end ∙ ap (λ t. t ++ 10 ∷ []) (e2 ∙ ap (λ t. t ++ 9 ∷ b) (e1 ∙ ap (λ t. t ++ 9 ∷ a) e0) ∙ fields-joined word a b)
+
+three-joined : (word a b d : List ℕ) → ((word ++ 9 ∷ a) ++ 9 ∷ b) ++ 9 ∷ d ≡ word ++ flat_map (λ field. 9 ∷ field) (a ∷ b ∷ d ∷ [])
+three-joined word a b d = simp (append_assoc, append-nil)
+
+pub three_fields : (word a b d t0 t1 t2 t3 all : List ℕ) → t0 ≡ word → t1 ≡ t0 ++ 9 ∷ a → t2 ≡ t1 ++ 9 ∷ b → t3 ≡ t2 ++ 9 ∷ d → all ≡ t3 ++ 10 ∷ [] → all ≡ line_text word (a ∷ b ∷ d ∷ [])
+three_fields word a b d t0 t1 t2 t3 all e0 e1 e2 e3 end =
+    end ∙ ap (λ t. t ++ 10 ∷ []) (e3 ∙ ap (λ t. t ++ 9 ∷ d) (e2 ∙ ap (λ t. t ++ 9 ∷ b) (e1 ∙ ap (λ t. t ++ 9 ∷ a) e0)) ∙ three-joined word a b d)

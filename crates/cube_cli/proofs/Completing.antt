@@ -11,6 +11,7 @@ use Rattle.fact_keeper.specs.declared.content.Stored.{Stored}
 use Rattle.fact_records.specs.Shape.{ShapeValue}
 use Rattle.schema_text.specs.Schema.{SchemaValue, shape_of}
 use Rattle.schema_text.specs.SchemaText.{BadLine, schema_of}
+use Rattle.stored_state.specs.Mending.{IsMendable}
 use Rattle.stored_state.specs.Sound.{IsFinding, IsSound}
 use Rattle.stored_state.specs.declared.finding.Finding.{Finding}
 use Rattle.stored_state.specs.declared.finding.Finding.TheVariants as finding
@@ -18,16 +19,16 @@ use Rattle.script_run.specs.Seen.{KeeperSeen, SeenAll, SourceSeen}
 use Rattle.line_cutter.specs.Input.{INPUT_LIMIT, GoesOn}
 use Rattle.cube_cli.specs.declared.command.Command.{Command}
 use Rattle.cube_cli.specs.declared.command.Command.TheVariants.{Drill, Store, Try}
-use Rattle.cube_cli.specs.declared.command.StoreCommand.TheVariants.{Ask, Init, Input, Tell}
+use Rattle.cube_cli.specs.declared.command.StoreCommand.TheVariants.{Ask, Init, Input, Rebuild, Tell}
 use Rattle.cube_cli.specs.declared.store.InputTask.TheVariants.{Run, Import}
 use Rattle.cube_cli.specs.declared.end.End.{End}
 use Rattle.cube_cli.specs.declared.end.End.TheVariants.{Finished, Usage, Schema, NoCube, HasCube, BadStore, ReadFault, WriteFault, KeepFault, Memory, TooLong, BadRecord, ImportRows}
 use Rattle.cube_cli.specs.Doing.{Fits, doing_of, ends_of}
 use Rattle.cube_cli.specs.End.{IsCompleteOf, IsDone, SaysAsked}
-use Rattle.cube_cli.specs.Kinds.{IsAmong}
+use Rattle.cube_cli.specs.Kinds.{IsAmong, is_of_rows}
 use Rattle.cube_cli.specs.SchemaAlone.{schema_alone}
 use Rattle.cube_cli.specs.Seen.{Holds, OfContent, OfInput}
-use Rattle.cube_cli.specs.Store.{Finds, FindsBy, IsSoundContent, IsSoundOver, policy_of}
+use Rattle.cube_cli.specs.Store.{Finds, FindsBy, IsMendableContent, IsMendableOver, IsSoundContent, IsSoundOver, policy_of}
 use Rattle.cube_cli.proofs.Known.{each_content, each_input, told-weaker}
 
 -- an input that goes on behind the limit is longer
@@ -60,6 +61,27 @@ nothing_found content found sound finds = by (schema_alone content.schema) sound
     by (Err bad) sound is = sound
     by (Ok schema) sound is = none_found (policy_of schema) (shape_of schema) schema.dims content found sound is
 
+-- in one whose schema and facts are sound nothing is found but in its rows
+none_but_rows : (policy : Policy) (shape : ShapeValue) (dims : List Dimension) (content : Stored) (found : Finding) → is_of_rows found ≡ false → IsMendable policy shape dims content
+    → IsFinding policy shape dims content found → ⊥
+none_but_rows policy shape dims content (finding.Schema at why) other mendable is = is
+none_but_rows policy shape dims content (finding.Fact place id why) other mendable is = absurd (cc (mendable.good place, is.refused))
+none_but_rows policy shape dims content (finding.TooManyRows would) other mendable is = absurd (omega (arith, is.many, is.count, mendable.few))
+none_but_rows policy shape dims content (finding.Rows place kept anew) other mendable is = absurd (cc other)
+
+nothing_but_rows : (content : Stored) (found : Finding) → is_of_rows found ≡ false → IsMendableContent content → Finds content found → ⊥
+nothing_but_rows content found other mendable finds = by (schema_alone content.schema) mendable finds
+  where
+    by : (read : Result SchemaValue BadLine) → IsOkAnd read (λ schema. IsMendableOver schema content) → FindsBy read content found → ⊥
+    by (Err bad) mendable is = mendable
+    by (Ok schema) mendable is = none_but_rows (policy_of schema) (shape_of schema) schema.dims content found other mendable is
+
+not_of_rows : (line : List ℕ) (found : Finding) → IsAmong (ends_of (Some (Store Rebuild))) (BadStore found) → is_of_rows found ≡ false
+not_of_rows line (finding.Schema at why) may = refl
+not_of_rows line (finding.Fact place id why) may = refl
+not_of_rows line (finding.TooManyRows would) may = refl
+not_of_rows line (finding.Rows place kept anew) may = absurd (cc may)
+
 -- and there is something in it
 empty_schema : schema_alone [] ≡ Err (record { line = 1; reason = code.Cut })
 unfolding schema_of
@@ -67,6 +89,9 @@ empty_schema = refl
 
 not_empty : (content : Stored) → IsSoundContent content → content ≡ empty_content → ⊥
 not_empty content sound none = subst (λ r. IsOkAnd r (λ schema. IsSoundOver schema content)) (ap (λ (c : Stored). schema_alone c.schema) none ∙ empty_schema) sound
+
+not_empty_mendable : (content : Stored) → IsMendableContent content → content ≡ empty_content → ⊥
+not_empty_mendable content mendable none = subst (λ r. IsOkAnd r (λ schema. IsMendableOver schema content)) (ap (λ (c : Stored). schema_alone c.schema) none ∙ empty_schema) mendable
 
 -- which commands may give an end
 reads_failing : (line : List ℕ) (command : Option Command) (done : ℕ) → IsAmong (ends_of command) (ReadFault done) → (doing_of line command).reads ≡ true
@@ -77,6 +102,7 @@ reads_failing line (Some (Store Init)) done may = refl
 reads_failing line (Some (Store (Input Run))) done may = refl
 reads_failing line (Some (Store (Input Import))) done may = refl
 reads_failing line (Some (Store Ask)) done may = absurd (cc may)
+reads_failing line (Some (Store Rebuild)) done may = absurd (cc may)
 reads_failing line (Some (Store (Tell telling))) done may = absurd (cc may)
 
 reads_long : (line : List ℕ) (command : Option Command) (done : ℕ) → IsAmong (ends_of command) (TooLong done) → (doing_of line command).reads ≡ true
@@ -87,6 +113,7 @@ reads_long line (Some (Store Init)) done may = refl
 reads_long line (Some (Store (Input Run))) done may = refl
 reads_long line (Some (Store (Input Import))) done may = refl
 reads_long line (Some (Store Ask)) done may = absurd (cc may)
+reads_long line (Some (Store Rebuild)) done may = absurd (cc may)
 reads_long line (Some (Store (Tell telling))) done may = absurd (cc may)
 
 stores_failing : (line : List ℕ) (command : Option Command) (done : ℕ) → IsAmong (ends_of command) (KeepFault done) → (doing_of line command).stores ≡ true
@@ -97,6 +124,7 @@ stores_failing line (Some (Store Init)) done may = refl
 stores_failing line (Some (Store (Input Run))) done may = refl
 stores_failing line (Some (Store (Input Import))) done may = refl
 stores_failing line (Some (Store Ask)) done may = refl
+stores_failing line (Some (Store Rebuild)) done may = refl
 stores_failing line (Some (Store (Tell telling))) done may = refl
 
 -- over a store in which there is nothing, or something, or something that is not sound
@@ -112,6 +140,7 @@ no_cube_unfit line (Some (Store Init)) may = absurd (cc may)
 no_cube_unfit line (Some (Store (Input Run))) may = record { stores = refl; never = λ content none sound. not_empty content sound none }
 no_cube_unfit line (Some (Store (Input Import))) may = record { stores = refl; never = λ content none sound. not_empty content sound none }
 no_cube_unfit line (Some (Store Ask)) may = record { stores = refl; never = λ content none sound. not_empty content sound none }
+no_cube_unfit line (Some (Store Rebuild)) may = record { stores = refl; never = λ content none mendable. not_empty_mendable content mendable none }
 no_cube_unfit line (Some (Store (Tell telling))) may = record { stores = refl; never = λ content none sound. not_empty content sound none }
 
 has_cube_unfit : (line : List ℕ) (command : Option Command) → IsAmong (ends_of command) HasCube → Unfit line command (λ content. content ≢ empty_content)
@@ -122,6 +151,7 @@ has_cube_unfit line (Some (Store Init)) may = record { stores = refl; never = λ
 has_cube_unfit line (Some (Store (Input Run))) may = absurd (cc may)
 has_cube_unfit line (Some (Store (Input Import))) may = absurd (cc may)
 has_cube_unfit line (Some (Store Ask)) may = absurd (cc may)
+has_cube_unfit line (Some (Store Rebuild)) may = absurd (cc may)
 has_cube_unfit line (Some (Store (Tell telling))) may = absurd (cc may)
 
 bad_store_unfit : (line : List ℕ) (command : Option Command) (found : Finding) → IsAmong (ends_of command) (BadStore found) → Unfit line command (λ content. (content ≢ empty_content) × Finds content found)
@@ -132,6 +162,7 @@ bad_store_unfit line (Some (Store Init)) found may = absurd (cc may)
 bad_store_unfit line (Some (Store (Input Run))) found may = record { stores = refl; never = λ content is sound. nothing_found content found sound is.1 }
 bad_store_unfit line (Some (Store (Input Import))) found may = record { stores = refl; never = λ content is sound. nothing_found content found sound is.1 }
 bad_store_unfit line (Some (Store Ask)) found may = record { stores = refl; never = λ content is sound. nothing_found content found sound is.1 }
+bad_store_unfit line (Some (Store Rebuild)) found may = record { stores = refl; never = λ content is mendable. nothing_but_rows content found (not_of_rows line found may) mendable is.1 }
 bad_store_unfit line (Some (Store (Tell telling))) found may = record { stores = refl; never = λ content is sound. nothing_found content found sound is.1 }
 
 module _ (line : List ℕ) (command : Option Command) (seen : SeenAll) where

@@ -8,7 +8,7 @@ use Rattle.script_run.specs.Seen.{NoWriteFault, SeenAll, WroteNothing}
 use Rattle.stored_state.specs.declared.finding.Finding.{Finding}
 use Rattle.cube_cli.specs.declared.end.End.{End}
 use Rattle.cube_cli.specs.declared.end.End.TheVariants.{BadStore, HasCube, KeepFault, Memory, NoCube, Usage}
-use Rattle.cube_cli.specs.Doing.{AtOnce, ByLines, Doing, Works}
+use Rattle.cube_cli.specs.Doing.{AsNeeded, AtOnce, ByLines, Doing, Works}
 use Rattle.cube_cli.specs.End.{Counts, Faults, FitsAt, Leaves, Means, SaysBy, StoppedBefore, StoppedFirst, Takes}
 use Rattle.cube_cli.specs.Kinds.{EndKind, IsAmong}
 use Rattle.cube_cli.specs.Seen.{Holds, IsUntouched, LeftAll, NoFault, OfContent, OfInput, OnlyKeepFailed, WasNotRead}
@@ -30,34 +30,42 @@ module _ (seen : SeenAll) where
   none_told : (works : Works) (reads : Bool) (input : List ℕ) (content : Stored) → Means works reads input content seen NoCube
   none_told (ByLines work) reads input content = tt
   none_told (AtOnce refused commits work) reads input content = tt
+  none_told (AsNeeded work) reads input content = (tt, tt)
 
   has_told : (works : Works) (reads : Bool) (input : List ℕ) (content : Stored) → Means works reads input content seen HasCube
   has_told (ByLines work) reads input content = tt
   has_told (AtOnce refused commits work) reads input content = tt
+  has_told (AsNeeded work) reads input content = (tt, tt)
 
   bad_told : (found : Finding) (works : Works) (reads : Bool) (input : List ℕ) (content : Stored) → Means works reads input content seen (BadStore found)
   bad_told found (ByLines work) reads input content = tt
   bad_told found (AtOnce refused commits work) reads input content = tt
+  bad_told found (AsNeeded work) reads input content = (tt, tt)
 
   usage_told : (works : Works) (reads : Bool) (input : List ℕ) (content : Stored) → Means works reads input content seen Usage
   usage_told (ByLines work) reads input content = tt
   usage_told (AtOnce refused commits work) reads input content = tt
+  usage_told (AsNeeded work) reads input content = (tt, tt)
 
   no_count : (works : Works) → Counts works seen NoCube
   no_count (ByLines work) = tt
   no_count (AtOnce refused commits work) = tt
+  no_count (AsNeeded work) = tt
 
   has_count : (works : Works) → Counts works seen HasCube
   has_count (ByLines work) = tt
   has_count (AtOnce refused commits work) = tt
+  has_count (AsNeeded work) = tt
 
   bad_count : (found : Finding) (works : Works) → Counts works seen (BadStore found)
   bad_count found (ByLines work) = tt
   bad_count found (AtOnce refused commits work) = tt
+  bad_count found (AsNeeded work) = tt
 
   usage_count : (works : Works) → Counts works seen Usage
   usage_count (ByLines work) = tt
   usage_count (AtOnce refused commits work) = tt
+  usage_count (AsNeeded work) = tt
 
 module _ (seen : SeenAll) (left : LeftAll seen) where
   pub stopped : StoppedFirst seen 0
@@ -69,18 +77,22 @@ module _ (seen : SeenAll) (left : LeftAll seen) where
   keep_told : (works : Works) (reads : Bool) (input : List ℕ) (content : Stored) → Means works reads input content seen (KeepFault 0)
   keep_told (ByLines work) reads input content = inl stopped
   keep_told (AtOnce refused commits work) reads input content = inl stopped
+  keep_told (AsNeeded work) reads input content = (before, inl stopped)
 
   wants_told : (works : Works) (reads : Bool) (input : List ℕ) (content : Stored) → Means works reads input content seen (Memory 0)
   wants_told (ByLines work) reads input content = inl stopped
   wants_told (AtOnce refused commits work) reads input content = inl before
+  wants_told (AsNeeded work) reads input content = (inl before, inl before)
 
   keep_count : (works : Works) → Counts works seen (KeepFault 0)
   keep_count (ByLines work) = tt
   keep_count (AtOnce refused commits work) = before
+  keep_count (AsNeeded work) = before
 
   wants_count : (works : Works) → Counts works seen (Memory 0)
   wants_count (ByLines work) = tt
   wants_count (AtOnce refused commits work) = inl before
+  wants_count (AsNeeded work) = inl before
 
   few : TakesAtMost INPUT_LIMIT seen.source.left seen.source.left_after
   few = took_nothing INPUT_LIMIT seen.source.left seen.source.left_after left.read

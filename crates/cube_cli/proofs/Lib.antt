@@ -14,6 +14,7 @@ pub mod Making
 pub mod Names
 pub mod Opening
 pub mod Parts
+pub mod PutRight
 pub mod RowFile
 pub mod Putting
 pub mod Running

@@ -1,10 +1,11 @@
 -- What the ends say of a store that is not opened or not loaded alike a cube.
-use Rattle.std.proofs.Common.{◌≡◌, ℕ, List, [], refl, sym, subst, Some}
+use Rattle.std.proofs.Common.{◌≡◌, ℕ, Bool, false, List, [], refl, sym, ap, ◌∙◌, subst, Some}
 use Rattle.std.specs.Prelude.{◌≢◌}
 use Rattle.fact_keeper.specs.declared.content.Stored.{Stored}
 use Rattle.fact_keeper.specs.Batch.{empty_content}
 use Rattle.schema_text.specs.Schema.{SchemaValue, policy_in, shape_of, weigh_of}
 use Rattle.schema_text.specs.declared.word.PolicyWord.{PolicyWord}
+use Rattle.stored_state.specs.Mending.{IsMendFault, IsMendFinding}
 use Rattle.stored_state.specs.Sound.{IsFinding, IsLoadFault}
 use Rattle.schema_text.specs.declared.schema.SchemaFault.{SchemaFault}
 use Rattle.schema_text.specs.declared.schema.SchemaFault.TheVariants as schema_fault
@@ -15,7 +16,7 @@ use Rattle.stored_state.specs.declared.finding.LoadFault.TheVariants as load_fau
 use Rattle.script_run.specs.Seen.{KeeperSeen, NoKeepFault, SeenAll}
 use Rattle.cube_cli.specs.declared.command.Command.TheVariants.{Store}
 use Rattle.cube_cli.specs.declared.command.StoreCommand.{StoreCommand}
-use Rattle.cube_cli.specs.declared.command.StoreCommand.TheVariants.{Ask, Input, Tell}
+use Rattle.cube_cli.specs.declared.command.StoreCommand.TheVariants.{Ask, Input, Rebuild, Tell}
 use Rattle.cube_cli.specs.declared.store.InputTask.{InputTask}
 use Rattle.cube_cli.specs.declared.store.InputTask.TheVariants.{Run, Import}
 use Rattle.cube_cli.specs.declared.telling.Telling.{Telling}
@@ -24,7 +25,7 @@ use Rattle.cube_cli.specs.declared.store.OpenStop.TheVariants as open_stop
 use Rattle.cube_cli.specs.declared.end.End.TheVariants.{BadStore, KeepFault, Memory, NoCube}
 use Rattle.cube_cli.specs.Doing.{Fits, doing_of, ends_of}
 use Rattle.cube_cli.specs.End.{SaysAsked, SaysOf}
-use Rattle.cube_cli.specs.Kinds.{IsAmong}
+use Rattle.cube_cli.specs.Kinds.{IsAmong, is_of_rows}
 use Rattle.cube_cli.specs.RunEnd.{end_of_load, end_of_open, load_fault_of}
 use Rattle.cube_cli.specs.SchemaAlone.{HasCauseAlone}
 use Rattle.cube_cli.specs.Seen.{Holds, IsUntouched, WasNotCalled}
@@ -33,22 +34,31 @@ use Rattle.cube_cli.specs.Store.{Finds, FindsBy}
 use Rattle.cube_cli.proofs.First.{IsStill, bad_store, keep_fault, left_all, no_cube, wants_memory}
 use Rattle.cube_cli.proofs.Known.{of_given}
 
--- a command which may give the ends of a store that is not opened
+-- a command which may give the ends of a store that is not opened: none of these tells of rows
 record MayStop (command : StoreCommand) : Type 0 where
   no_cube : IsAmong (ends_of (Some (Store command))) NoCube
-  bad_store : (found : Finding) → IsAmong (ends_of (Some (Store command))) (BadStore found)
+  bad_store : (found : Finding) → is_of_rows found ≡ false → IsAmong (ends_of (Some (Store command))) (BadStore found)
   keep_fault : IsAmong (ends_of (Some (Store command))) (KeepFault 0)
   memory : IsAmong (ends_of (Some (Store command))) (Memory 0)
 
 may_input : (task : InputTask) → MayStop (Input task)
-may_input Run = record { no_cube = refl; bad_store = λ found. refl; keep_fault = refl; memory = refl }
-may_input Import = record { no_cube = refl; bad_store = λ found. refl; keep_fault = refl; memory = refl }
+may_input Run = record { no_cube = refl; bad_store = λ found other. refl; keep_fault = refl; memory = refl }
+may_input Import = record { no_cube = refl; bad_store = λ found other. refl; keep_fault = refl; memory = refl }
 
 may_ask : MayStop Ask
-may_ask = record { no_cube = refl; bad_store = λ found. refl; keep_fault = refl; memory = refl }
+may_ask = record { no_cube = refl; bad_store = λ found other. refl; keep_fault = refl; memory = refl }
 
 may_tell : (telling : Telling) → MayStop (Tell telling)
-may_tell telling = record { no_cube = refl; bad_store = λ found. refl; keep_fault = refl; memory = refl }
+may_tell telling = record { no_cube = refl; bad_store = λ found other. refl; keep_fault = refl; memory = refl }
+
+rebuild_finds : (found : Finding) → is_of_rows found ≡ false → IsAmong (ends_of (Some (Store Rebuild))) (BadStore found)
+rebuild_finds (finding.Schema line why) other = refl
+rebuild_finds (finding.Fact place id why) other = refl
+rebuild_finds (finding.TooManyRows would) other = refl
+rebuild_finds (finding.Rows place kept anew) other = absurd (cc other)
+
+may_rebuild : MayStop Rebuild
+may_rebuild = record { no_cube = refl; bad_store = rebuild_finds; keep_fault = refl; memory = refl }
 
 module _ (line : List ℕ) (command : StoreCommand) (may : MayStop command) (seen : SeenAll) (still : IsStill seen) where
   not_opened : (stop : OpenStop) → NotOpened seen.keeper stop → SaysAsked line (Some (Store command)) seen (end_of_open stop)
@@ -57,7 +67,7 @@ module _ (line : List ℕ) (command : StoreCommand) (may : MayStop command) (see
   not_opened open_stop.Fault is =
       keep_fault seen (left_all seen still is.0) (ends_of (Some (Store command))) (doing_of line (Some (Store command))) (Fits (Some (Store command))) may.keep_fault (record { cause = is.1; read = still.read.count; write = still.write })
   not_opened (open_stop.Load (load_fault.Bad found)) is =
-      bad_store seen (left_all seen still is.0) (ends_of (Some (Store command))) (doing_of line (Some (Store command))) (Fits (Some (Store command))) found (may.bad_store found)
+      bad_store seen (left_all seen still is.0) (ends_of (Some (Store command))) (doing_of line (Some (Store command))) (Fits (Some (Store command))) found (may.bad_store found is.3)
       (record { read = still.read.count; write = still.write; keep = is.1 }) is.2
   not_opened (open_stop.Load load_fault.Memory) is =
       wants_memory seen (left_all seen still is.0) (ends_of (Some (Store command))) (doing_of line (Some (Store command))) (Fits (Some (Store command))) may.memory (record { read = still.read.count; write = still.write; keep = is.1 })
@@ -68,14 +78,29 @@ module _ (line : List ℕ) (command : StoreCommand) (may : MayStop command) (see
     finds_as found is =
         subst (λ r. FindsBy r content found) (sym holds.schema_is) (subst (λ p. IsFinding (policy_in (weigh_of p) schema) (shape_of schema) schema.dims content found) named is)
 
-    not_loaded : (fault : LoadFault) → IsLoadFault (policy_in (weigh_of policy) schema) (shape_of schema) schema.dims content fault → SaysAsked line (Some (Store command)) seen (end_of_load fault)
-    not_loaded (load_fault.Bad found) is =
-        not_opened (open_stop.Load (load_fault.Bad found)) (
-          uncalled.kept,
-          uncalled.count,
-          of_given seen.keeper.told.content content (λ kept. (kept ≢ empty_content) × Finds kept found) given (holds.some, finds_as found is),
-        )
-    not_loaded load_fault.Memory is = not_opened (open_stop.Load load_fault.Memory) (uncalled.kept, uncalled.count)
+    bad_content : (found : Finding) → IsAmong (ends_of (Some (Store command))) (BadStore found) → IsFinding (policy_in (weigh_of policy) schema) (shape_of schema) schema.dims content found
+        → SaysAsked line (Some (Store command)) seen (BadStore found)
+    bad_content found among is =
+        bad_store seen (left_all seen still uncalled.kept) (ends_of (Some (Store command))) (doing_of line (Some (Store command))) (Fits (Some (Store command))) found among
+        (record { read = still.read.count; write = still.write; keep = uncalled.count })
+        (of_given seen.keeper.told.content content (λ kept. (kept ≢ empty_content) × Finds kept found) given (holds.some, finds_as found is))
+
+    not_loaded : (fault : LoadFault) → ((found : Finding) → IsAmong (ends_of (Some (Store command))) (BadStore found)) → IsLoadFault (policy_in (weigh_of policy) schema) (shape_of schema) schema.dims content fault
+        → SaysAsked line (Some (Store command)) seen (end_of_load fault)
+    not_loaded (load_fault.Bad found) among is = bad_content found (among found) is
+    not_loaded load_fault.Memory among is = not_opened (open_stop.Load load_fault.Memory) (uncalled.kept, uncalled.count)
+
+    not_mended : (fault : LoadFault) → ((found : Finding) → is_of_rows found ≡ false → IsAmong (ends_of (Some (Store command))) (BadStore found))
+        → IsMendFault (policy_in (weigh_of policy) schema) (shape_of schema) schema.dims content fault → SaysAsked line (Some (Store command)) seen (end_of_load fault)
+    not_mended (load_fault.Bad (finding.Schema at why)) among is = absurd is
+    not_mended (load_fault.Bad (finding.Fact place id why)) among is = bad_content (finding.Fact place id why) (among (finding.Fact place id why) refl) is
+    not_mended (load_fault.Bad (finding.TooManyRows would)) among is = bad_content (finding.TooManyRows would) (among (finding.TooManyRows would) refl) is
+    not_mended (load_fault.Bad (finding.Rows place kept anew)) among is = absurd is
+    not_mended load_fault.Memory among is = not_opened (open_stop.Load load_fault.Memory) (uncalled.kept, uncalled.count)
+
+may_find : (task : InputTask) (found : Finding) → IsAmong (ends_of (Some (Store (Input task)))) (BadStore found)
+may_find Run found = refl
+may_find Import found = refl
 
 pub input_not_opened : (task : InputTask) (seen : SeenAll) → IsStill seen → (stop : OpenStop) → NotOpened seen.keeper stop → SaysOf (Some (Store (Input task))) seen (end_of_open stop)
 input_not_opened task seen still stop is = not_opened [] (Input task) (may_input task) seen still stop is
@@ -89,13 +114,22 @@ tell_not_opened telling seen still stop is = not_opened [] (Tell telling) (may_t
 module _ (seen : SeenAll) (still : IsStill seen) (schema : SchemaValue) (policy : PolicyWord) (content : Stored) (given : Holds seen.keeper (λ kept. content ≡ kept)) (holds : HoldsSchema schema content) (named : policy ≡ schema.policy) (uncalled : WasNotCalled seen.keeper)
     (fault : LoadFault) (is : IsLoadFault (policy_in (weigh_of policy) schema) (shape_of schema) schema.dims content fault) where
   pub input_not_loaded : (task : InputTask) → SaysOf (Some (Store (Input task))) seen (end_of_load fault)
-  input_not_loaded task = not_loaded [] (Input task) (may_input task) seen still schema policy content given holds named uncalled fault is
+  input_not_loaded task = not_loaded [] (Input task) (may_input task) seen still schema policy content given holds named uncalled fault (may_find task) is
 
   pub ask_not_loaded : (line : List ℕ) → SaysAsked line (Some (Store Ask)) seen (end_of_load fault)
-  ask_not_loaded line = not_loaded line Ask may_ask seen still schema policy content given holds named uncalled fault is
+  ask_not_loaded line = not_loaded line Ask may_ask seen still schema policy content given holds named uncalled fault (λ found. refl) is
 
   pub tell_not_loaded : (telling : Telling) → SaysOf (Some (Store (Tell telling))) seen (end_of_load fault)
-  tell_not_loaded telling = not_loaded [] (Tell telling) (may_tell telling) seen still schema policy content given holds named uncalled fault is
+  tell_not_loaded telling = not_loaded [] (Tell telling) (may_tell telling) seen still schema policy content given holds named uncalled fault (λ found. refl) is
+
+-- what stops a rebuilding
+pub rebuild_not_opened : (seen : SeenAll) → IsStill seen → (stop : OpenStop) → NotOpened seen.keeper stop → SaysOf (Some (Store Rebuild)) seen (end_of_open stop)
+rebuild_not_opened seen still stop is = not_opened [] Rebuild may_rebuild seen still stop is
+
+pub rebuild_not_mended : (seen : SeenAll) → IsStill seen → (schema : SchemaValue) (policy : PolicyWord) (content : Stored) → Holds seen.keeper (λ kept. content ≡ kept) → HoldsSchema schema content → policy ≡ schema.policy → WasNotCalled seen.keeper
+    → (fault : LoadFault) → IsMendFault (policy_in (weigh_of policy) schema) (shape_of schema) schema.dims content fault → SaysOf (Some (Store Rebuild)) seen (end_of_load fault)
+rebuild_not_mended seen still schema policy content given holds named uncalled fault is =
+    not_mended [] Rebuild may_rebuild seen still schema policy content given holds named uncalled fault rebuild_finds is
 
 -- a store was loaded, and holds this schema
 pub holds_schema : (schema : SchemaValue) (content : Stored) (keeper : KeeperSeen) → Opened schema content keeper → HoldsSchema schema content
@@ -109,6 +143,7 @@ not_read keeper content (schema_fault.Bad line why) given some kept count cause 
       kept,
       count,
       of_given keeper.told.content content (λ kept. (kept ≢ empty_content) × Finds kept found) given (some, subst (λ r. FindsBy r content found) (sym cause) refl),
+      refl,
     )
 not_read keeper content schema_fault.Memory given some kept count cause = (kept, count)
 

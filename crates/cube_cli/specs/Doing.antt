@@ -16,16 +16,16 @@ use Rattle.stored_state.specs.Sound.{facts_told}
 use Rattle.text_lines.specs.Text.{line_text, lines_of}
 use Rattle.cube_cli.specs.declared.command.Command.{Command}
 use Rattle.cube_cli.specs.declared.command.Command.TheVariants.{Drill, Store, Try}
-use Rattle.cube_cli.specs.declared.command.StoreCommand.TheVariants.{Ask, Init, Input, Tell}
+use Rattle.cube_cli.specs.declared.command.StoreCommand.TheVariants.{Ask, Init, Input, Rebuild, Tell}
 use Rattle.cube_cli.specs.declared.end.End.{End}
 use Rattle.cube_cli.specs.declared.end.End.TheVariants as ends
 use Rattle.cube_cli.specs.declared.store.InputTask.TheVariants.{Run, Import}
 use Rattle.cube_cli.specs.declared.telling.Telling.{Telling}
-use Rattle.cube_cli.specs.Files.{import_batch, imported_line, refused_file, refused_over, rows_with, text_told}
-use Rattle.cube_cli.specs.Kinds.{EndKind, Finished, Usage, Schema, NoCube, HasCube, BadStore, ReadFault, WriteFault, KeepFault, Memory, TooLong, BadRecord, ImportRows}
+use Rattle.cube_cli.specs.Files.{import_batch, imported_line, mending_batches, rebuilt_line, refused_file, refused_over, rows_with, text_told}
+use Rattle.cube_cli.specs.Kinds.{EndKind, Finished, Usage, Schema, NoCube, HasCube, BadStore, BadFacts, ReadFault, WriteFault, KeepFault, Memory, TooLong, BadRecord, ImportRows}
 use Rattle.cube_cli.specs.SchemaAlone.{schema_alone}
 use Rattle.cube_cli.specs.SchemaLines.{has_end, schema_bytes}
-use Rattle.cube_cli.specs.Store.{IsSoundContent, batches_over, count_refused_over, policy_of, replies_over, schema_batch}
+use Rattle.cube_cli.specs.Store.{IsMendableContent, IsSoundContent, batches_over, count_refused_over, policy_of, replies_over, schema_batch}
 use Rattle.cube_cli.specs.Trying.{count_refused, replies_of, script_line_end, script_lines_in}
 
 -- What is made of an input whose lines are done as they come: the end that it has instead where its head is refused, how many bytes that
@@ -49,10 +49,12 @@ pub record OneWork : Type 0 where
   pub text : List ℕ
   pub kept : List Batch
 
--- how an input is done: by its lines, or at once, with so many lines refused and so many batches committed
+-- How an input is done: by its lines; at once, with so many lines refused and so many batches committed; or at once, with none refused and
+-- the batches committed that the content needs, of which there is one at most.
 pub data Works : Type 0 where
   ByLines : (List ℕ → Stored → LineWork) → Works
   AtOnce : ℕ → ℕ → (List ℕ → Stored → OneWork) → Works
+  AsNeeded : (List ℕ → Stored → OneWork) → Works
 
 -- whether a command takes the input, whether it calls the keeper, whether it may commit, whether what it does depends on the content that
 -- the store held, and what it does
@@ -139,6 +141,17 @@ import_work input content = with_schema (λ schema. file_work (policy_of schema)
 abbrev pub telling_work : Telling → List ℕ → Stored → OneWork
 telling_work telling input content = with_schema (λ schema. text_work (text_told telling (policy_of schema) schema (facts_told content))) content
 
+-- the rows of a content put right, over a schema
+abbrev pub mending_work : Policy → SchemaValue → Stored → OneWork
+mending_work policy schema content = record {
+  refusal = None;
+  text = rebuilt_line policy schema.dims content;
+  kept = mending_batches policy schema.dims content;
+}
+
+abbrev pub rebuild_work : List ℕ → Stored → OneWork
+rebuild_work input content = with_schema (λ schema. mending_work (policy_of schema) schema content) content
+
 -- what the command does, where its words ask this line: `ask` alone looks at it
 abbrev pub doing_of : List ℕ → Option Command → Doing
 doing_of line None = record { reads = false; stores = false; keeps = false; over = false; works = AtOnce 0 0 (λ input content. text_work []) }
@@ -148,6 +161,7 @@ doing_of line (Some (Store Init)) = record { reads = true; stores = true; keeps 
 doing_of line (Some (Store (Input Run))) = record { reads = true; stores = true; keeps = true; over = true; works = ByLines run_work }
 doing_of line (Some (Store (Input Import))) = record { reads = true; stores = true; keeps = true; over = true; works = AtOnce 0 1 import_work }
 doing_of line (Some (Store Ask)) = record { reads = false; stores = true; keeps = true; over = true; works = ByLines (ask_work line) }
+doing_of line (Some (Store Rebuild)) = record { reads = false; stores = true; keeps = true; over = true; works = AsNeeded rebuild_work }
 doing_of line (Some (Store (Tell telling))) = record { reads = false; stores = true; keeps = false; over = true; works = AtOnce 0 0 (telling_work telling) }
 
 -- the ends that it may give
@@ -159,6 +173,7 @@ ends_of (Some (Store Init)) = HasCube ∷ Schema ∷ Finished ∷ ReadFault ∷ 
 ends_of (Some (Store (Input Run))) = NoCube ∷ BadStore ∷ Finished ∷ ReadFault ∷ TooLong ∷ WriteFault ∷ KeepFault ∷ Memory ∷ []
 ends_of (Some (Store (Input Import))) = NoCube ∷ BadStore ∷ BadRecord ∷ ImportRows ∷ Finished ∷ ReadFault ∷ TooLong ∷ WriteFault ∷ KeepFault ∷ Memory ∷ []
 ends_of (Some (Store Ask)) = NoCube ∷ BadStore ∷ Finished ∷ WriteFault ∷ KeepFault ∷ Memory ∷ []
+ends_of (Some (Store Rebuild)) = NoCube ∷ BadFacts ∷ Finished ∷ WriteFault ∷ KeepFault ∷ Memory ∷ []
 ends_of (Some (Store (Tell telling))) = NoCube ∷ BadStore ∷ Finished ∷ WriteFault ∷ KeepFault ∷ Memory ∷ []
 
 -- what the store must hold for it to go on
@@ -169,4 +184,5 @@ Fits (Some (Drill n)) content = ⊤
 Fits (Some (Store Init)) content = content ≡ empty_content
 Fits (Some (Store (Input task))) content = IsSoundContent content
 Fits (Some (Store Ask)) content = IsSoundContent content
+Fits (Some (Store Rebuild)) content = IsMendableContent content
 Fits (Some (Store (Tell telling))) content = IsSoundContent content

@@ -14,7 +14,7 @@ use Rattle.cube_cli.specs.Command.{asked_line, command_of}
 use Rattle.cube_cli.specs.declared.command.Command.{Command}
 use Rattle.cube_cli.specs.declared.end.End.{End}
 use Rattle.cube_cli.specs.declared.end.End.TheVariants.{Finished, Usage, Schema, NoCube, HasCube, BadStore, ReadFault, WriteFault, KeepFault, Memory, TooLong, BadRecord, ImportRows}
-use Rattle.cube_cli.specs.Doing.{AtOnce, ByLines, Doing, Fits, LineWork, OneWork, Works, doing_of, ends_of}
+use Rattle.cube_cli.specs.Doing.{AsNeeded, AtOnce, ByLines, Doing, Fits, LineWork, OneWork, Works, doing_of, ends_of}
 use Rattle.cube_cli.specs.Kinds.{EndKind, IsAmong}
 use Rattle.cube_cli.specs.Seen.{DidNothing, Holds, IsUntouched, LeftAll, NoFault, OfContent, OfInput, OnlyKeepFailed, OnlyReadFailed, OnlyWriteFailed, ReadNothing, ReadWhole, Took}
 use Rattle.cube_cli.specs.Store.{Finds}
@@ -62,9 +62,18 @@ CountsAtOnce refused commits seen (KeepFault done) = StoppedBefore seen done
 CountsAtOnce refused commits seen (Memory done) = StoppedBefore seen done ⊎ (done ≡ commits)
 CountsAtOnce refused commits seen end = ⊤
 
+-- What it says where one batch at most is committed, as the content needs it.
+abbrev pub CountsAsNeeded : SeenAll → End → Type 0
+CountsAsNeeded seen (Finished count) = count ≡ 0
+CountsAsNeeded seen (WriteFault done) = done ≤ 1
+CountsAsNeeded seen (KeepFault done) = StoppedBefore seen done
+CountsAsNeeded seen (Memory done) = StoppedBefore seen done ⊎ (done ≤ 1)
+CountsAsNeeded seen end = ⊤
+
 abbrev pub Counts : Works → SeenAll → End → Type 0
 Counts (ByLines work) seen end = ⊤
 Counts (AtOnce refused commits work) seen end = CountsAtOnce refused commits seen end
+Counts (AsNeeded work) seen end = CountsAsNeeded seen end
 
 -- What it says of a content that the store held: there was nothing in it, or something; what is found in it first; or it fits the command,
 -- unless the run stopped before that is known.
@@ -153,10 +162,15 @@ MeansAtOnce work reads commits input seen (BadRecord bad) = Judged work reads in
 MeansAtOnce work reads commits input seen (ImportRows would) = Judged work reads input (Some (ImportRows would)) seen
 MeansAtOnce work reads commits input seen end = ⊤
 
+-- the same of an input and a content which need so many batches as the work keeps
+abbrev pub MeansAsNeeded : OneWork → Bool → List ℕ → SeenAll → End → Type 0
+MeansAsNeeded work reads input seen end = CountsAtOnce 0 (length work.kept) seen end × MeansAtOnce work reads (length work.kept) input seen end
+
 -- What it says of an input and a content.
 abbrev pub Means : Works → Bool → List ℕ → Stored → SeenAll → End → Type 0
 Means (ByLines work) reads input content seen end = MeansByLines (work input content) reads input seen end
 Means (AtOnce refused commits work) reads input content seen end = MeansAtOnce (work input content) reads commits input seen end
+Means (AsNeeded work) reads input content seen end = MeansAsNeeded (work input content) reads input seen end
 
 -- What an end says of a run that may give these ends, does this, and goes on over what the store must hold.
 pub record SaysBy (kinds : List EndKind) (doing : Doing) (Fitting : Stored → Type 0) (seen : SeenAll) (end : End) : Type 0 where

@@ -1,12 +1,14 @@
 -- Files of facts: what one does over the facts of a store, and what is told of these.
-use Rattle.std.specs.Prelude.{◌≡◌, ℕ, ◌≤◌, nat_lt, List, [], ◌∷◌, length, codes, if◌then◌else◌, Option, Some, None}
+use Rattle.std.specs.Prelude.{◌≡◌, ◌==◌, ℕ, ◌≤◌, nat_lt, List, [], ◌∷◌, length, codes, if◌then◌else◌, Option, Some, None}
 use Rattle.std.specs.Fmt.{decimal}
 use Rattle.text_lines.specs.Text.{line_text}
 use Rattle.cube_model.specs.declared.edit.Fact.{Fact}
 use Rattle.cube_model.specs.Allocation.{Policy, extended, row_count}
 use Rattle.cube_model.specs.Difference.{refreshed}
 use Rattle.cube_model.specs.Limits.{MAX_ROWS}
+use Rattle.cube_model.specs.Tree.{Dimension}
 use Rattle.fact_keeper.specs.declared.content.Batch.{Batch}
+use Rattle.fact_keeper.specs.declared.content.Stored.{Stored}
 use Rattle.fact_records.specs.New.{put_all}
 use Rattle.fact_sequence.specs.declared.fact_seq.BadRecord.{BadRecord as RecordAt}
 use Rattle.fact_sequence.specs.declared.fact_seq.FactSeq.{FactSeq}
@@ -14,6 +16,8 @@ use Rattle.fact_sequence.specs.Refused.{refused_in}
 use Rattle.edit_plan.specs.Whole.{difference_with}
 use Rattle.schema_text.specs.Schema.{SchemaValue, shape_of}
 use Rattle.schema_text.specs.SchemaText.{schema_text}
+use Rattle.stored_state.specs.Mending.{changed_by, mended_batch}
+use Rattle.stored_state.specs.Sound.{rows_counted}
 use Rattle.csv_facts.specs.FactFile.{facts_in}
 use Rattle.csv_facts.specs.ExtendedRow.{extended_text}
 use Rattle.csv_facts.specs.FactRow.{file_text}
@@ -34,6 +38,15 @@ text_told Check policy schema facts = count_line (codes "sound") (length facts) 
 text_told Export policy schema facts = file_text schema facts
 text_told Schema policy schema facts = schema_text schema
 text_told Rows policy schema facts = extended_text schema (extended policy schema.dims facts)
+
+-- What is kept where the rows of a content are put right: nothing where there is nothing to change. And what is told: the number of facts,
+-- that of their rows, and that of the entries of rows that are dropped or put.
+abbrev pub mending_batches : Policy → List Dimension → Stored → List Batch
+mending_batches policy dims content = if changed_by (mended_batch policy dims content) == 0 then [] else mended_batch policy dims content ∷ []
+
+abbrev pub rebuilt_line : Policy → List Dimension → Stored → List ℕ
+rebuilt_line policy dims content =
+    line_text (codes "rebuilt") (decimal (length content.facts) ∷ decimal (rows_counted policy dims content) ∷ decimal (changed_by (mended_batch policy dims content)) ∷ [])
 
 -- the facts of a file, and the record that could not be read
 abbrev pub seq_of : SchemaValue → List ℕ → FactSeq

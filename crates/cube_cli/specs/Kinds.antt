@@ -1,9 +1,12 @@
 -- The kinds of ends, and whether an end is of one among some.
-use Rattle.std.specs.Prelude.{Bool, true, false, IsTrue, List}
+use Rattle.std.specs.Prelude.{Bool, true, false, not, IsTrue, List}
 use Rattle.std.specs.List.{list_any}
 use Rattle.cube_cli.specs.declared.end.End.{End}
 use Rattle.cube_cli.specs.declared.end.End.TheVariants as ends
+use Rattle.stored_state.specs.declared.finding.Finding.{Finding}
+use Rattle.stored_state.specs.declared.finding.Finding.TheVariants as finding
 
+-- The kinds of ends. A content is bad in its schema or its facts where that is found first, and not in its rows alone.
 pub data EndKind : Type 0 where
   Finished : EndKind
   Usage : EndKind
@@ -11,6 +14,7 @@ pub data EndKind : Type 0 where
   NoCube : EndKind
   HasCube : EndKind
   BadStore : EndKind
+  BadFacts : EndKind
   ReadFault : EndKind
   WriteFault : EndKind
   KeepFault : EndKind
@@ -19,6 +23,10 @@ pub data EndKind : Type 0 where
   BadRecord : EndKind
   ImportRows : EndKind
 
+abbrev pub is_of_rows : Finding → Bool
+is_of_rows (finding.Rows _ _ _) = true
+is_of_rows found = false
+
 abbrev pub is_kind : EndKind → End → Bool
 is_kind Finished (ends.Finished _) = true
 is_kind Usage ends.Usage = true
@@ -26,6 +34,7 @@ is_kind Schema (ends.Schema _ _) = true
 is_kind NoCube ends.NoCube = true
 is_kind HasCube ends.HasCube = true
 is_kind BadStore (ends.BadStore _) = true
+is_kind BadFacts (ends.BadStore found) = not (is_of_rows found)
 is_kind ReadFault (ends.ReadFault _) = true
 is_kind WriteFault (ends.WriteFault _) = true
 is_kind KeepFault (ends.KeepFault _) = true

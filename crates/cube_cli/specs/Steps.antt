@@ -1,5 +1,5 @@
 -- What the steps of the commands say of how they end.
-use Rattle.std.specs.Prelude.{◌≡◌, ◌≢◌, ℕ, List, ◌⊎◌, Result, Ok, Err}
+use Rattle.std.specs.Prelude.{◌≡◌, ◌≢◌, ℕ, false, length, List, ◌⊎◌, Result, Ok, Err}
 use Rattle.std.specs.Io.KnownBytes.{Appends}
 use Rattle.cube_base.specs.Outside.{TakesPart}
 use Rattle.cube_base.specs.declared.fault.SinkError.{SinkError}
@@ -10,11 +10,14 @@ use Rattle.fact_keeper.specs.Batch.{empty_content}
 use Rattle.schema_text.specs.Schema.{SchemaValue}
 use Rattle.schema_text.specs.declared.word.PolicyWord.{PolicyWord}
 use Rattle.stored_state.specs.declared.finding.LoadFault.TheVariants as load_fault
-use Rattle.stored_state.specs.Sound.{facts_told}
+use Rattle.stored_state.specs.declared.mending.Mending.{Mending}
+use Rattle.stored_state.specs.Mending.{mended_batch}
+use Rattle.stored_state.specs.Sound.{facts_told, rows_counted}
 use Rattle.script_run.specs.Seen.{KeepFailed, KeeperSeen, NoKeepFault, NoWriteFault, SinkSeen, WriteFailed, WroteNothing}
 use Rattle.cube_cli.specs.SchemaAlone.{schema_alone}
+use Rattle.cube_cli.specs.Kinds.{is_of_rows}
 use Rattle.cube_cli.specs.Seen.{Holds, IsUntouched}
-use Rattle.cube_cli.specs.Store.{Finds, IsSoundOver}
+use Rattle.cube_cli.specs.Store.{Finds, IsMendableOver, IsSoundOver, policy_of}
 use Rattle.cube_cli.specs.declared.store.OpenStop.{OpenStop}
 use Rattle.cube_cli.specs.declared.store.OpenStop.TheVariants as open_stop
 
@@ -32,11 +35,11 @@ pub record Opened (schema : SchemaValue) (content : Stored) (keeper : KeeperSeen
   pub kept : IsUntouched keeper
   pub count : NoKeepFault keeper
 
--- why it was not loaded: there is nothing in it, the keeper failed, this is found in it first, or memory was wanting
+-- why it was not loaded: there is nothing in it, the keeper failed, this is found in it first, and not in its rows, or memory was wanting
 abbrev pub NotOpened : KeeperSeen → OpenStop → Type 0
 NotOpened keeper open_stop.NoCube = IsUntouched keeper × NoKeepFault keeper × Holds keeper (λ kept. kept ≡ empty_content)
 NotOpened keeper open_stop.Fault = IsUntouched keeper × KeepFailed keeper
-NotOpened keeper (open_stop.Load (load_fault.Bad found)) = IsUntouched keeper × NoKeepFault keeper × Holds keeper (λ kept. (kept ≢ empty_content) × Finds kept found)
+NotOpened keeper (open_stop.Load (load_fault.Bad found)) = IsUntouched keeper × NoKeepFault keeper × Holds keeper (λ kept. (kept ≢ empty_content) × Finds kept found) × (is_of_rows found ≡ false)
 NotOpened keeper (open_stop.Load load_fault.Memory) = IsUntouched keeper × NoKeepFault keeper
 
 -- A content in which there is something was loaded, and its text holds a schema alone.
@@ -50,3 +53,11 @@ pub record IsCubeOf (cube : CubeValue PolicyWord) (content : Stored) : Type 0 wh
   pub policy_is : cube.policy ≡ cube.schema.policy
   pub facts_are : cube.facts ≡ facts_told content
   pub sound : IsSoundOver cube.schema content
+
+-- This puts the rows of a content right whose schema and facts are sound.
+pub record IsMendingOf (mending : Mending) (schema : SchemaValue) (content : Stored) : Type 0 where
+  pub holds : HoldsSchema schema content
+  pub mendable : IsMendableOver schema content
+  pub batch_is : mending.batch ≡ mended_batch (policy_of schema) schema.dims content
+  pub facts_are : mending.facts ≡ length content.facts
+  pub rows_are : mending.rows ≡ rows_counted (policy_of schema) schema.dims content

@@ -9,6 +9,7 @@ use Rattle.schema_text.specs.Schema.{SchemaValue, policy_in, shape_of, weigh_of}
 use Rattle.schema_text.specs.SchemaText.{BadLine, schema_text}
 use Rattle.stored_state.specs.declared.finding.Finding.{Finding}
 use Rattle.stored_state.specs.declared.finding.Finding.TheVariants as finding
+use Rattle.stored_state.specs.Mending.{IsMendable}
 use Rattle.stored_state.specs.Sound.{IsFinding, IsSound, facts_told}
 use Rattle.script_run.specs.Kept.{batches}
 use Rattle.script_run.specs.Run.{Outcome, State, run}
@@ -26,7 +27,14 @@ IsSoundOver schema content = IsSound (policy_of schema) (shape_of schema) schema
 abbrev pub IsSoundContent : Stored → Type 0
 IsSoundContent content = IsOkAnd (schema_alone content.schema) (λ schema. IsSoundOver schema content)
 
--- what is found first in a content that is not: the first line at fault of its schema, else what is found over the schema
+-- Its schema and its facts are sound, whatever rows are kept.
+abbrev pub IsMendableOver : SchemaValue → Stored → Type 0
+IsMendableOver schema content = IsMendable (policy_of schema) (shape_of schema) schema.dims content
+
+abbrev pub IsMendableContent : Stored → Type 0
+IsMendableContent content = IsOkAnd (schema_alone content.schema) (λ schema. IsMendableOver schema content)
+
+-- what is found first in a content that is not sound: the first line at fault of its schema, else what is found over the schema
 abbrev pub FindsBy : Result SchemaValue BadLine → Stored → Finding → Type 0
 FindsBy (Err bad) content found = found ≡ finding.Schema bad.line bad.reason
 FindsBy (Ok schema) content found = IsFinding (policy_of schema) (shape_of schema) schema.dims content found

@@ -11,6 +11,7 @@ use crate::End;
 use crate::asking::ask;
 use crate::drill::drill;
 use crate::init::init;
+use crate::rebuilding::rebuild;
 use crate::store::{InputTask, do_input};
 use crate::telling::{Telling, tell};
 use crate::trying::try_input;
@@ -40,6 +41,8 @@ pub enum StoreCommand {
     Input(InputTask),
     /// The line that the words behind the name make is done over the cube of the store.
     Ask,
+    /// The rows of the store are put right.
+    Rebuild,
     /// Something is told of the store.
     Tell(Telling),
 }
@@ -56,7 +59,7 @@ pub enum StoreCommand {
 /// The words `drill` and a number from 1 to 100,000, which has one spelling, do the drill of the number, and write its line. No input
 /// is taken. Neither of these calls the keeper.
 ///
-/// The words `init`, `run`, `check`, `import`, `export`, `schema` and `rows` each take the name of a store, which is not empty, and load it first. `init` takes a schema
+/// The words `init`, `run`, `check`, `import`, `export`, `schema`, `rows` and `rebuild` each take the name of a store, which is not empty, and load it first. `init` takes a schema
 /// alone, keeps its one canonical text as the batch of a store in which there was nothing, and answers `ok` and 0. `run` does the lines of the
 /// input on the cube of the store, as they come. Each edit and each growth that is accepted commits one batch before it is answered, and all
 /// replies before it are written by then: the store holds at each stop what the first `done` lines made of it. `check` takes no input and
@@ -71,6 +74,9 @@ pub enum StoreCommand {
 /// with the number of facts in the file and that of the facts that are new or lie otherwise than before. `export` takes no input and
 /// writes such a file of all facts, in order of their ids. `schema` takes no input and writes the canonical text of the schema, whatever text is
 /// kept. `rows` takes no input and writes a CSV file of the rows of all facts, in order of ids and cells, part by part. None of these commits anything.
+///
+/// `rebuild` takes no input. Where the schema and the facts of the store are sound, whatever rows are kept, it commits one batch that puts the rows right,
+/// or none where they are, and answers `rebuilt` with the numbers of the facts, of their rows, and of the entries of rows that were put or dropped.
 ///
 /// What is answered over the facts and the dimensions as they stand after each number of lines is the exact expectation over all possible
 /// worlds of the facts, in each of which every fact stands in one cell of its allocation; and where a node of a region has children, the
@@ -128,6 +134,9 @@ fn run_command<S: Source, K: Sink, Q: Keeper>(
         Some(Command::Store(StoreCommand::Ask)) => {
             ask(alloc, second_of(words), asked_of(words), out, keeper)
         }
+        Some(Command::Store(StoreCommand::Rebuild)) => {
+            rebuild(alloc, second_of(words), out, keeper)
+        }
         Some(Command::Store(StoreCommand::Tell(telling))) => {
             tell(alloc, second_of(words), telling, out, keeper)
         }
@@ -184,6 +193,8 @@ fn store_command(word: &[u8]) -> Option<StoreCommand>
         Some(StoreCommand::Tell(Telling::Schema))
     } else if is_text(word, "rows") {
         Some(StoreCommand::Tell(Telling::Rows))
+    } else if is_text(word, "rebuild") {
+        Some(StoreCommand::Rebuild)
     } else {
         None
     }

@@ -99,7 +99,7 @@ impl fmt::Display for End {
         match self {
             End::Finished { refused } => write!(f, "finished, {refused} lines refused"),
             End::Usage => f.write_str(
-                "usage: cube try, init NAME, run NAME, check NAME, import NAME, export NAME, drill N, ask NAME WORD.., schema NAME, rows NAME",
+                "usage: cube try, init NAME, run NAME, check NAME, import NAME, export NAME, drill N, ask NAME WORD.., schema NAME, rows NAME, rebuild NAME",
             ),
             End::Schema { line, code } => {
                 let word = code.word();

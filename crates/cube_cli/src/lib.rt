@@ -8,6 +8,7 @@ mod end;
 mod importing;
 mod init;
 mod laws;
+mod rebuilding;
 mod row_file;
 mod run_end;
 mod saying;

@@ -9,7 +9,7 @@ use Rattle.fact_keeper.specs.Keeper.{KeeperTold}
 use Rattle.cube_cli.specs.Seen.{WasNotRead}
 use Rattle.cube_cli.specs.declared.command.Command.{Command}
 use Rattle.cube_cli.specs.declared.command.Command.TheVariants.{Drill, Store, Try}
-use Rattle.cube_cli.specs.declared.command.StoreCommand.TheVariants.{Ask, Init, Input, Tell}
+use Rattle.cube_cli.specs.declared.command.StoreCommand.TheVariants.{Ask, Init, Input, Rebuild, Tell}
 use Rattle.cube_cli.specs.declared.store.InputTask.{InputTask}
 use Rattle.cube_cli.specs.declared.store.InputTask.TheVariants.{Run, Import}
 use Rattle.cube_cli.specs.declared.end.End.{End}
@@ -131,3 +131,19 @@ returns-in-Some-Store-Ask-clause-loaded g c =
     let seen : SeenAll = seen_of g.S.Source.tells g.K.Sink.tells g.Q.Keeper.tells c.args.source.now c.args.source.now c.args.out.now c.ask.new.out c.args.keeper.now c.ask.new.keeper in
     loads_named words (Some (Store Ask)) _ _ _ _ named
     (subst (λ name. LoadedOnce name (tells c.args.keeper.now) (tells c.ask.new.keeper) seen c.ask.result) c.second_of-in-Some-Store-Ask.ensures (c.ask.ensures.loaded (source_seen g.S.Source.tells c.args.source.now c.args.source.now) (unread _ _)))
+
+pub returns-in-Some-Store-Rebuild-clause-says : goal.returns-in-Some-Store-Rebuild-clause-says
+returns-in-Some-Store-Rebuild-clause-says g c =
+    let words = map string_bytes c.args.words.now in
+    let seen : SeenAll = seen_of g.S.Source.tells g.K.Sink.tells g.Q.Keeper.tells c.args.source.now c.args.source.now c.args.out.now c.rebuild.new.out c.args.keeper.now c.rebuild.new.keeper in
+    let named : command_of words ≡ Some (Store Rebuild) = cc (c.command_of.ensures, c.in-Some-Store-Rebuild.is, c.in-Some-Store-Rebuild.field-0-is, c.in-Some-Store-Rebuild.field-0-0-is) in
+    says_named words (Some (Store Rebuild)) seen c.rebuild.result named (c.rebuild.ensures.says seen.source (unread _ _))
+
+pub returns-in-Some-Store-Rebuild-clause-loaded : goal.returns-in-Some-Store-Rebuild-clause-loaded
+returns-in-Some-Store-Rebuild-clause-loaded g c =
+    let words = map string_bytes c.args.words.now in
+    let named : command_of words ≡ Some (Store Rebuild) = cc (c.command_of.ensures, c.in-Some-Store-Rebuild.is, c.in-Some-Store-Rebuild.field-0-is, c.in-Some-Store-Rebuild.field-0-0-is) in
+    let tells = g.Q.Keeper.tells in
+    let seen : SeenAll = seen_of g.S.Source.tells g.K.Sink.tells g.Q.Keeper.tells c.args.source.now c.args.source.now c.args.out.now c.rebuild.new.out c.args.keeper.now c.rebuild.new.keeper in
+    loads_named words (Some (Store Rebuild)) _ _ _ _ named
+    (subst (λ name. LoadedOnce name (tells c.args.keeper.now) (tells c.rebuild.new.keeper) seen c.rebuild.result) c.second_of-in-Some-Store-Rebuild.ensures (c.rebuild.ensures.loaded (source_seen g.S.Source.tells c.args.source.now c.args.source.now) (unread _ _)))
