@@ -1,6 +1,7 @@
 -- What runs of the program leave of a store.
-use Rattle.std.proofs.Common.{◌≡◌, ◌≢◌, ◌≤◌, ℕ, Bool, true, false, List, [], ◌∷◌, take, ltb-false, refl, sym, ap, ◌∙◌, subst, inl, inr, Option, Some, None, Result, Ok, Err}
-use Rattle.std.specs.Prelude.{◌⊎◌, IfSome, IsOkAnd, IsSome, nat_lt, if◌then◌else◌}
+use Rattle.std.proofs.Common.{◌≡◌, ◌≢◌, ◌≤◌, arith, ℕ, Bool, true, false, List, [], ◌∷◌, take, ltb-false, refl, sym, ap, ◌∙◌, subst, inl, inr, Option, Some, None, Result, Ok, Err}
+use Rattle.std.specs.Prelude.{◌⊎◌, ◌==◌, IfSome, IsOkAnd, IsSome, nat_lt, if◌then◌else◌}
+use Rattle.std.proofs.lemmas.Bool.Decides.{nat_tests}
 use Rattle.std.specs.Option.{option_map, option_map_or}
 use Rattle.std.specs.Result.{result_ok}
 use Rattle.text_lines.specs.Text.{lines_of}
@@ -11,25 +12,27 @@ use Rattle.fact_keeper.specs.declared.content.Batch.{Batch}
 use Rattle.fact_sequence.specs.declared.fact_seq.BadRecord.{BadRecord as RecordAt}
 use Rattle.fact_keeper.specs.declared.content.Stored.{Stored}
 use Rattle.fact_keeper.specs.Batch.{apply_batch, empty_content}
-use Rattle.schema_text.specs.Schema.{SchemaValue}
+use Rattle.schema_text.specs.Schema.{SchemaValue, shape_of}
 use Rattle.schema_text.specs.SchemaText.{BadLine, schema_of}
-use Rattle.stored_state.specs.Sound.{facts_told}
+use Rattle.stored_state.specs.Mending.{changed_by, mended, mended_batch}
+use Rattle.stored_state.specs.Sound.{IsSound, facts_told}
+use Rattle.stored_state.proofs.Mended.{mended-sound, mending-applied, unchanged-sound}
 use Rattle.script_run.specs.Kept.{Commits, apply_all}
 use Rattle.script_run.specs.Seen.{SeenAll, Told}
 use Rattle.cube_cli.specs.declared.command.Command.{Command}
 use Rattle.cube_cli.specs.declared.command.Command.TheVariants.{Drill, Store, Try}
-use Rattle.cube_cli.specs.declared.command.StoreCommand.TheVariants.{Ask, Init, Input, Tell}
+use Rattle.cube_cli.specs.declared.command.StoreCommand.TheVariants.{Ask, Init, Input, Rebuild, Tell}
 use Rattle.cube_cli.specs.declared.store.InputTask.TheVariants.{Import, Run}
 use Rattle.cube_cli.specs.declared.end.End.{End}
 use Rattle.cube_cli.specs.declared.end.End.TheVariants.{Finished, Usage, Schema, NoCube, HasCube, BadStore, ReadFault, WriteFault, KeepFault, Memory, TooLong, BadRecord, ImportRows}
 use Rattle.cube_cli.specs.Command.{asked_line, command_of}
-use Rattle.cube_cli.specs.Doing.{Fits, OneWork, ask_work, file_work, import_work, init_work, refused_schema, run_work, text_work}
-use Rattle.cube_cli.specs.End.{DidKeep, FitsAt, MeansAtOnce, MeansByLines, Says, SaysAsked, SaysOf, StoppedAtEdit, StoppedFirst, WantedMemory}
-use Rattle.cube_cli.specs.Files.{IsAccepted, import_batch, refused_file, refused_over, rows_with}
+use Rattle.cube_cli.specs.Doing.{Fits, OneWork, ask_work, file_work, import_work, init_work, mending_work, rebuild_work, refused_schema, run_work, text_work}
+use Rattle.cube_cli.specs.End.{DidKeep, FitsAt, MeansAsNeeded, MeansAtOnce, MeansByLines, Says, SaysAsked, SaysOf, StoppedAtEdit, StoppedFirst, WantedMemory}
+use Rattle.cube_cli.specs.Files.{IsAccepted, import_batch, mending_batches, refused_file, refused_over, rows_with}
 use Rattle.cube_cli.specs.SchemaAlone.{schema_alone}
 use Rattle.cube_cli.specs.Seen.{Holds, IsUntouched}
-use Rattle.cube_cli.specs.Store.{IsSoundContent, IsSoundOver, batches_over, policy_of, schema_batch}
-use Rattle.store_law.specs.Holds.{BeginsSound, IsEmptyOrSound, StaysSound, content_after}
+use Rattle.cube_cli.specs.Store.{IsMendableContent, IsMendableOver, IsSoundContent, IsSoundOver, batches_over, policy_of, schema_batch}
+use Rattle.store_law.specs.Holds.{BeginsSound, IsEmptyOrSound, IsRebuilt, StaysSound, content_after}
 use Rattle.store_law.proofs.Alone.{alone-schema, text-alone}
 use Rattle.store_law.proofs.Imported.{file-holds}
 use Rattle.store_law.proofs.Scripted.{scripted-sound}
@@ -48,6 +51,39 @@ accepted-file : (policy : Policy) (schema : SchemaValue) (facts : List Fact) (fi
 accepted-file policy schema facts file none =
     let is = not-refused (refused_over schema facts file) (rows_with policy schema facts file) none in
     record { accepted = is.0; few = is.1 }
+
+-- The rows of a content that are put right, over its schema: nothing is kept where they are right, and else the batch that makes it sound.
+module _ (content : Stored) (schema : SchemaValue) (alone : schema_alone content.schema ≡ Ok schema) (may : IsMendableOver schema content) where
+  abbrev its_batch : Batch
+  its_batch = mended_batch (policy_of schema) schema.dims content
+
+  abbrev right : Stored
+  right = mended (policy_of schema) schema.dims content
+
+  sound_with : (other : Stored) → other.schema ≡ content.schema → IsSoundOver schema other → IsSoundContent other
+  sound_with other same over = subst (λ read. IsOkAnd read (λ s. IsSoundOver s other)) (sym (ap schema_alone same ∙ alone)) over
+
+  right_sound : IsSoundContent right
+  right_sound = sound_with right refl (mended-sound (policy_of schema) (shape_of schema) schema.dims content may)
+
+  right_after : apply_batch its_batch content ≡ right
+  right_after = mending-applied (policy_of schema) (shape_of schema) schema.dims content may
+
+  right_already : changed_by its_batch ≡ 0 → IsSoundContent content
+  right_already none = sound_with content refl (unchanged-sound (policy_of schema) (shape_of schema) schema.dims content may none)
+
+  kept_right : (rebuild_work [] content).kept ≡ mending_batches (policy_of schema) schema.dims content
+  kept_right = ap (λ r. (option_map_or (λ schema. mending_work (policy_of schema) schema content) (result_ok r) (text_work [])).kept) alone
+
+  -- what holds of it afterwards: it was sound, or the batch made it so
+  rebuilt_by : (P : Stored → Type 0) (none : Bool) → (changed_by its_batch == 0) ≡ none → (IsSoundContent content → P content) → (IsSoundContent right → P right)
+      → P (apply_all (if none then [] else its_batch ∷ []) content)
+  rebuilt_by P true is same made = let nothing : changed_by its_batch ≡ 0 = grind (arith, nat_tests, is) in same (right_already nothing)
+  rebuilt_by P false is same made = subst P (sym right_after) (made right_sound)
+
+  pub after_right : (P : Stored → Type 0) → (IsSoundContent content → P content) → (IsSoundContent right → P right) → P (apply_all (rebuild_work [] content).kept content)
+  after_right P same made =
+      subst (λ batches. P (apply_all batches content)) (sym kept_right) (rebuilt_by P (changed_by its_batch == 0) refl same made)
 
 -- The keeper told a content, and the source its input. What holds of the content, of any sound one and of what lines leave holds of what
 -- the keeper tells afterwards.
@@ -194,6 +230,38 @@ module _ (seen : SeenAll) (content : Stored) (input : List ℕ) (told : seen.kee
       by (inl stopped) = untouched stopped.left.nothing.kept
       by (inr none) = empty none
 
+  -- rows put right
+  of_mending : IsMendableContent content → DidKeep (rebuild_work [] content) false [] seen → Stays
+  of_mending may did = by (schema_alone content.schema) refl may
+    where
+      by : (read : Result SchemaValue BadLine) → schema_alone content.schema ≡ read → IsOkAnd read (λ schema. IsMendableOver schema content) → Stays
+      by (Err bad) is none = absurd none
+      by (Ok schema) is over =
+          committed (rebuild_work [] content).kept did.kept (after_right content schema is over P (λ sound. here) (λ sound. sounds (mended (policy_of schema) schema.dims content) sound))
+
+  rebuild-stays : (end : End) → SaysOf (Some (Store Rebuild)) seen end → Stays
+  rebuild-stays Usage says = untouched says.leaves.nothing.kept
+  rebuild-stays NoCube says = untouched says.leaves.nothing.kept
+  rebuild-stays HasCube says = untouched says.leaves.nothing.kept
+  rebuild-stays (BadStore found) says = untouched says.leaves.nothing.kept
+  rebuild-stays (Schema at why) says = untouched says.leaves.kept
+  rebuild-stays (BadRecord bad) says = untouched says.leaves.kept
+  rebuild-stays (ImportRows would) says = untouched says.leaves.kept
+  rebuild-stays (ReadFault done) says = absurd (cc says.may)
+  rebuild-stays (TooLong done) says = absurd (cc says.may)
+  rebuild-stays (KeepFault done) says = untouched says.counts.nothing.kept
+  rebuild-stays (Finished refused) says =
+      of_mending (of_held IsMendableContent says.fits) (of_held (λ content. MeansAsNeeded (rebuild_work [] content) false [] seen (Finished refused)) says.means).1.0
+  rebuild-stays (WriteFault done) says =
+      of_mending (of_held IsMendableContent says.fits) (of_held (λ content. MeansAsNeeded (rebuild_work [] content) false [] seen (WriteFault done)) says.means).1.0
+  rebuild-stays (Memory done) says =
+      by (of_held (FitsAt IsMendableContent seen (Memory done)) says.fits) (of_held (λ content. MeansAsNeeded (rebuild_work [] content) false [] seen (Memory done)) says.means)
+    where
+      by : StoppedFirst seen done ⊎ IsMendableContent content → MeansAsNeeded (rebuild_work [] content) false [] seen (Memory done) → Stays
+      by (inl stopped) means = untouched stopped.left.nothing.kept
+      by (inr may) (counts, inl before) = untouched before.nothing.kept
+      by (inr may) (counts, inr did) = of_mending may did.1
+
   -- any command but `init`
   command-stays : (line : List ℕ) (command : Option Command) (end : End) → command ≢ Some (Store Init) → SaysAsked line command seen end → Stays
   command-stays line None end other says = untouched (says.unkept refl)
@@ -203,6 +271,7 @@ module _ (seen : SeenAll) (content : Stored) (input : List ℕ) (told : seen.kee
   command-stays line (Some (Store (Input Run))) end other says = run-stays end says
   command-stays line (Some (Store (Input Import))) end other says = import-stays end says
   command-stays line (Some (Store Ask)) end other says = ask-stays line end says
+  command-stays line (Some (Store Rebuild)) end other says = rebuild-stays end says
   command-stays line (Some (Store (Tell telling))) end other says = untouched (says.unkept refl)
 
 -- The keeper told an empty content, and the source its input.
@@ -262,6 +331,7 @@ is-init (Some (Drill n)) = inr (λ is. cc)
 is-init (Some (Store Init)) = inl refl
 is-init (Some (Store (Input task))) = inr (λ is. cc)
 is-init (Some (Store Ask)) = inr (λ is. cc)
+is-init (Some (Store Rebuild)) = inr (λ is. cc)
 is-init (Some (Store (Tell telling))) = inr (λ is. cc)
 
 -- a content in which there is nothing is not sound
@@ -302,3 +372,20 @@ cube-begins words seen end tells says = by_content seen.keeper.told.content refl
     by_content : (held : Option Stored) → seen.keeper.told.content ≡ held → IfSome held (λ content. content ≡ empty_content → IfSome seen.keeper.told_after.content IsEmptyOrSound)
     by_content None told = tt
     by_content (Some content) told = λ empty. by_input (told ∙ ap Some empty) seen.source.left refl tells
+
+-- A finished `rebuild` leaves a sound content with the schema and the facts that it had.
+pub rebuilds-sound : (seen : SeenAll) (refused : ℕ) → SaysOf (Some (Store Rebuild)) seen (Finished refused) → Holds seen.keeper (λ content. IfSome seen.keeper.told_after.content (IsRebuilt content))
+rebuilds-sound seen refused says = by_content seen.keeper.told.content refl
+  where
+    by_read : (content : Stored) → seen.keeper.told.content ≡ Some content → DidKeep (rebuild_work [] content) false [] seen → (read : Result SchemaValue BadLine) → schema_alone content.schema ≡ read
+        → IsOkAnd read (λ schema. IsMendableOver schema content) → IfSome seen.keeper.told_after.content (IsRebuilt content)
+    by_read content told did (Err bad) is none = absurd none
+    by_read content told did (Ok schema) is over =
+        subst (λ c. IfSome c (IsRebuilt content)) (sym (did.kept.content ∙ ap (option_map (apply_all (rebuild_work [] content).kept)) told))
+        (after_right content schema is over (IsRebuilt content) (λ sound. record { sound = sound; schema = refl; facts = refl }) (λ sound. record { sound = sound; schema = refl; facts = refl }))
+
+    by_content : (held : Option Stored) → seen.keeper.told.content ≡ held → IfSome held (λ content. IfSome seen.keeper.told_after.content (IsRebuilt content))
+    by_content None told = tt
+    by_content (Some content) told =
+        by_read content told (subst (λ held. IfSome held (λ content. MeansAsNeeded (rebuild_work [] content) false [] seen (Finished refused))) told says.means).1.0 (schema_alone content.schema) refl
+        (subst (λ held. IfSome held IsMendableContent) told says.fits)

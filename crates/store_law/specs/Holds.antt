@@ -43,3 +43,9 @@ IsEmptyOrSound content = (content ≡ empty_content) ⊎ IsSoundContent content
 
 abbrev pub BeginsSound : KeeperSeen → Type 0
 BeginsSound keeper = Holds keeper (λ content. content ≡ empty_content → IfSome keeper.told_after.content IsEmptyOrSound)
+
+-- a content that is sound, with the schema and the facts of another
+pub record IsRebuilt (content later : Stored) : Type 0 where
+  pub sound : IsSoundContent later
+  pub schema : later.schema ≡ content.schema
+  pub facts : later.facts ≡ content.facts

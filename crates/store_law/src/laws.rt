@@ -1,11 +1,15 @@
 //! Laws of what a store holds after edits, growths, imports and scripts. The functions do nothing: each law is the contract.
-ghost use Rattle.std.specs.Prelude.{◌≡◌, ◌≤◌, [], ℕ, All, List, IsOkAnd, IsSome, None, Ok, Some, true};
+ghost use Rattle.std.specs.Prelude.{◌≡◌, ◌≤◌, [], ℕ, All, List, IfSome, IsOkAnd, IsSome, None, Ok, Some, true};
 ghost use Rattle.cube_base.specs.Name.{is_name};
-ghost use Rattle.cube_cli.specs.End.{Says};
+ghost use Rattle.cube_cli.specs.End.{Says, SaysOf};
 ghost use Rattle.cube_cli.specs.Files.{IsAccepted, facts_with, import_batch};
 ghost use Rattle.cube_cli.specs.SchemaAlone.{schema_alone};
+ghost use Rattle.cube_cli.specs.Seen.{Holds};
 ghost use Rattle.cube_cli.specs.Store.{Finds, IsSoundContent, IsSoundOver, policy_of, schema_batch, state_over};
+ghost use Rattle.cube_cli.specs.declared.command.Command.TheVariants as command;
+ghost use Rattle.cube_cli.specs.declared.command.StoreCommand.TheVariants as store_command;
 ghost use Rattle.cube_cli.specs.declared.end.End.{End};
+ghost use Rattle.cube_cli.specs.declared.end.End.TheVariants as ends;
 ghost use Rattle.cube_core.specs.Growth.{growth_difference, judge_growth};
 ghost use Rattle.cube_model.specs.Allocation.{Policy, extended, row_count};
 ghost use Rattle.cube_model.specs.Facts.{after};
@@ -29,7 +33,7 @@ ghost use Rattle.schema_text.specs.SchemaText.{schema_text};
 ghost use Rattle.script_run.specs.Seen.{SeenAll};
 ghost use Rattle.stored_state.specs.Sound.{IsSound, facts_told};
 ghost use Rattle.stored_state.specs.declared.finding.Finding.{Finding};
-ghost use Rattle.store_law.specs.Holds.{BeginsSound, GoesOnOver, HoldsState, StaysSound, content_after, state_reached};
+ghost use Rattle.store_law.specs.Holds.{BeginsSound, GoesOnOver, HoldsState, IsRebuilt, StaysSound, content_after, state_reached};
 
 /// A sound content with the batch of an accepted edit is sound, and it tells the facts after the edit. The schema's text stays.
 pub fn edits_keep_stores_sound()
@@ -102,4 +106,11 @@ pub fn scripts_go_on_over_what_is_kept()
 pub fn runs_leave_stores_sound()
     ensures stays { (words : List (List ℕ)) (seen : SeenAll) (end : End) → IsSome seen.source.left → Says words seen end → StaysSound seen.keeper }
     ensures begins { (words : List (List ℕ)) (seen : SeenAll) (end : End) → IsSome seen.source.left → Says words seen end → BeginsSound seen.keeper }
+{}
+
+/// `rebuild` that is finished leaves a sound store, whatever rows it had: where the keeper tells its content, that is sound afterwards,
+/// and its schema and its facts are those of before.
+pub fn rebuilding_makes_stores_sound()
+    ensures { (seen : SeenAll) (refused : ℕ) → SaysOf (Some (command.Store store_command.Rebuild)) seen (ends.Finished refused)
+        → Holds seen.keeper (λ content. IfSome seen.keeper.told_after.content (IsRebuilt content)) }
 {}

@@ -6,6 +6,6 @@ mod laws;
 
 pub use laws::{
     edits_keep_stores_sound, growths_keep_stores_sound, imports_keep_stores_sound,
-    new_stores_are_sound, runs_leave_stores_sound, scripts_go_on_over_what_is_kept,
-    scripts_keep_stores_sound,
+    new_stores_are_sound, rebuilding_makes_stores_sound, runs_leave_stores_sound,
+    scripts_go_on_over_what_is_kept, scripts_keep_stores_sound,
 };
