@@ -56,7 +56,7 @@ const ENDS: [(Ending, u8, &str); 14] = [
     (
         Ending::Usage,
         2,
-        "cube: usage: cube try, init NAME, run NAME, check NAME, import NAME, export NAME, drill N, ask NAME WORD.., schema NAME, rows NAME",
+        "cube: usage: cube try, init NAME, run NAME, check NAME, import NAME, export NAME, drill N, ask NAME WORD.., schema NAME, rows NAME, rebuild NAME",
     ),
     (
         Ending::Schema {

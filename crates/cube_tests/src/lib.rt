@@ -30,6 +30,8 @@ mod limits;
 #[cfg(test)]
 mod lines;
 #[cfg(test)]
+mod rebuilt;
+#[cfg(test)]
 mod replies;
 #[cfg(test)]
 mod rounds;

@@ -197,10 +197,10 @@ const REPLIES: &str =
     "ok\t1\nok\t1\nok\t1\nok\t1\nerror\texists\nrows\t3\t2\tAustin\t2\tDallas\t1\nok\t1\nok\t0\n";
 
 /// The ids that a batch drops, those of the facts that it puts, and those of the rows.
-type Ids = (&'static [u64], &'static [u64], &'static [u64]);
+pub type BatchIds = (&'static [u64], &'static [u64], &'static [u64]);
 
 /// A batch for each edit that is accepted, and for no other line.
-const BATCHES: [Ids; 6] = [
+const BATCHES: [BatchIds; 6] = [
     (&[], &[1], &[1]),
     (&[], &[2], &[2]),
     (&[], &[3], &[3]),
@@ -210,7 +210,7 @@ const BATCHES: [Ids; 6] = [
 ];
 
 /// Whether a batch has these ids, and no schema.
-fn has_ids(batch: &Batch, ids: &Ids) -> bool {
+fn has_ids(batch: &Batch, ids: &BatchIds) -> bool {
     let (gone, facts, rows) = *ids;
     batch.schema.is_none()
         && batch.gone.as_slice() == gone
@@ -229,7 +229,7 @@ fn has_ids(batch: &Batch, ids: &Ids) -> bool {
 }
 
 /// Whether the batches of a keeper are these.
-fn has_batches(keeper: &MemKeeper, batches: &[Ids]) -> bool {
+pub fn has_batches(keeper: &MemKeeper, batches: &[BatchIds]) -> bool {
     keeper.journal().len() == batches.len()
         && keeper
             .journal()
@@ -246,7 +246,7 @@ const REPAIR_REPLIES: &str =
     "ok\t1\nok\t1\nok\t1\nok\t1\nrows\t3\t2\tAustin\tCamry\t2\tDallas\tCamry\t1\nok\t0\nsum\t801.000000000\t801.000000000\t801\n";
 
 /// The last batch puts the fact, and none of its rows.
-const REPAIR_BATCHES: [Ids; 5] = [
+const REPAIR_BATCHES: [BatchIds; 5] = [
     (&[], &[1], &[1]),
     (&[], &[2], &[2]),
     (&[], &[3], &[3]),
@@ -278,7 +278,7 @@ type Scripted = (
     &'static str,
     &'static str,
     u64,
-    &'static [Ids],
+    &'static [BatchIds],
     &'static [FactRow],
     &'static [SpreadRow],
 );
