@@ -25,7 +25,7 @@ DRILLS = [1, 2, 3, 4, 7, 16, 29, 52, 64, 81, 100, 150]  # facts; the plain model
 WRONG_WORDS = [
     *([], [""], ["Try"], ["try", ""], ["try", "x"], ["try\n"], ["\udcff"]),
     *(["help"], ["--help"], ["run"], ["drill", "0"]),
-    *(["ask"], ["ask", "s"], ["ask", "", "count"], ["Ask", "s", "count"], ["schema"], ["schema", "s", "t"], ["rows"], ["rows", "s", ""]),
+    *(["ask"], ["ask", "s"], ["ask", "", "count"], ["Ask", "s", "count"], ["schema"], ["schema", "s", "t"], ["rows"], ["rows", "s", ""], ["rebuild"], ["rebuild", ""], ["rebuild", "s", "t"]),
 ]
 MOST_NODES = {1: 12, 2: 8, 3: 6, 4: 4, 6: 2, 7: 1}  # of a dimension, by how many there are; 7 are too many
 

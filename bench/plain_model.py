@@ -59,7 +59,7 @@ FEW_WORLDS = 4096  # of which the least and the greatest sum are looked for one 
 # Statuses.
 FINISHED, FINISHED_WITH_REFUSALS, USAGE, SCHEMA_REFUSED = range(4)
 
-USAGE_TEXT = "usage: cube try, init NAME, run NAME, check NAME, import NAME, export NAME, drill N, ask NAME WORD.., schema NAME, rows NAME"
+USAGE_TEXT = "usage: cube try, init NAME, run NAME, check NAME, import NAME, export NAME, drill N, ask NAME WORD.., schema NAME, rows NAME, rebuild NAME"
 
 
 # Facts, and how they lie.

@@ -226,11 +226,53 @@ def compare_hand_made(program, folder):
         if wanted[1] == 0:
             must(call(program, ["schema", path]), (SCHEMA, 0, b""), f"schema of {name}")
             must(call(program, ["rows", path]), (ROWS_FILE, 0, b""), f"rows of {name}")
+            must(call(program, ["rebuild", path]), (b"rebuilt\t4\t5\t0\n", 0, b""), f"rebuild of {name}")
         if wanted[1] == 5:
             for words in [["run", path], *table_calls(path)]:
                 must(call(program, words, b"withdraw\t1\n"), wanted, f"{words[0]} over {name}")
+            if "rows" not in changes:
+                must(call(program, ["rebuild", path]), wanted, f"rebuild of {name}")
             must(tables_alone(path), tables_alone_of(before, folder), f"tables of {name} afterwards")
     print(f"{len(cases)} stores by hand alike")
+
+
+def altered(random, rows):
+    """Rows of which some are others, some are missing, and some have ids without a fact; and how many entries are put right."""
+    kept, changed = [], 0
+    for i, den, body in rows:
+        how = random.choice(("as it is", "missing", "denominator", "weight", "cell", "empty"))
+        changed += how != "as it is"
+        if how == "denominator":
+            den += 1
+        elif how == "weight":
+            body = [(cell, weight + (place == 0)) for place, (cell, weight) in enumerate(body)]
+        elif how == "cell":
+            body = [(cell + 7, weight) for cell, weight in body]
+        elif how == "empty":
+            body = []
+        if how != "missing":
+            kept.append((i, den, body))
+    for i in random.sample((0, 5, 9, 2**62), random.randrange(4)):
+        kept.append((i, 1, [(0, 1)]))
+        changed += 1
+    return kept, changed
+
+
+def compare_rebuilt(program, folder):
+    """Stores by hand whose rows are altered, put right: twice in turn, the second time without anything to do."""
+    random = Random("rebuilt")
+    right = str(Path(folder) / "right.cube")
+    hand_made(right)
+    count = 100
+    for number in range(count):
+        path = str(Path(folder) / f"altered {number}.cube")
+        rows, changed = altered(random, ROWS)
+        hand_made(path, rows=rows)
+        must(call(program, ["rebuild", path]), (b"rebuilt\t4\t5\t%d\n" % changed, 0, b""), f"rebuild of {rows}")
+        must(call(program, ["rebuild", path]), (b"rebuilt\t4\t5\t0\n", 0, b""), f"rebuild after {rows}")
+        must(call(program, ["check", path]), (b"sound\t4\t5\n", 0, b""), f"check after {rows}")
+        must(tables_alone(path), tables_alone(right), f"tables after {rows}")
+    print(f"{count} stores rebuilt")
 
 
 # The nodes of that schema, as a query of docs/STORE.md tells them.
@@ -424,6 +466,7 @@ def main():
     with tempfile.TemporaryDirectory() as folder:
         try:
             compare_hand_made(program, folder)
+            compare_rebuilt(program, folder)
             compare_queries(folder)
             compare_grown(program, folder)
             compare_table_rows(program, folder)
