@@ -32,7 +32,7 @@ pub record ReadsFile (reader : Reader (Bor (List ℕ))) : Type 0 where
   pub flexible : is_flexible reader ≡ true
   pub ready : Ready reader
 
--- a reader of a file reads so until it fails for want of memory
+-- a reader of a file reads so until it runs out of memory
 abbrev pub IsFileReader : Reader (Bor (List ℕ)) → Type 0
 IsFileReader reader = has_failed reader ≡ false → ReadsFile reader
 

@@ -9,7 +9,7 @@ use cube_base::Memory;
 use std::alloc::Global;
 use std::marker::Model;
 
-/// A walk through the records of a file. Contracts see the records that are left, none where memory was wanting.
+/// A walk through the records of a file. Contracts see the records that are left, none where it ran out of memory.
 #[derive(Drop)]
 pub(crate) struct RecordReader<'a> {
     reader: Reader<&'a [u8]>,

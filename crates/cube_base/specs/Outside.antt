@@ -32,7 +32,7 @@ pub record Rose (before after : ℕ) : Type 0 where
 abbrev pub CountsFault : {T E : Type 0} → ℕ → ℕ → Result T E → Type 0
 CountsFault before after result = MatchResult result (λ _. after ≡ before) (λ _. Rose before after)
 
--- a call that may also want memory: the count rose at a fault, and stays at every other answer
+-- a call that may also run out of memory: the count rose at a fault, and stays at every other answer
 abbrev pub CountsSinkFault : {T : Type 0} → ℕ → ℕ → Result T SinkError → Type 0
 CountsSinkFault before after (Ok _) = after ≡ before
 CountsSinkFault before after (Err Failed) = Rose before after

@@ -1,10 +1,10 @@
-//! Why a call failed: want of memory, or a fault of the outside.
+//! Why a call failed: out of memory, or a fault of the outside.
 ghost use Rattle.std.specs.Prelude.{◌≡◌};
 ghost use Rattle.cube_base.specs.declared.fault.SinkError.TheVariants as sink_error;
 
 use std::alloc::{AllocError, AllocFailed};
 
-/// Want of memory: an allocation was refused. What was there before the call stands as it was.
+/// Out of memory: an allocation was refused. What was there before the call stands as it was.
 #[derive(Clone, Copy, Debug, PartialEq, Eq)]
 pub struct Memory;
 
@@ -29,7 +29,7 @@ pub struct Failed;
 pub enum SinkError {
     /// A fault of the outside. The sink counts it.
     Failed,
-    /// Want of memory.
+    /// Out of memory.
     Memory,
 }
 

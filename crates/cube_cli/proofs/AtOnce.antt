@@ -72,7 +72,7 @@ module _ (kinds : List EndKind) (reads stores keeps over : Bool) (refused commit
     written (Err sink_error.Memory) finished write memory keep did text =
         goes_to (Memory commits) memory (record { read = goes.read; write = text.0; keep = keep }) few tt (inr refl) (fits_first Fitting seen commits goes.fitting) (inr (refl, did, text.1))
 
-  -- memory was wanting before anything was written or kept
+  -- it ran out of memory before anything was written or kept
   pub wanted : IsAmong kinds (Memory 0) → NoFault seen → DidNothing seen → TakesAtMost INPUT_LIMIT seen.source.left seen.source.left_after → (reads ≡ false → ReadNothing seen.source) → Holds seen.keeper Fitting
       → SaysBy kinds doing Fitting seen (Memory 0)
   wanted may none nothing took unread fitting =
@@ -145,7 +145,7 @@ module _ (kinds : List EndKind) (over : Bool) (work : List ℕ → Stored → On
     pub many_rows : (would : ℕ) → IsAmong kinds (ImportRows would) → (work input content).refusal ≡ Some (ImportRows would) → SaysBy kinds keeping Fitting seen (ImportRows would)
     many_rows would may is = refused (ImportRows would) may none_failed nothing tt goes.fitting (is_judged (Some (ImportRows would)) is) took
 
-    -- or memory was wanting
+    -- or it ran out of memory
     pub wants : IsAmong kinds (Memory 0) → SaysBy kinds keeping Fitting seen (Memory 0)
     wants may = wanted kinds true true true over 0 1 work Fitting seen may none_failed nothing took goes.unread goes.fitting
 

@@ -1,4 +1,4 @@
--- A run to which no fault comes, over a store that fits the command, is done to its end unless it is refused or memory is wanting: by cases
+-- A run to which no fault comes, over a store that fits the command, is done to its end unless it is refused or it is out of memory: by cases
 -- of what its end says.
 use Rattle.std.proofs.Common.{◌≡◌, ℕ, ◌≤◌, Bool, true, false, List, [], length, refl, sym, ap, ◌∙◌, subst, arith, Option, Some, None, Result, Ok, Err}
 use Rattle.std.specs.Prelude.{◌≢◌, IfSome, IsOkAnd, slice_get}

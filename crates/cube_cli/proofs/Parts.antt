@@ -57,7 +57,7 @@ starts sink = record { sent = []; made_is = refl; count = refl; wrote = Appends-
 pub waits : (made waiting next : List ℕ) (sink : SinkSeen) → OnItsWay made waiting sink → OnItsWay (made ++ next) (waiting ++ next) sink
 waits made waiting next sink on = record { sent = on.sent; made_is = ap (λ l. l ++ next) on.made_is ∙ append_assoc on.sent waiting next; count = on.count; wrote = on.wrote }
 
--- memory was wanting where more was to come
+-- it ran out of memory where more was to come
 pub stops : (T : Type 0) (start now : SinkTold) (made waiting next : List ℕ) → OnItsWay made waiting (since start now) → 1 ≤ length next → WritesText {T = T} (made ++ next) (since start now) (Err Memory)
 stops T start now made waiting next on some = (
   on.count,
@@ -87,7 +87,7 @@ module _ (start before after : SinkTold) (made waiting : List ℕ) (on : OnItsWa
       by (inr taken) = inr (part_of_made taken next)
       by (inl none) = (stops T start after made waiting next (record { sent = on.sent; made_is = on.made_is; count = part.0 ∙ on.count; wrote = kept_after start.taken before.taken after.taken on.sent on.wrote none }) some).1
 
--- a part was added to what waits, or memory was wanting for it
+-- a part was added to what waits, or there was no memory for it
 pub pushed : {T : Type 0} (start now : SinkTold) (made waiting after part next : List ℕ) (result : Result T SinkError) → OnItsWay made waiting (since start now) → part ≡ next → 1 ≤ length next → OnOk result (after ≡ waiting ++ part)
     → IfErr result (λ error. error ≡ Memory) → Gathers (made ++ next) after (since start now) result
 pushed start now made waiting after part next (Ok ok) on is some whole wants =

@@ -113,6 +113,6 @@ module _ (cube : CubeValue PolicyWord) (content : Stored) (is : IsCubeOf cube co
       import_refused import_fault.Memory why write nothing keep =
           wants (ends_of (Some (Store (Input Import)))) true import_work IsSoundContent seen keep write nothing content file goes refl
 
-    -- or memory was wanting
+    -- or it ran out of memory
     pub import_wants : NoKeepFault seen.keeper → NoWriteFault seen.sink → DidNothing seen → SaysOf (Some (Store (Input Import))) seen (Memory 0)
     import_wants keep write nothing = wants (ends_of (Some (Store (Input Import)))) true import_work IsSoundContent seen keep write nothing content file goes refl

@@ -201,7 +201,7 @@ stops_taking source left_now faults_now room held text input_stop.Memory now sam
   },
 )
 
--- or memory was wanting for the lines of one
+-- or there was no memory for the lines of one
 pub wants_memory : (left left_now left_after : Option (List ℕ)) (before after : Reading) (held held_after : List (List ℕ)) (text : List ℕ) → IsTaking left left_now before.room held text → Feeds left_now left_after before after held held_after
     → TakesAtMost INPUT_LIMIT left left_after
 wants_memory left left_now left_after before after held held_after text now feeds = record {

@@ -114,7 +114,7 @@ pub record StoppedAtEdit (work : LineWork) (done : ℕ) (seen : SeenAll) : Type 
   pub next : length (work.kept (done + 1)) ≡ length (work.kept done) + 1
   pub near : TakesAtMost (work.line_end (done + 1) + PIECE_LIMIT) seen.source.left seen.source.left_after
 
--- Memory was wanting within the first so many replies.
+-- It ran out of memory within the first so many replies.
 pub record WantedMemory (work : LineWork) (done : ℕ) (seen : SeenAll) : Type 0 where
   pub wrote : Wrote seen.sink.taken seen.sink.taken_after (Stopped work.replies done)
   pub kept : Commits (work.kept done) seen.keeper.told seen.keeper.told_after
@@ -206,12 +206,12 @@ pub record NoneFailed (doing : Doing) (seen : SeenAll) : Type 0 where
   pub write : WriteFailed seen.sink → ⊥
   pub keep : doing.stores ≡ true → KeepFailed seen.keeper → ⊥
 
--- the run was done to its end, the words or the input are refused, or memory was wanting
+-- the run was done to its end, the words or the input are refused, or it ran out of memory
 abbrev pub IsDone : End → Type 0
 IsDone end = IsAmong (EndKind.Finished ∷ EndKind.Usage ∷ EndKind.Schema ∷ EndKind.BadRecord ∷ EndKind.ImportRows ∷ EndKind.Memory ∷ []) end
 
 -- Where no fault comes, the store holds what the command must find, and the input is not too long, it is so. With what the end says an
--- input that is accepted is done to its end then, unless memory is wanting.
+-- input that is accepted is done to its end then, unless it runs out of memory.
 abbrev pub IsCompleteOf : List ℕ → Option Command → SeenAll → End → Type 0
 IsCompleteOf line command seen end = NoneFailed (doing_of line command) seen
     → OfContent (doing_of line command).stores seen.keeper (λ content. Fits command content → OfInput (doing_of line command).reads seen.source (λ input. length input ≤ INPUT_LIMIT → IsDone end))

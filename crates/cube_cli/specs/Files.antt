@@ -64,7 +64,7 @@ refused_over schema facts file = refused_in (shape_of schema) schema.dims facts 
 abbrev pub rows_with : Policy → SchemaValue → List Fact → List ℕ → ℕ
 rows_with policy schema facts file = row_count (extended policy schema.dims (facts_with schema facts file))
 
--- the batch of a file, and the reply to it: the number of its facts, and how many facts are new or lie otherwise than before
+-- the batch of a file, and the reply to it: the number of its facts, and how many facts are new or have another allocation than before
 abbrev pub import_batch : Policy → SchemaValue → List Fact → List ℕ → Batch
 import_batch policy schema facts file = difference_with policy schema.dims (seq_of schema file).facts facts
 

@@ -22,7 +22,7 @@ without_tail text (Err bad) = Err bad
 abbrev pub schema_alone : List ℕ → Result SchemaValue BadLine
 schema_alone text = without_tail text (schema_of text)
 
--- why a text is not read as a schema alone; want of memory says nothing
+-- why a text is not read as a schema alone; out of memory says nothing
 abbrev pub HasCauseAlone : List ℕ → SchemaFault → Type 0
 HasCauseAlone text (schema_fault.Bad line why) = schema_alone text ≡ Err (record { line = line; reason = why })
 HasCauseAlone text schema_fault.Memory = ⊤

@@ -64,7 +64,7 @@ pub record TookLines (source : SourceSeen) (room_after : ℕ) (held_after : List
   pub holds : HoldsSchemaLines source taken size text
   pub last : IsLastPiece taken size
 
--- Why they were not: a read failed, the byte came that is one too many, or memory was wanting, before the line `end`.
+-- Why they were not: a read failed, the byte came that is one too many, or it ran out of memory, before the line `end`.
 pub record LacksEnd (taken : List ℕ) : Type 0 where
   pub few : length taken ≤ INPUT_LIMIT
   pub no_end : has_end taken ≡ false

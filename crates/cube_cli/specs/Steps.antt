@@ -35,7 +35,7 @@ pub record Opened (schema : SchemaValue) (content : Stored) (keeper : KeeperSeen
   pub kept : IsUntouched keeper
   pub count : NoKeepFault keeper
 
--- why it was not loaded: there is nothing in it, the keeper failed, this is found in it first, and not in its rows, or memory was wanting
+-- why it was not loaded: there is nothing in it, the keeper failed, this is found in it first, and not in its rows, or it ran out of memory
 abbrev pub NotOpened : KeeperSeen → OpenStop → Type 0
 NotOpened keeper open_stop.NoCube = IsUntouched keeper × NoKeepFault keeper × Holds keeper (λ kept. kept ≡ empty_content)
 NotOpened keeper open_stop.Fault = IsUntouched keeper × KeepFailed keeper

@@ -71,7 +71,7 @@ pub enum StoreCommand {
 ///
 /// `import` takes a CSV file of facts over the schema of the store, of which the first record is the header, and puts all of them as one
 /// batch or none: where a record is refused, the first one's index, from 0 for the header, and its code are told. The reply is `imported`
-/// with the number of facts in the file and that of the facts that are new or lie otherwise than before. `export` takes no input and
+/// with the number of facts in the file and that of the facts that are new or whose allocation changed. `export` takes no input and
 /// writes such a file of all facts, in order of their ids. `schema` takes no input and writes the canonical text of the schema, whatever text is
 /// kept. `rows` takes no input and writes a CSV file of the rows of all facts, in order of ids and cells, part by part. None of these commits anything.
 ///

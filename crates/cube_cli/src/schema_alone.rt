@@ -10,7 +10,7 @@ use std::alloc::Global;
 use text_lines::{first_line_of, is_skipped};
 
 /// Reads a schema that a text holds alone. `Bad` comes exactly where the schema is refused, with its first faulty line, or else a line
-/// that is not skipped stands behind it: `Tail` with the number of that line. The one other error is want of memory.
+/// that is not skipped stands behind it: `Tail` with the number of that line. The only other error is running out of memory.
 pub fn read_schema_alone(alloc: Global, text: &[u8]) -> Result<Schema, SchemaFault>
     ensures read { IfOk result (λ schema. schema_alone text.now ≡ Ok schema) }
     ensures refused { IfErr result (HasCauseAlone text.now) }

@@ -25,7 +25,7 @@ use Rattle.cube_core.specs.Cube.{CubeValue, rows_in}
 use Rattle.cube_core.specs.declared.fault.EditFault.{EditFault}
 use Rattle.cube_core.specs.declared.fault.EditFault.TheVariants as edit_fault
 
--- the code of a refusal by a space; want of memory has none
+-- the code of a refusal by a space; out of memory has none
 abbrev pub growth_code : GrowFault → Option Code
 growth_code growth_fault.Name = Some code.Name
 growth_code growth_fault.Depth = Some code.Depth
@@ -54,11 +54,11 @@ judge_growth policy dims facts grow =
 abbrev pub lies_the_same : Policy → List Dimension → List Dimension → List Fact → Fact → Bool
 lies_the_same policy dims later facts fact = is_same (allocation policy dims facts fact) (allocation policy later facts fact)
 
--- the ids of the facts that lie otherwise over later dimensions, in order
+-- the ids of the facts whose allocation changed over later dimensions, in order
 abbrev pub moved : Policy → List Dimension → List Dimension → List Fact → List ℕ
 moved policy dims later facts = map (λ f. f.id) (filter (λ f. not (lies_the_same policy dims later facts f)) facts)
 
--- What a growth changes of what is kept: the text of the schema, and the rows of the facts that lie otherwise.
+-- What a growth changes of what is kept: the text of the schema, and the rows of the facts whose allocation changed.
 abbrev pub growth_difference : Policy → SchemaValue → List Dimension → List Fact → Batch
 growth_difference policy schema later facts = record {
   schema = Some (schema_text (over_dims schema later));
@@ -81,7 +81,7 @@ moved_in weigh cube grow = moved (policy_in (weigh cube.policy) cube.schema) cub
 abbrev pub growth_difference_in : {P : Type 0} → (P → CellStat → ℕ) → CubeValue P → Grow → Batch
 growth_difference_in weigh cube grow = growth_difference (policy_in (weigh cube.policy) cube.schema) cube.schema (dims_with grow cube.schema.dims) cube.facts
 
--- Why a growth of a cube fails. Where it is refused for the number of rows, that number is told, else the code. Want of memory is the
+-- Why a growth of a cube fails. Where it is refused for the number of rows, that number is told, else the code. Out of memory is the
 -- free answer, of which nothing is said.
 abbrev pub IsGrowthFaultOf : {P : Type 0} → (P → CellStat → ℕ) → CubeValue P → Grow → EditFault → Type 0
 IsGrowthFaultOf weigh cube grow (edit_fault.Code refusal) = (judge_growth_in weigh cube grow ≡ Some refusal) × (refusal ≢ code.Rows)

@@ -37,7 +37,7 @@ import_refreshed_in weigh cube new = refreshed (policy_in (weigh cube.policy) cu
 abbrev pub import_difference_in : {P : Type 0} → (P → CellStat → ℕ) → CubeValue P → List Fact → Batch
 import_difference_in weigh cube new = difference_with (policy_in (weigh cube.policy) cube.schema) cube.schema.dims new cube.facts
 
--- Why a file is not put. Want of memory is the free answer, of which nothing is said.
+-- Why a file is not put. Out of memory is the free answer, of which nothing is said.
 abbrev pub IsImportFaultOf : {P : Type 0} → (P → CellStat → ℕ) → CubeValue P → FactSeq → ImportFault → Type 0
 IsImportFaultOf weigh cube seq (import_fault.BadRecord bad) = refused_in_cube cube seq ≡ Some bad
 IsImportFaultOf weigh cube seq (import_fault.Rows would) =

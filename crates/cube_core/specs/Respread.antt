@@ -42,7 +42,7 @@ facts_refusal policy later facts =
     first_refusal ((if has_large_region later facts then Some code.Region else None)
     ∷ (if has_many_rows (extended policy later facts) then Some code.Rows else None) ∷ [])
 
--- and why those of a state are not: want of memory is the free answer
+-- and why those of a state are not: out of memory is the free answer
 abbrev pub IsRespreadFault : {P : Type 0} → (P → CellStat → ℕ) → StateValue P → List Dimension → EditFault → Type 0
 IsRespreadFault weigh state later (edit_fault.Code refusal) = (facts_refusal (policy_in weigh state) later state.facts ≡ Some refusal) × (refusal ≢ code.Rows)
 IsRespreadFault weigh state later (edit_fault.Rows would) = (facts_refusal (policy_in weigh state) later state.facts ≡ Some code.Rows) × (would ≡ row_count (extended (policy_in weigh state) later state.facts))
@@ -60,14 +60,14 @@ rows_moved policy dims later facts some = map (rows_among policy later facts) (f
 abbrev pub all_moved : Policy → List Dimension → List Dimension → List Fact → List KeptRows
 all_moved policy dims later facts = map kept_rows (filter (λ e. is_among (moved policy dims later facts) e.id) (extended policy later facts))
 
--- Why a space gets no leaf: its refusal is told, or memory is wanting.
+-- Why a space gets no leaf: its refusal is told, or it is out of memory.
 abbrev pub IsSpaceFault : List Dimension → Grow → EditFault → Type 0
 IsSpaceFault dims grow (edit_fault.Code refusal) = (space_refusal dims grow ≡ Some refusal) × (refusal ≢ code.Rows)
 IsSpaceFault dims grow (edit_fault.Rows would) = ⊥
 IsSpaceFault dims grow edit_fault.KeepFault = ⊥
 IsSpaceFault dims grow edit_fault.Memory = ⊤
 
--- the text of a schema, and the rows of the facts that lie otherwise over its dimensions
+-- the text of a schema, and the rows of the facts whose allocation changed over its dimensions
 abbrev pub batch_to : Policy → List Dimension → SchemaValue → List Fact → Batch
 batch_to policy dims later facts = record { schema = Some (schema_text later); gone = []; facts = []; rows = all_moved policy dims later.dims facts }
 

@@ -23,7 +23,7 @@ world_sum_in weigh cube region = record {
   totals = map (λ column. total cube.schema.dims region column (rows_in weigh cube)) (range_with_len 0 (width_of_all cube.schema.measures + 1));
 }
 
--- why worlds are not listed; want of memory, which may be met before they are judged, says nothing
+-- why worlds are not listed; out of memory, which may be met before they are judged, says nothing
 abbrev pub IsWorldFault : List Placed → WorldFault → Type 0
 IsWorldFault placed (world_fault.Many product) = fault_of placed ≡ Some (world_fault.Many product)
 IsWorldFault placed world_fault.Wide = fault_of placed ≡ Some world_fault.Wide

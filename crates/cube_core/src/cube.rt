@@ -49,7 +49,7 @@ use world_law::{WorldFault, WorldSum, enumerate};
 /// What an accepted edit or import did.
 #[derive(Debug, Drop)]
 pub struct Receipt {
-    /// The ids of the facts that are new or lie otherwise than before, ascending.
+    /// The ids of the facts that are new or whose allocation changed, ascending.
     pub refreshed: Ids,
     /// The id that was withdrawn, if the edit withdrew one.
     pub removed: Option<u64>,
@@ -78,7 +78,7 @@ impl<P: WeightPolicy + Drop> Model for Cube<P> {
 }
 
 impl<P: WeightPolicy + Drop> Cube<P> {
-    /// A cube without facts, which weighs cells by this policy. The one error is want of memory.
+    /// A cube without facts, which weighs cells by this policy. The only error is running out of memory.
     pub fn new(alloc: Global, schema: Schema, policy: P) -> Result<Self, Memory>
         ensures schema { IfOk result (λ cube. cube.schema ≡ schema) }
         ensures policy { IfOk result (λ cube. cube.policy ≡ policy) }
@@ -115,7 +115,7 @@ impl<P: WeightPolicy + Drop> Cube<P> {
     }
 
     /// The cube of the facts of a stored content, which weighs cells by this policy. `Bad` is answered exactly where the facts or the
-    /// rows of the content are not sound over the schema, with what is found first, and the one other error is want of memory. The
+    /// rows of the content are not sound over the schema, with what is found first, and the only other error is running out of memory. The
     /// text of the content's schema, which must read as this one, is not looked at. It takes time in proportion to the facts and rows.
     pub fn from_stored(
         alloc: Global,
@@ -196,7 +196,7 @@ impl<P: WeightPolicy + Drop> Cube<P> {
     /// first of these that holds refuses it: `Code` with `Value` or `Parts`, the values of the fact are none of the measures;
     /// `Exists`, a put's id is there; `Missing`, the id of a change or a withdrawal is not; `Region`, the region has more than 2^20
     /// cells; `Facts`, a put finds 2^20 facts; and `Rows`, the facts after the edit have more than 2^21 rows, with their number.
-    /// `KeepFault` comes at a fault of the keeper alone, which it counts, and where nothing refuses the edit. `Memory` is want of
+    /// `KeepFault` comes at a fault of the keeper alone, which it counts, and where nothing refuses the edit. `Memory` is running out of
     /// memory: no code that is judged before the rows refuses the edit. On every error the cube, and what the keeper holds, are as
     /// they were.
     ///
@@ -238,7 +238,7 @@ impl<P: WeightPolicy + Drop> Cube<P> {
     /// put the facts before it refuse, those of the cube and those of the file, by the first that holds of `Value`, `Parts`, `Exists`,
     /// `Region` and `Facts`; and behind all facts the record that could not be read. Else `Rows` is answered where all facts then have more
     /// than 2^21 rows, with their number. `KeepFault` comes at a fault of the keeper alone, which it counts, and where nothing refuses
-    /// the file. The one other error is want of memory. On every error the cube, and what the keeper holds, are as they were. It takes
+    /// the file. The only other error is running out of memory. On every error the cube, and what the keeper holds, are as they were. It takes
     /// time in proportion to the facts and rows of the cube and the file.
     pub fn import<K: Keeper>(
         &mut self,
@@ -279,7 +279,7 @@ impl<P: WeightPolicy + Drop> Cube<P> {
     /// What the facts add up to inside `r`, which must be a region of the space: for each denominator among the
     /// allocations, ascending, the sums over the facts of each column times the weight inside, the count first; where the
     /// count is 0 there is no term. At each term the sums of a distribution's outcomes add up to its scale times the count. The
-    /// first view that serves the region is asked, and where none does each region that has facts. The one error is want of memory.
+    /// first view that serves the region is asked, and where none does each region that has facts. The only error is running out of memory.
     ///
     /// These are the exact expectations over all worlds of the facts, in each of which every fact stands in one cell of its
     /// allocation; and where a node of the region has children, the answers at the regions with each child in its place merge
@@ -310,7 +310,7 @@ impl<P: WeightPolicy + Drop> Cube<P> {
 
     /// The view at a place, of which there must be one: each region of the product of its cuts in which the facts have terms,
     /// with these, the first dimension slowest and the nodes of each dimension in their order. It is a copy of what is kept. The one
-    /// error is want of memory.
+    /// error is running out of memory.
     pub fn view_list(&self, view: u32) -> Result<ViewList, Memory>
         requires { view < length self.now.schema.views }
         ensures entries { IfOk result (λ entries. entries ≡ view_in P.weigh self.now view) }
@@ -320,7 +320,7 @@ impl<P: WeightPolicy + Drop> Cube<P> {
     }
 
     /// The facts with their allocations, in order of their ids, as worlds are made of them: the ids are left out. The one
-    /// error is want of memory.
+    /// error is running out of memory.
     pub fn placed(&self) -> Result<PlacedList, Memory>
         ensures placed { IfOk result (λ placed. placed ≡ placed_in P.weigh self.now) }
         ensures allocations { IfOk result (All (λ p. IsAllocation (record { den = p.den; rows = p.rows }))) }
@@ -338,7 +338,7 @@ impl<P: WeightPolicy + Drop> Cube<P> {
     /// What all worlds of the facts come to in `r`, which must be a region of the space: their number, the sum of their
     /// weights, and for each column, the count first, the total over all worlds of what stands in the region. `Many` is
     /// answered exactly where there are more than 65,536 worlds, and else `Wide` exactly where their weights come to more
-    /// than 2^60; want of memory is the one other error. It goes through all worlds for each column, and takes memory for the
+    /// than 2^60; running out of memory is the only other error. It goes through all worlds for each column, and takes memory for the
     /// rows of the facts, whatever the number of worlds.
     pub fn worlds(&self, r: Region) -> Result<WorldSum, WorldFault>
         requires { IsRegion self.now.schema.dims r }

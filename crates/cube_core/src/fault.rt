@@ -18,7 +18,7 @@ pub enum EditFault {
     /// The keeper had a fault, and counts it. No rule refuses the edit.
     #[error("the store failed")]
     KeepFault,
-    /// Want of memory. The edit is refused by no code that is judged before its rows are made.
+    /// Out of memory. The edit is refused by no code that is judged before its rows are made.
     #[error("no memory")]
     Memory,
 }
@@ -107,7 +107,7 @@ pub enum ImportFault {
     /// The keeper had a fault, and counts it. Nothing refuses the file.
     #[error("the store failed")]
     KeepFault,
-    /// Want of memory.
+    /// Out of memory.
     #[error("no memory")]
     Memory,
 }

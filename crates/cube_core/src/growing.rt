@@ -25,11 +25,11 @@ use std::mem::replace;
 impl<P: WeightPolicy + Drop + Copy> Cube<P> {
     /// Gives a dimension a leaf: its dimension and the parent must be there, and no node of the dimension may have its name. What is kept
     /// of the facts is made anew over the grown space, which takes time in proportion to the facts and their rows. To the keeper, which
-    /// must be open, one batch is committed: the one text of the schema as it is then, and the rows of the facts that lie otherwise. No
+    /// must be open, one batch is committed: the one text of the schema as it is then, and the rows of the facts whose allocation changed. No
     /// kept fact changes. `Code` is answered for the first of these that holds: `Depth`, the parent has depth 8; `Limit`, the dimension
     /// has 65,536 nodes; `Cells` and `Nodes`, the product of the numbers of leaves, or of nodes, would be 2^62 or more; `Region`, a fact
     /// would have more than 2^20 cells; and then `Rows`, all facts would have more than 2^21 rows, with their number. `KeepFault` comes
-    /// at a fault of the keeper alone, which it counts, and where nothing refuses the growth. The one other error is want of memory. On
+    /// at a fault of the keeper alone, which it counts, and where nothing refuses the growth. The only other error is running out of memory. On
     /// every error the cube, and what the keeper holds, are as they were.
     pub fn grow<K: Keeper>(&mut self, grow: &Grow, keeper: &mut K) -> Result<Receipt, EditFault>
         requires there { IsGrowOf self.old.schema.dims grow.now }

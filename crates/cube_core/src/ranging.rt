@@ -36,7 +36,7 @@ pub struct Picks {
 impl<P: WeightPolicy + Drop> Cube<P> {
     /// The least and the greatest that the sum of a column in `r` may be over all possible worlds of the facts. In each world every
     /// fact stands in one cell of its allocation. `r` must be a region of the space. Column 0 is the count, and those of the values
-    /// follow. The one error is want of memory.
+    /// follow. The only error is running out of memory.
     ///
     /// By the law of the ends some world has the least sum, some world has the greatest, and the sum of every world lies between.
     pub fn ends(&self, r: Region, column: u32) -> Result<Ends, Memory>
@@ -54,7 +54,7 @@ impl<P: WeightPolicy + Drop> Cube<P> {
 
     /// An end of what the sum of a column in `r` may be over all possible worlds of the facts, and where each imprecise fact stands
     /// in a world that has it. That is the cell of the first of its rows that is wanted there, or of its first row where none is.
-    /// `r` must be a region of the space. Column 0 is the count, and those of the values follow. The one error is want of memory.
+    /// `r` must be a region of the space. Column 0 is the count, and those of the values follow. The only error is running out of memory.
     /// It takes time in proportion to the facts and rows.
     pub fn picks(&self, extreme: Extreme, r: Region, column: u32) -> Result<Picks, Memory>
         requires region { IsRegion self.now.schema.dims r }

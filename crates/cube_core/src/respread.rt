@@ -25,7 +25,7 @@ use std::sync::ledger::Blank;
 
 /// The state of the same facts over another space, of which all their regions are. All that is kept of them is made anew. The first of
 /// these that holds is answered: `Code` with `Region`, a fact has more than 2^20 cells; `Rows`, they have more than 2^21 rows, with their
-/// number. The one other error is want of memory.
+/// number. The only other error is running out of memory.
 pub(crate) fn state_over<P: WeightPolicy + Drop + Copy>(
     alloc: Global,
     state: &State<P>,
@@ -77,7 +77,7 @@ fn run_of(alloc: Global, facts: &FactList) -> Result<FactRun, Memory>
     Ok(run)
 }
 
-/// Of facts that lie otherwise than before, the ids and the rows.
+/// Of the facts whose allocation changed, the ids and the rows.
 #[derive(Drop)]
 pub(crate) struct Moved {
     pub(crate) ids: Ids,

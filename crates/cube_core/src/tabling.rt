@@ -22,7 +22,7 @@ impl<P: WeightPolicy + Drop> Cube<P> {
     /// that depth under the region's node, and the leaves above that depth; or that node alone where it lies deeper. Of the regions of
     /// members, the first dimension slowest, it has those where the facts have terms, with these. All its terms merged are the answer
     /// in `r`. It makes one pass over the facts' regions that have a cell in common with `r`; a region without terms costs nothing. The
-    /// one error is want of memory.
+    /// one error is running out of memory.
     pub fn table(&self, depths: &[u8], r: Region) -> Result<ViewList, Memory>
         requires depths { length depths.now ≡ length self.now.schema.dims }
         requires region { IsRegion self.now.schema.dims r }

@@ -15,6 +15,6 @@ abbrev pub lies_as_before : Policy → List Dimension → List Fact → List Fac
 lies_as_before policy dims facts later fact =
     list_any (λ f. f.id == fact.id && is_same (allocation policy dims facts f) (allocation policy dims later fact)) facts
 
--- the ids of the later facts that are new or lie otherwise, in order
+-- the ids of the later facts that are new or whose allocation changed, in order
 unfoldable pub refreshed : Policy → List Dimension → List Fact → List Fact → List ℕ
 refreshed policy dims facts later = map (λ f. f.id) (filter (λ f. not (lies_as_before policy dims facts later f)) later)

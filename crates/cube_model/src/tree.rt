@@ -51,7 +51,7 @@ pub enum DimFault {
     Name { line: u32 },
     /// The numbers of the nodes are not distinct, not below their count, or one is not above that of the node's parent.
     Number,
-    /// Want of memory.
+    /// Out of memory.
     Memory,
 }
 

@@ -100,7 +100,7 @@ module _ (dims : List Dimension) (facts : List Fact) (changes : List CellChange)
           ∙ ap (λ b. b && has_code dims code f) (list_any-append (λ (change : CellChange). covers dims change.0 f) (take i changes) (get_or changes i d ∷ []))
           ∙ last (covers_one dims (take i changes) f) (covers dims (get_or changes i d).0 f) (has_code dims code f)
 
-  -- where memory is wanting then
+  -- where it runs out of memory then
   pub over-broken : (after : ℕ) → after ≤ before + length (codes_over dims (get_or changes i d).0) → after ≤ start + probes_over dims changes
   unfolding cost
   over-broken after counted = omega (arith, found.steps, counted, sum_by_more_le cost changes i d within)

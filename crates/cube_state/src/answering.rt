@@ -18,7 +18,7 @@ use region_index::codes_touching;
 impl<P: WeightPolicy + Drop> State<P> {
     /// What the facts add up to inside `r`, which must be a region of the space: for each denominator among the
     /// allocations, ascending, the sums over the facts of each column times the weight inside, the count first; where the count is
-    /// 0 there is no term. A view that serves the region is asked, and else the groups of facts. The one error is want of memory.
+    /// 0 there is no term. A view that serves the region is asked, and else the groups of facts. The only error is running out of memory.
     pub fn answer(&self, r: Region) -> Result<Terms, Memory>
         requires { IsRegion self.now.dims r }
         ensures { IfOk result (λ terms. terms ≡ terms_in P.weigh self.now r) }

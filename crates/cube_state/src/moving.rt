@@ -25,7 +25,7 @@ use std::sync::ledger::Ledger;
 use touched_cells::{Change, changes, lying, reweighing};
 
 impl<P: WeightPolicy + Drop> State<P> {
-    /// What an edit moves, which no code refuses that is judged before the rows. The one error is want of memory.
+    /// What an edit moves, which no code refuses that is judged before the rows. The only error is running out of memory.
     pub fn moves(&self, edit: &Edit) -> Result<Moves, Memory>
         requires over { IsEditOver self.now.dims edit.now }
         requires accepted { fact_refusal self.now.shape self.now.dims edit.now self.now.facts ≡ None }
@@ -47,8 +47,8 @@ impl<P: WeightPolicy + Drop> State<P> {
     }
 
     /// The codes of the regions whose groups an edit may change, ascending: those of the facts that it takes and gives, and of the
-    /// imprecise facts that cover a cell which weighs otherwise after it. Each region over such a cell is a step. The one error is want
-    /// of memory.
+    /// imprecise facts that cover a cell which weighs otherwise after it. Each region over such a cell is a step. The only error is running
+    /// out of memory.
     pub fn codes<L: Ledger>(&self, moves: &Moves, steps: &mut Steps<L>) -> Result<Ids, Memory>
         requires { AreMoves (policy_in P.weigh self.now) self.now.shape self.now.dims self.now.facts moves.now }
         ensures codes { IfOk result (HoldChanged (policy_in P.weigh self.now) (width_of_all self.now.shape.measures) self.now.dims moves.now.edit self.now.facts) }

@@ -34,8 +34,8 @@ pub struct Ends {
 
 impl<P: WeightPolicy + Drop> State<P> {
     /// The least and the greatest that the sum of a column in `r` may be over all possible worlds. In each world every fact stands in
-    /// one cell of its rows. `r` must be a region of the space. Column 0 is the count, and those of the values follow. The one error is
-    /// want of memory.
+    /// one cell of its rows. `r` must be a region of the space. Column 0 is the count, and those of the values follow. The only error is
+    /// running out of memory.
     ///
     /// It looks at the groups of the regions that have a cell in common with `r` where these are few beside all groups, and else at all.
     /// Of a group with cells on both sides it looks at the value of each fact, unless facts are counted.

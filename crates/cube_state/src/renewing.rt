@@ -17,7 +17,7 @@ use std::alloc::Global;
 impl<P: WeightPolicy + Drop> State<P> {
     /// The facts with new ones, and all that is kept of them, for this state: each region that facts have is spread once. In their
     /// order, each new fact must be one that a put accepts over the state's facts and those before it, the number of rows aside.
-    /// `Rows` is answered exactly where they would have more than 2^21 rows, with their number, unless memory is wanting.
+    /// `Rows` is answered exactly where they would have more than 2^21 rows, with their number, unless it runs out of memory.
     pub fn kept_with(&self, new: &[Fact]) -> Result<FactsKept, TooMany>
         requires { AreNew self.now.shape self.now.dims self.now.facts new.now }
         ensures facts { IfOk result (λ all. all.facts.facts ≡ put_all new.now self.now.facts) }

@@ -40,7 +40,7 @@ struct Stages {
 
 impl<P: WeightPolicy + Drop> State<P> {
     /// Makes room for what an edit sets, and answers all that is to be set, of which `regroup` made the groups. The content stays. The one
-    /// error is want of memory.
+    /// error is running out of memory.
     pub fn stage_all(&mut self, moves: &Moves, regrouped: Regrouped) -> Result<Sets, Memory>
         requires moves { AreMoves (policy_in P.weigh self.old) self.old.shape self.old.dims self.old.facts moves.now }
         requires regrouped { IsRegrouped (policy_in P.weigh self.old) (width_of_all self.old.shape.measures) self.old.dims moves.now.edit self.old.facts regrouped }

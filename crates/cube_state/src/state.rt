@@ -76,7 +76,7 @@ impl<P: WeightPolicy + Drop> Model for State<P> {
 }
 
 impl<P: WeightPolicy + Drop> State<P> {
-    /// A state without facts, with these views, each of which has a depth for each dimension of the space. The one error is want of
+    /// A state without facts, with these views, each of which has a depth for each dimension of the space. The only error is running out of
     /// memory.
     pub fn new(
         alloc: Global,
@@ -109,7 +109,7 @@ impl<P: WeightPolicy + Drop> State<P> {
 
     /// The state of these facts, with these views, each of which has a depth for each dimension of the space. It is made in one go: each
     /// region that facts have is spread once. `Rows` is answered exactly where they have more than 2^21 rows, with their
-    /// number, unless memory is wanting.
+    /// number, unless it runs out of memory.
     pub fn of_facts(
         alloc: Global,
         space: Space,
@@ -272,8 +272,8 @@ impl<P: WeightPolicy + Drop> State<P> {
 }
 
 impl<P: WeightPolicy + Drop + Copy> State<P> {
-    /// A state without facts over another space, of as many dimensions, with equal measures, views and an equal policy. The one error
-    /// is want of memory.
+    /// A state without facts over another space, of as many dimensions, with equal measures, views and an equal policy. The only error
+    /// is running out of memory.
     pub fn fresh(&self, space: Space) -> Result<Self, Memory>
         requires { length space ≡ length self.now.dims }
         ensures policy { IfOk result (λ state. state.policy ≡ self.now.policy) }

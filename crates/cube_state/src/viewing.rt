@@ -49,7 +49,7 @@ impl<P: WeightPolicy + Drop> State<P> {
     }
 
     /// The view at a place, of which there must be one: each region of the product of its cuts in which the facts have terms, with
-    /// these, the first dimension slowest and the nodes of each dimension in their order. The one error is want of memory.
+    /// these, the first dimension slowest and the nodes of each dimension in their order. The only error is running out of memory.
     pub fn view_list(&self, view: u32) -> Result<ViewList, Memory>
         requires { view < length self.now.cuts }
         ensures entries { IfOk result (λ entries. entries ≡ view_at P.weigh self.now view) }

@@ -189,7 +189,7 @@ fn stores_that_are_there_or_not(rt: HostRuntime) {
     assert!(rt; are_refused(rt.alloc(), &REFUSALS));
 }
 
-/// Four facts, a repeat, a question, a withdrawal by which the fourth lies otherwise, and a change to an equal fact.
+/// Four facts, a repeat, a question, a withdrawal by which the fourth has another allocation, and a change to an equal fact.
 const SCRIPT: &str =
     "insert\t1\tAustin\t10\ninsert\t2\tDallas\t20\ninsert\t3\tAustin\t30\ninsert\t4\tTX\t40\ninsert\t4\tTX\t41\nrows\t4\nwithdraw\t3\nchange\t2\tDallas\t20\n";
 

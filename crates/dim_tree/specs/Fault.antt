@@ -3,6 +3,6 @@ use Rattle.std.specs.Prelude.{◌≡◌, ◌≢◌, Option, Some}
 use Rattle.cube_model.specs.declared.tree.DimFault.{DimFault}
 use Rattle.cube_model.specs.declared.tree.DimFault.TheVariants.{Memory}
 
--- a fault other than want of memory is this one
+-- a fault other than out of memory is this one
 abbrev pub IsCause : Option DimFault → DimFault → Type 0
 IsCause cause fault = fault ≢ Memory → cause ≡ Some fault

@@ -173,7 +173,7 @@ impl Dim {
     }
 
     /// This dimension with a leaf of this name more, as the last child of `parent`. Its number is how many nodes there
-    /// were. `Memory` for want of memory alone.
+    /// were. `Memory` only when it runs out of memory.
     pub fn grown(&self, parent: u32, name: &Name) -> Result<Self, Memory>
         requires parent { parent < length self.now }
         requires depth { IfSome (entry_of self.now parent) (λ e. e.depth < MAX_DEPTH) }

@@ -42,7 +42,7 @@ impl Model for Drill {
 }
 
 impl Drill {
-    /// No edit is done yet. The one error is want of memory.
+    /// No edit is done yet. The only error is running out of memory.
     pub fn new(alloc: Global, schema: Schema) -> Result<Self, Memory>
         requires { schema ≡ drill_schema }
         ensures { IfOk result (λ drill. drill ≡ blank_tally) }
@@ -130,7 +130,7 @@ impl Drill {
         Ok(())
     }
 
-    /// What the facts add up to altogether. The one error is want of memory.
+    /// What the facts add up to altogether. The only error is running out of memory.
     pub fn total(&self) -> Result<Terms, Memory>
         ensures terms { IfOk result (λ terms. terms.terms ≡ terms_of self.now.facts) }
         ensures columns { IfOk result (λ terms. terms.columns ≡ 2) }

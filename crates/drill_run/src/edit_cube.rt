@@ -14,7 +14,7 @@ use region_index::Steps;
 use std::sync::ledger::{Blank, Ledger};
 
 /// Does an edit, and gives the number of the facts that it refreshed: none where it is refused. Its steps are counted in a ledger
-/// of their own. The one error is want of memory.
+/// of their own. The only error is running out of memory.
 pub fn edit_cube<L: Ledger>(
     cube: &mut Cube<ByCount>,
     edit: &Edit,

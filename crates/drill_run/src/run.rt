@@ -23,7 +23,7 @@ pub struct Summary {
 
 /// Makes a cube of the drill's schema, puts `n` facts, which `n` draws, and withdraws those of which 3 divides the id. `n` is from 1
 /// to 100,000. The line has the word `drill`, `n`, the number of the facts that are left, that of their rows, how many facts the
-/// edits refreshed altogether, and the exact count and sum of all that is left. The one error is want of memory.
+/// edits refreshed altogether, and the exact count and sum of all that is left. The only error is running out of memory.
 pub fn run_drill(alloc: Global, n: u64) -> Result<Summary, Memory>
     requires { n ≤ MAX_DRILL }
     ensures line { IfOk result (λ s. s.line ≡ summary_of n) }

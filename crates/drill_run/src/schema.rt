@@ -29,7 +29,7 @@ node\t2\tq2w11\nnode\t2\tq2w12\nnode\t1\tq3\nnode\t2\tq3w0\nnode\t2\tq3w1\nnode\
 node\t2\tq3w4\nnode\t2\tq3w5\nnode\t2\tq3w6\nnode\t2\tq3w7\nnode\t2\tq3w8\nnode\t2\tq3w9\nnode\t2\tq3w10\n\
 node\t2\tq3w11\nnode\t2\tq3w12\nview\tstate\t1\t1\nend\n";
 
-/// The schema of the drill. The one error is want of memory.
+/// The schema of the drill. The only error is running out of memory.
 pub fn read_drill_schema(alloc: Global) -> Result<Schema, Memory>
     ensures { IfOk result (λ schema. schema ≡ drill_schema) }
 {

@@ -11,7 +11,7 @@ use group_sum::Terms;
 use script_text::{append_exact, append_number};
 use std::alloc::Global;
 
-/// The line of the drill of a number. The one error is want of memory.
+/// The line of the drill of a number. The only error is running out of memory.
 pub fn summary(alloc: Global, drill: &Drill, n: u64) -> Result<Bytes, Memory>
     ensures { IfOk result (λ line. line ≡ line_of_tally n drill.now) }
 {

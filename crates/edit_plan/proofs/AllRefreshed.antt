@@ -1,4 +1,4 @@
--- Which of all facts are new or lie otherwise than before.
+-- Which of all facts are new or have another allocation than before.
 use Rattle.std.proofs.Common.{◌≡◌, ℕ, ◌<◌, ◌≤◌, Bool, true, false, List, [], ◌∷◌, ◌++◌, get_or, map, refl, ap, sym, ◌∙◌, subst}
 use Rattle.std.specs.Prelude.{All, AllPairs, Option, Some, None, filter, find, ◌==◌}
 use Rattle.std.specs.Option.{option_map, option_map_or}

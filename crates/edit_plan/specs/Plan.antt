@@ -68,7 +68,7 @@ IsChangeFor weigh state (plan_change.All all) = AreAllFor weigh state all
 abbrev pub IsPlanFor : {P : Type 0} → (P → CellStat → ℕ) → StateValue P → PlanValue → Type 0
 IsPlanFor weigh state plan = IsChangeFor weigh state plan.change
 
--- Why an edit is not planned. Where it is refused for the number of rows, that number is told, else the code. Want of memory is said only where the fact is not refused.
+-- Why an edit is not planned. Where it is refused for the number of rows, that number is told, else the code. Out of memory is said only where the fact is not refused.
 abbrev pub IsFaultOf : {P : Type 0} → (P → CellStat → ℕ) → StateValue P → Edit → PlanFault → Type 0
 IsFaultOf weigh state edit (plan_fault.Code refusal) = (judge_in weigh state edit ≡ Some refusal) × (refusal ≢ code.Rows)
 IsFaultOf weigh state edit (plan_fault.Rows would) = (judge_in weigh state edit ≡ Some code.Rows) × (would ≡ row_count (rows_after weigh state edit))

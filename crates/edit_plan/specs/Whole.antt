@@ -53,7 +53,7 @@ lies_otherwise policy dims facts later fact = not (lies_as_before policy dims fa
 abbrev pub rows_among : Policy → List Dimension → List Fact → Fact → KeptRows
 rows_among policy dims later fact = kept_rows (record { id = fact.id; values = fact.cols; allocation = allocation policy dims later fact })
 
--- of some of the later facts, those that are new or lie otherwise: their ids, and their rows
+-- of some of the later facts, those that are new or whose allocation changed: their ids, and their rows
 abbrev pub ids_otherwise : Policy → List Dimension → List Fact → List Fact → List Fact → List ℕ
 ids_otherwise policy dims facts later some = map (λ f. f.id) (filter (lies_otherwise policy dims facts later) some)
 
@@ -64,7 +64,7 @@ rows_otherwise policy dims facts later some = map (rows_among policy dims later)
 abbrev pub new_kept : List Fact → List Fact → List KeptFact
 new_kept facts some = map kept_fact (filter (λ f. not (has_id f.id facts)) some)
 
--- Why new facts are not planned: there would be too many rows, so many; or want of memory, of which nothing is said.
+-- Why new facts are not planned: there would be too many rows, so many; or out of memory, of which nothing is said.
 abbrev pub IsAllFaultOf : {P : Type 0} → (P → CellStat → ℕ) → StateValue P → List Fact → PlanAllFault → Type 0
 IsAllFaultOf weigh state new (plan_all_fault.Rows would) = (would ≡ row_count (rows_with weigh state new)) × (MAX_ROWS < would)
 IsAllFaultOf weigh state new plan_all_fault.Memory = ⊤

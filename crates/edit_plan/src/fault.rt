@@ -13,7 +13,7 @@ pub enum PlanFault {
     Code(Code),
     /// It is refused since the facts after it would have more than 2^21 rows: so many.
     Rows { would: u64 },
-    /// Want of memory. The edit is refused by no code that is judged before its rows are made.
+    /// Out of memory. The edit is refused by no code that is judged before its rows are made.
     Memory,
 }
 
@@ -30,7 +30,7 @@ impl From<Memory> for PlanFault {
 pub enum PlanAllFault {
     /// All facts would have more than 2^21 rows: so many.
     Rows { would: u64 },
-    /// Want of memory.
+    /// Out of memory.
     Memory,
 }
 

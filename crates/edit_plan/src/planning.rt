@@ -30,7 +30,7 @@ use std::sync::ledger::Ledger;
 /// the fact, if it has one, a region of the space. The content stays in every case. The first of these that holds refuses the edit:
 /// `Code` with `Value` or `Parts`, the values of the fact are none of the measures; `Exists`, a put's id is there; `Missing`, the id of
 /// a change or a withdrawal is not; `Region`, the region has more than 2^20 cells; `Facts`, a put finds 2^20 facts; and `Rows`, the
-/// facts after the edit have more than 2^21 rows, with their number. `Memory` is want of memory: no code that is judged before the
+/// facts after the edit have more than 2^21 rows, with their number. `Memory` means out of memory: no code that is judged before the
 /// rows refuses the edit.
 ///
 /// A step is one look at a region of the index, or one id that it hands out. With P the product over the dimensions of the largest

@@ -35,7 +35,7 @@ impl Plan {
     ghost use Rattle.std.specs.Prelude.{◌≡◌, []};
     ghost use Rattle.edit_plan.specs.Plan.{withdrawn_in};
 
-    /// The ids of the facts that are new or lie otherwise than before, ascending. It takes no memory.
+    /// The ids of the facts that are new or whose allocation changed, ascending. It takes no memory.
     pub fn refreshed(&self) -> &Ids
         ensures { result.now ≡ self.now.refreshed }
     {

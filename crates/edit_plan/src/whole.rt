@@ -30,7 +30,7 @@ use std::alloc::Global;
 /// Prepares that all of the facts are put, so that this can be installed without memory. In their order, each must be one that a put
 /// accepts over the state's facts and those before it, the number of rows aside. All that is kept of the facts is made anew, with one
 /// spread for each region that facts have. `Rows` is answered where they would have more than 2^21 rows, with their number, unless
-/// memory is wanting.
+/// it is out of memory.
 pub fn plan_all<P: WeightPolicy + Drop>(
     alloc: Global,
     state: &State<P>,
@@ -77,7 +77,7 @@ fn plan_of_all(
     })
 }
 
-/// Of facts that are new or lie otherwise than before, the ids and the rows.
+/// Of facts that are new or whose allocation changed, the ids and the rows.
 #[derive(Drop)]
 struct Refreshed {
     ids: Ids,
@@ -99,7 +99,7 @@ impl Refreshed {
     }
 }
 
-/// Of all facts the ids of those that are new or lie otherwise than before, and what they change in a store.
+/// Of all facts the ids of those that are new or whose allocation changed, and what they change in a store.
 fn kept_of_all<P: WeightPolicy + Drop>(
     alloc: Global,
     state: &State<P>,
@@ -125,7 +125,7 @@ fn kept_of_all<P: WeightPolicy + Drop>(
     Ok((ids, batch))
 }
 
-/// Of all facts those that are new or lie otherwise than before, in order.
+/// Of all facts those that are new or whose allocation changed, in order.
 fn refreshed_among<P: WeightPolicy + Drop>(
     alloc: Global,
     state: &State<P>,

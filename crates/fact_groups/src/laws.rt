@@ -233,7 +233,7 @@ pub fn same_allocations_are_equal()
     ensures same { (a : Allocation) → is_same a a ≡ true }
 {}
 
-/// An edit, accepted or not, refreshes the fact that it gives where that is new or lies otherwise than the one of its id did, and
+/// An edit, accepted or not, refreshes the fact that it gives where that is new or has another allocation than the one of its id had, and
 /// of the others each imprecise one whose region holds a cell that the edit reweighs and is spread otherwise. Their ids ascend.
 pub fn edits_refresh_what_covers_reweighed_cells()
     ensures members { (policy : Policy) (dims : List Dimension) (edit : Edit) (facts : List Fact) → AllPairs (λ f g. f.id < g.id) facts → (id : ℕ)
@@ -242,7 +242,7 @@ pub fn edits_refresh_what_covers_reweighed_cells()
         → (least : ℕ) → All (λ f. least ≤ f.id) (after edit facts) → ascends_from (λ id. id) least (refreshed policy dims facts (after edit facts)) ≡ true }
 {}
 
-/// An edit, accepted or not, refreshes the fact that it gives where that is new or lies otherwise than the one of its id did, and
+/// An edit, accepted or not, refreshes the fact that it gives where that is new or has another allocation than the one of its id had, and
 /// of the others those whose group was there and still is, and is spread otherwise, each of which is imprecise. Such groups are
 /// found at any codes but which the groups stay.
 pub fn edits_refresh_the_groups_that_are_respread()

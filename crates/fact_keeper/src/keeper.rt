@@ -14,7 +14,7 @@ use std::alloc::{AllocError, AllocFailed, Global};
 pub enum KeepError {
     /// A fault of the outside. The keeper counts it.
     Failed,
-    /// Want of memory.
+    /// Out of memory.
     Memory,
 }
 

@@ -5,7 +5,7 @@ use cube_base::Memory;
 use fact_records::FactList;
 use std::alloc::Global;
 
-/// A copy of the facts with room for so many more. The one error is want of memory.
+/// A copy of the facts with room for so many more. The only error is running out of memory.
 pub fn copy_with_room(alloc: Global, facts: &FactList, more: u64) -> Result<FactList, Memory>
     ensures facts { IfOk result (λ copy. copy.facts ≡ facts.now.facts) }
     ensures room { IfOk result (λ copy. more ≤ copy.spare) }

@@ -15,7 +15,7 @@ use std::alloc::Global;
 /// The first record of a file that is refused, if its facts are put one after another over the facts that there are: the
 /// first fact whose put is refused over these and those before it, by the first that holds of `Value`, `Parts`, `Exists`,
 /// `Region`, `Facts`, the number of rows aside; where none is, the record that could not be read, if there is one. Each
-/// fact must have an id from 1 to 2^63 - 1 and a region of the space. The facts stay as they are. The one error is want of
+/// fact must have an id from 1 to 2^63 - 1 and a region of the space. The facts stay as they are. The only error is running out of
 /// memory.
 pub fn judge_seq(
     alloc: Global,

@@ -43,7 +43,7 @@ AreStatsOf shape dims facts places = (weigh : CellStat → ℕ) (cell : ℕ) →
 abbrev pub AreGroupsOf : Policy → ShapeValue → List Dimension → List Fact → Places Group → Type 0
 AreGroupsOf policy shape dims facts places = (code : ℕ) → value_at places code ≡ group_at policy (width_of_all shape.measures) dims facts code
 
--- Why not all is kept: the facts have too many rows, so many; or want of memory, of which nothing is said.
+-- Why not all is kept: the facts have too many rows, so many; or out of memory, of which nothing is said.
 abbrev pub IsTooMany : Policy → List Dimension → List Fact → TooMany → Type 0
 IsTooMany policy dims facts (too_many.Rows would) = (would ≡ row_count (extended policy dims facts)) × (MAX_ROWS < would)
 IsTooMany policy dims facts too_many.Memory = ⊤

@@ -16,7 +16,7 @@ use view_store::Views;
 
 /// The facts with all that is kept of them, made in one go: each region that facts have is spread once. The views are without
 /// entries, over the columns of the measures. `Rows` is answered exactly where the facts have more than 2^21 rows, with their number,
-/// unless memory is wanting.
+/// unless it runs out of memory.
 pub fn keep_all<P: WeightPolicy>(
     alloc: Global,
     space: &Space,

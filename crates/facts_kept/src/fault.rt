@@ -9,7 +9,7 @@ use cube_base::Memory;
 pub enum TooMany {
     /// The facts have more than 2^21 rows: so many.
     Rows { would: u64 },
-    /// Want of memory.
+    /// Out of memory.
     Memory,
 }
 

@@ -54,7 +54,7 @@ pub record IsFirstBad (whole part : TermList) (den : ℕ) : Type 0 where
   pub bad : IsBad whole part den
   pub first : (d : ℕ) → d < den → ¬ IsBad whole part d
 
--- what a fault says: where memory is wanting, no denominator is bad
+-- what a fault says: where it runs out of memory, no denominator is bad
 abbrev pub Faults : TermList → TermList → SubFault → Type 0
 Faults whole part (Less den) = IsFirstBad whole part den
 Faults whole part Memory = HasDifference whole part

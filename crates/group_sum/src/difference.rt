@@ -19,7 +19,7 @@ use std::alloc::Global;
 pub enum SubFault {
     /// At this denominator, and at no smaller one, the count would be below 0, or 0 beside another numerator.
     Less { den: u64 },
-    /// Want of memory.
+    /// Out of memory.
     Memory,
 }
 

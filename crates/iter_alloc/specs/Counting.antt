@@ -26,7 +26,7 @@ pub record ArePlacedIn (dims : List Dimension) (facts : List Fact) : Type 0 wher
   pub regions : All (λ fact. IsRegion dims fact.region) facts
   pub sizes : All (λ fact. length (cells_of dims fact.region) ≤ MAX_CELLS) facts
 
--- Why nothing is answered: too many cells, with their number, and exactly where they are; or want of memory, which comes only
+-- Why nothing is answered: too many cells, with their number, and exactly where they are; or out of memory, which comes only
 -- where they are not.
 abbrev pub IsIterFault : List Dimension → List Fact → IterFault → Type 0
 IsIterFault dims facts (Many cells) = (cells ≡ cells_in_all dims facts) × (MOST_CELLS < cells)

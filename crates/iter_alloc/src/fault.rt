@@ -9,7 +9,7 @@ use cube_base::Memory;
 pub enum IterFault {
     /// The cells of all imprecise facts, those of each fact counted, number more than [`crate::MOST_CELLS`].
     Many { cells: u64 },
-    /// Want of memory.
+    /// Out of memory.
     Memory,
 }
 

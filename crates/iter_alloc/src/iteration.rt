@@ -27,7 +27,7 @@ use std::alloc::Global;
 /// for each column but the count, none beyond 10^12. There is one round at least.
 ///
 /// `Many` is answered exactly where the cells of all imprecise facts, those of each fact counted, number more than
-/// [`crate::MOST_CELLS`], with that number. Want of memory is the one other error.
+/// [`crate::MOST_CELLS`], with that number. Running out of memory is the only other error.
 ///
 /// Only the components that the region touches are shared out, which gives the same. Each round takes a few operations for each
 /// cell of a region that their facts have, however many facts have it.

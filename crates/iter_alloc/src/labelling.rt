@@ -21,7 +21,7 @@ use std::alloc::Global;
 /// The facts are in order of their ids, and there are at most 2^20; the region of each is one of the space, of at most 2^20 cells.
 ///
 /// `Many` is answered exactly where the cells of all imprecise facts, those of each fact counted, number more than
-/// [`crate::MOST_CELLS`], with that number. Want of memory is the one other error.
+/// [`crate::MOST_CELLS`], with that number. Running out of memory is the only other error.
 ///
 /// It takes memory for the cells and the regions of the imprecise facts, and a few operations for each cell.
 pub fn components(alloc: Global, space: &Space, facts: &FactList) -> Result<Ids, IterFault>

@@ -1,5 +1,5 @@
 //! Tests of the public calls of the libraries that the program does not make: with ample memory each that takes some gives its
-//! answer, and want of memory is none. They stand here and not in the libraries, each of which would be proved once more for a
+//! answer, and running out of memory is none. They stand here and not in the libraries, each of which would be proved once more for a
 //! test of its own; what the program calls is shown by the texts of `cube_tests`.
 #![tactic(auto)]
 

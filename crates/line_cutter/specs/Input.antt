@@ -45,7 +45,7 @@ pub record Reads (limit : ℕ) (left left_after : Option (List ℕ)) (before aft
   pub end : after.is_ended ≡ true → IsAtEnd left_after
 
 -- Why an input was not taken whole, of which some bytes came before: a read failed within the limit, the byte behind the limit
--- came, or memory was wanting within it.
+-- came, or it ran out of memory within it.
 abbrev pub StopsReading : ℕ → Option (List ℕ) → Option (List ℕ) → ℕ → ℕ → InputStop → Type 0
 StopsReading limit left left_after faults faults_after Fault = TakesAtMost limit left left_after × Rose faults faults_after
 StopsReading limit left left_after faults faults_after TooLong = GoesOn limit left left_after × (faults_after ≡ faults)

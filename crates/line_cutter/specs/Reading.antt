@@ -29,7 +29,7 @@ pub record Feeds (left left_after : Option (List ℕ)) (before after : Reading) 
   pub end : after.is_ended ≡ true → (piece ≡ []) × IsAtEnd left_after
 
 -- Why no piece was taken of an input of which so many bytes might still be: a read failed, and took none; the byte came that is
--- one too many; or memory was wanting for the piece.
+-- one too many; or there was no memory for the piece.
 abbrev pub StopsFeeding : ℕ → Option (List ℕ) → Option (List ℕ) → ℕ → ℕ → InputStop → Type 0
 StopsFeeding room left left_after faults faults_after Fault = Keeps left left_after × Rose faults faults_after
 StopsFeeding room left left_after faults faults_after TooLong = (room ≡ 0) × GoesOn 0 left left_after × (faults_after ≡ faults)

@@ -19,7 +19,7 @@ pub enum InputStop {
     Fault,
     /// The input goes on behind the most bytes that it may have.
     TooLong,
-    /// Memory was wanting for an input that is not too long so far.
+    /// There was no memory for an input that is not too long so far.
     Memory,
 }
 

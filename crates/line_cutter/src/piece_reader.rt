@@ -39,7 +39,7 @@ pub struct LineInput {
 }
 
 impl LineInput {
-    /// Nothing was taken yet. The one error is want of memory.
+    /// Nothing was taken yet. The only error is running out of memory.
     pub fn new(alloc: Global) -> Result<Self, AllocError>
         ensures pieces { IfOk result (λ input. input.pieces ≡ record { room = INPUT_LIMIT; is_ended = false }) }
         ensures lines { IfOk result (λ input. input.lines ≡ record { lines = [] ∷ []; bytes = 0 }) }
@@ -52,7 +52,7 @@ impl LineInput {
 }
 
 impl PieceReader {
-    /// Nothing was taken yet. The one error is want of memory.
+    /// Nothing was taken yet. The only error is running out of memory.
     pub fn new(alloc: Global) -> Result<Self, AllocError>
         ensures { IfOk result (λ reader. reader ≡ record { room = INPUT_LIMIT; is_ended = false }) }
     {

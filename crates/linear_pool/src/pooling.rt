@@ -23,7 +23,7 @@ pub type Pooled = PlainList<Quotient>;
 pub enum PoolFault {
     /// There is no term, so no count to divide by.
     Undefined,
-    /// Want of memory.
+    /// Out of memory.
     Memory,
 }
 

@@ -35,6 +35,6 @@ own_fault dims d parent name = option_and_then (λ dim. child_fault dim parent n
 abbrev pub grow_fault : List Dimension → ℕ → ℕ → List ℕ → Option GrowFault
 grow_fault dims d parent name = option_or (own_fault dims d parent name) (size_fault (grown_dims dims d parent name))
 
--- a fault other than want of memory is this one
+-- a fault other than out of memory is this one
 abbrev pub IsGrowCause : Option GrowFault → GrowFault → Type 0
 IsGrowCause cause fault = fault ≢ Memory → cause ≡ Some fault

@@ -21,7 +21,7 @@ pub enum GrowFault {
     Cells,
     /// The product of the numbers of nodes would be 2^62 or more.
     Nodes,
-    /// Want of memory.
+    /// Out of memory.
     Memory,
 }
 

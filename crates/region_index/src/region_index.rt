@@ -66,7 +66,7 @@ impl RegionIndex {
     }
 
     /// The ids that are held at the regions over a cell, ascending, each once. A step is a probe of a region or an id
-    /// that is handed out. Where memory is wanting, the steps are no more than the regions.
+    /// that is handed out. Where it runs out of memory, the steps are no more than the regions.
     pub fn covering<L: Ledger>(
         &self,
         space: &Space,
@@ -85,7 +85,7 @@ impl RegionIndex {
     }
 
     /// The codes of the regions over a cell at which ids are held, ascending. A step is a probe of a region over the
-    /// cell, and where memory is wanting, they are no more than these.
+    /// cell, and where it runs out of memory, they are no more than these.
     pub fn held_codes_over<L: Ledger>(
         &self,
         space: &Space,

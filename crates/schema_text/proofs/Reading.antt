@@ -66,7 +66,7 @@ schema_of-bad text draft lines rest line behind reason is cut stays refused =
     let here : read_from draft lines (line ∷ lines_of behind) ≡ Err (record { line = lines + 1; reason = reason }) = rw (stays, refused) refl in
     ap (sized text) (is.read ∙ ap (read_from draft lines) cut.cut ∙ here)
 
--- a line is refused, or memory is wanting
+-- a line is refused, or it is out of memory
 pub HasCause-line : (text : List ℕ) (draft : Draft) (lines : ℕ) (rest line behind : List ℕ) (fault : LineFault) → IsRead text draft lines rest → IsCut rest line behind → is_skipped line ≡ false
     → IsCause (line_fault draft line) fault → HasCause text (at_line (lines + 1) fault)
 HasCause-line text draft lines rest line behind (Refused reason) is cut stays cause = schema_of-bad text draft lines rest line behind reason is cut stays cause
@@ -92,7 +92,7 @@ schema_of-end text draft lines rest line behind is cut stays ends =
 pub schema_of-accepted : (text : List ℕ) (draft : Draft) (lines size : ℕ) → schema_of text ≡ read_with draft lines size → end_fault draft ≡ None → schema_of text ≡ Ok (record { schema = schema_of_draft draft; size = size })
 schema_of-accepted text draft lines size read accepted = read ∙ rw accepted refl
 
--- it is refused, or memory is wanting
+-- it is refused, or it is out of memory
 pub HasCause-end : (text : List ℕ) (draft : Draft) (lines size : ℕ) (fault : LineFault) → schema_of text ≡ read_with draft lines size → IsCause (end_fault draft) fault → HasCause text (at_line lines fault)
 HasCause-end text draft lines size (Refused reason) read cause = read ∙ rw cause refl
 HasCause-end text draft lines size Memory read cause = tt

@@ -10,12 +10,12 @@ use Rattle.schema_text.specs.declared.schema.SchemaFault.{SchemaFault}
 use Rattle.schema_text.specs.declared.schema.SchemaFault.TheVariants.{Bad, Memory}
 use Rattle.schema_text.specs.SchemaText.{schema_of}
 
--- a fault other than want of memory is that of the text
+-- a fault other than out of memory is that of the text
 abbrev pub HasCause : List ℕ → SchemaFault → Type 0
 HasCause text (Bad line code) = schema_of text ≡ Err (record { line = line; reason = code })
 HasCause text Memory = ⊤
 
--- a fault of a line other than want of memory is this one
+-- a fault of a line other than out of memory is this one
 abbrev pub IsCause : Option Code → LineFault → Type 0
 IsCause cause (line_fault.Refused code) = cause ≡ Some code
 IsCause cause line_fault.Memory = ⊤

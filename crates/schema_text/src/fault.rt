@@ -13,7 +13,7 @@ use std::alloc::AllocFailed;
 pub enum LineFault {
     /// The line is refused.
     Refused(Code),
-    /// Want of memory.
+    /// Out of memory.
     Memory,
 }
 

@@ -47,7 +47,7 @@ use text_lines::{first_line_of, is_skipped};
 /// - `Nodes`: at `end`, the product of their node counts is 2^62 or more.
 /// - `Cut`: the text ends before `end`; the line is the one behind its last.
 ///
-/// `Memory` comes for want of memory.
+/// `Memory` comes when it runs out of memory.
 pub fn read_schema(alloc: Global, text: &[u8]) -> Result<(Schema, usize), SchemaFault>
     ensures read { IfOk result (λ read. schema_of text.now ≡ Ok (record { schema = read.0; size = read.1 })) }
     ensures within { IfOk result (λ read. read.1 ≤ length text.now) }

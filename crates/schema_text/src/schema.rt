@@ -17,7 +17,7 @@ pub enum SchemaFault {
     /// The first line at fault, counted from 1, and why it is refused. A text that ends before its `end` is at fault in
     /// the line behind its last.
     Bad { line: u64, code: Code },
-    /// Want of memory.
+    /// Out of memory.
     Memory,
 }
 
@@ -127,7 +127,7 @@ impl Schema {
         self.views.as_slice()
     }
 
-    /// An equal schema over another space, of as many dimensions. The one error is want of memory.
+    /// An equal schema over another space, of as many dimensions. The only error is running out of memory.
     pub fn over(&self, alloc: Global, space: Space) -> Result<Self, Memory>
         requires { length space ≡ length self.now.dims }
         ensures { IfOk result (λ schema. schema ≡ over_dims self.now space) }

@@ -52,7 +52,7 @@ fn has_places(dim: &Dim) -> bool
     true
 }
 
-// Each of the following appends what it says, or, where memory is wanting, a part of it.
+// Each of the following appends what it says, or, where it runs out of memory, a part of it.
 
 /// Appends the text of a schema.
 fn append_schema(out: &mut Vec<u8>, s: &Schema) -> Result<(), Memory>

@@ -143,7 +143,7 @@ measure_answer Range weigh schema state measure region = range_answer weigh sche
 measure_answer Least weigh schema state measure region = picks_answer extreme.Least weigh schema state region (first_col_at schema measure)
 measure_answer Greatest weigh schema state measure region = picks_answer extreme.Greatest weigh schema state region (first_col_at schema measure)
 
--- the code where worlds are not listed; want of memory has none
+-- the code where worlds are not listed; out of memory has none
 abbrev pub worlds_code : WorldFault → Option Code
 worlds_code (world_fault.Many product) = Some Many
 worlds_code world_fault.Wide = Some Wide

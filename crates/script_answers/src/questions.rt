@@ -26,7 +26,7 @@ use std::alloc::Global;
 use world_law::{WorldFault, WorldSum};
 use world_range::Extreme;
 
-/// What a cube answers a question, or the code by which it refuses it. The one error is want of memory.
+/// What a cube answers a question, or the code by which it refuses it. The only error is running out of memory.
 pub fn answer(
     alloc: Global,
     cube: &Cube<PolicyWord>,

@@ -51,7 +51,7 @@ has_kept-push weigh schema first lines line start before after gathered more kep
           | inr all ↦ ap (batches weigh schema first) (take_all n (lines ++ line ∷ []) (omega (arith, size)))
         ]
 
--- where memory is wanting behind all lines
+-- where it runs out of memory behind all lines
 kept_at_end : (weigh : CellStat → ℕ) (schema : SchemaValue) (first : State) (lines : List (List ℕ)) (start now : Told) (done : ℕ) → Commits (batches weigh schema first lines) start now → done ≡ length lines
     → KeptAt weigh schema first lines start now (Memory done)
 kept_at_end weigh schema first lines start now done commits count =
@@ -78,7 +78,7 @@ kept_at-gathered weigh schema first lines start now gathered done count (Keep so
     let never : true ≡ false = stop.no_keep in
     absurd (cc never)
 
--- where memory is wanting once the gathered replies are written
+-- where it runs out of memory once the gathered replies are written
 pub kept_at-gave_up : (weigh : CellStat → ℕ) (schema : SchemaValue) (first : State) (lines : List (List ℕ)) (start now : Told) (gathered : List (List ℕ)) (done : ℕ) (off : BreakOff) → HasKept weigh schema first lines start now gathered
     → done ≡ length lines → (off ≡ Memory done) ⊎ IsGatheredStop done (length gathered) off → KeptAt weigh schema first lines start now off
 kept_at-gave_up weigh schema first lines start now gathered done off kept is_done stop =
@@ -145,7 +145,7 @@ pub kept_at-fault : (weigh : CellStat → ℕ) (schema : SchemaValue) (first : S
 kept_at-fault weigh schema first lines line start now gathered done off kept one none is_done stop =
     subst (KeptAt weigh schema first (lines ++ line ∷ []) start now) (sym (tells_fault done gathered off none stop)) (kept_at-failed weigh schema first lines line start now done kept.commits one is_done)
 
--- no fault of the keeper is told where memory is wanting
+-- no fault of the keeper is told where it runs out of memory
 pub gave_up-no_keep : (asked done count : ℕ) (off : BreakOff) → (off ≡ Memory asked) ⊎ IsGatheredStop done count off → is_keep off ≡ false
 gave_up-no_keep asked done count off stop = elim stop [ inl memory ↦ ap is_keep memory | inr part ↦ part.no_keep ]
 

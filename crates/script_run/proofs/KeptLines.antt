@@ -49,7 +49,7 @@ module _ {P : Type 0} (weigh : CellStat → ℕ) (schema : SchemaValue) (first :
       subst (λ told. KeptAt weigh schema first (lines ++ line ∷ []) before told off) (sym same)
       (kept_at-fault weigh schema first lines line before now old.gathered old.done off kept (sym (ap length (batches_here done is_read)) ∙ one) (none_before weigh old.cube.schema (state_of old.cube) read old.gathered ready one) done.done stop)
 
--- a line is not done: memory was wanting, or the gathered replies could not be written
+-- a line is not done: it ran out of memory, or the gathered replies could not be written
 pub line_not_done : {P : Type 0} (weigh : CellStat → ℕ) (schema : SchemaValue) (first : State) (lines : List (List ℕ)) (line : List ℕ) (start taken : Option (List ℕ)) (before now after : Told) (old : Working P) (done : ℕ) (off : BreakOff)
     → HasDone weigh schema first lines start taken old → HasKept weigh schema first lines before now old.gathered → after ≡ now → done ≡ old.done
     → (off ≡ Memory done) ⊎ IsGatheredStop old.done (length old.gathered) off → KeptAt weigh schema first (lines ++ line ∷ []) before after off

@@ -288,7 +288,7 @@ module _ {P : Type 0} (weigh : P → CellStat → ℕ) (ground : Ground) (text :
     no_write_fault = same_write ∙ stands.no_write_fault;
   }
 
-  -- memory is wanting for it
+  -- there is no memory for it
   broke_memory : (after : Outside) (input : List ℕ) → after.taken ≡ now.taken → after.write_faults ≡ now.write_faults → after.told ≡ now.told
       → Consumes start.left after.left (stands.taken ++ input) → length (stands.taken ++ input) ≤ room → StreamBroke ground text room (seen_from start after) (Memory old.done)
   broke_memory after input same_taken same_write same_told bytes few =

@@ -59,7 +59,7 @@ pub record IsAnswered {P : Type 0} (cube cube_after : CubeValue P) (before after
   pub count : OnOk result (faults_after ≡ faults)
   pub stop : IfErr result (IsStopOf committed faults faults_after)
 
--- What is judged so is refused, or a keeper failed, or memory was wanting: the cube and the keeper stand as before.
+-- What is judged so is refused, or a keeper failed, or it ran out of memory: the cube and the keeper stand as before.
 pub not_done : {P : Type 0} (cube cube_after : CubeValue P) (before after : Told) (faults faults_after : ℕ) (judged : Option Code) (accepted : Step) (batch : Batch) (fault : EditFault)
     → IsJudged judged fault → cube_after ≡ cube → after ≡ before → CountsEditFault {R = Receipt} faults faults_after (Err fault)
     → IsAnswered cube cube_after before after faults faults_after (option_map_or (λ refusal. replied (state_of cube) (reply.Refused refusal)) judged accepted) (if is_none judged then batch ∷ [] else []) (reply_to fault)

@@ -82,7 +82,7 @@ breaks_off_part replies gathered start sink error whole done line has cut counts
     by_error sink_error.Failed rose written = (rose, written)
     by_error sink_error.Memory same written = (same, written)
 
--- all replies were taken, and memory is wanting: for one more reply, or for another thing
+-- all replies were taken, and it is out of memory: for one more reply, or for another thing
 pub breaks_off_whole : (replies later : List (List ℕ)) (start : Option (List ℕ)) (sink : SinkSeen) (done : ℕ) → Appends start sink.taken_after (concat replies) → length later ≤ 1 → done ≡ length replies + length later
     → NoWriteFault sink → BreaksOff (replies ++ later) (seen_since sink start) (Memory done)
 breaks_off_whole replies later start sink done bytes few count same =

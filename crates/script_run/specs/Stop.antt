@@ -29,7 +29,7 @@ is_edit (Err refusal) = false
 pub record IsReadyFor (gathered : List (List ℕ)) (read : Result Line Code) : Type 0 where
   pub none : is_edit read ≡ true → gathered ≡ []
 
--- Why a line that would commit these batches was not done: memory was wanting, or the keeper had a fault, which it counts, at the batch.
+-- Why a line that would commit these batches was not done: it ran out of memory, or the keeper had a fault, which it counts, at the batch.
 abbrev pub IsStopOf : List Batch → ℕ → ℕ → LineStop → Type 0
 IsStopOf committed before after Memory = after ≡ before
 IsStopOf committed before after KeepFault = Rose before after × (length committed ≡ 1)

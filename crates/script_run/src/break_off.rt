@@ -11,7 +11,7 @@ pub enum BreakOff {
     Write { line: u64 },
     /// The sink wanted memory: the reply to this line is not whole.
     SinkMemory { line: u64 },
-    /// Memory was wanting when so many lines were done. The replies that were gathered are written.
+    /// It ran out of memory when so many lines were done. The replies that were gathered are written.
     Memory { done: u64 },
     /// The keeper failed at the line behind so many, which are done. Their replies are written.
     Keep { done: u64 },

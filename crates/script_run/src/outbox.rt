@@ -75,7 +75,7 @@ impl Outbox {
         self.text.len() >= GATHERED || self.ends.len() >= GATHERED_LINES
     }
 
-    /// Gathers the reply to one more line. An error, which is want of memory, leaves the replies as they were.
+    /// Gathers the reply to one more line. An error, which means out of memory, leaves the replies as they were.
     pub fn gather(&mut self, schema: &Schema, reply: &Option<Reply>) -> Result<(), Memory>
         requires { IfSome reply.now (NamesCells schema.now.dims) }
         ensures gathered { OnOk result (self.new ≡ self.old ++ text_of schema.now.dims reply.now ∷ []) }

@@ -29,7 +29,7 @@ use std::sync::ledger::{Blank, Ledger};
 /// Why a line was not done. The cube and what the keeper holds are as they were.
 #[derive(Clone, Copy, Debug, PartialEq, Eq)]
 pub enum LineStop {
-    /// Want of memory.
+    /// Out of memory.
     Memory,
     /// The keeper had a fault at the batch of an edit or a growth.
     KeepFault,
@@ -46,7 +46,7 @@ impl From<Memory> for LineStop {
     }
 }
 
-/// Reads a line: what it says, or the code by which it is refused. The one error is want of memory.
+/// Reads a line: what it says, or the code by which it is refused. The only error is running out of memory.
 pub fn read(alloc: Global, schema: &Schema, line: &[u8]) -> Result<Result<Line, Code>, Memory>
     ensures read { IfOk result (λ read. line_of schema.now line.now ≡ read) }
     ensures within { IfOk result (λ read. IfOk read (IsLineOf schema.now)) }
@@ -179,7 +179,7 @@ fn do_edit_by<L: Ledger, Q: Keeper>(
     }
 }
 
-/// Does a growth: `ok` with the number of the facts that lie otherwise then, or why it is refused.
+/// Does a growth: `ok` with the number of the facts whose allocation changed then, or why it is refused.
 fn do_growth<Q: Keeper>(
     cube: &mut Cube<PolicyWord>,
     grow: &Grow,

@@ -66,7 +66,7 @@ impl ScriptRun {
     }
 
     /// Does a line, and writes the gathered replies where they are enough, and, where the keeper keeps, before an edit or a growth. Where
-    /// memory is wanting for its reply, the line is done nevertheless.
+    /// there is no memory for its reply, the line is done nevertheless.
     pub fn do_line<K: Sink, Q: Keeper>(
         &mut self,
         line: &[u8],
@@ -148,7 +148,7 @@ impl ScriptRun {
         Ok(())
     }
 
-    // Reads a line. The one error is want of memory.
+    // Reads a line. The only error is running out of memory.
     fn read(&self, line: &[u8]) -> Result<Result<Line, Code>, Memory>
         ensures read { IfOk result (λ read. line_of self.now.cube.schema line.now ≡ read) }
         ensures within { IfOk result (λ read. IfOk read (IsLineOf self.now.cube.schema)) }
@@ -298,7 +298,7 @@ impl ScriptRun {
         Ok(())
     }
 
-    // Writes the gathered replies, and tells that memory was wanting when so many lines more than those that are answered were done:
+    // Writes the gathered replies, and tells that it ran out of memory when so many lines more than those that are answered were done:
     // none, or one, whose reply could not be gathered.
     fn give_up<K: Sink>(&mut self, out: &mut K, more: u64) -> BreakOff
         requires { self.old.done + more < 2 ^ 64 }

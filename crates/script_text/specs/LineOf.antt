@@ -64,7 +64,7 @@ IsGrowth (line.Edit change) = ⊥
 IsGrowth (line.Grow grow) = ⊤
 IsGrowth (line.Ask asked) = ⊥
 
--- where a line is refused, this is its code; memory is wanting for a line that lets a dimension grow, which has a name, and for no other
+-- where a line is refused, this is its code; there is no memory for a line that lets a dimension grow, which has a name, and for no other
 abbrev pub IsFaultOf : SchemaValue → List ℕ → LineFault → Type 0
 IsFaultOf schema bytes (fault.Code refusal) = line_of schema bytes ≡ Err refusal
 IsFaultOf schema bytes fault.Memory = IsOkAnd (line_of schema bytes) IsGrowth

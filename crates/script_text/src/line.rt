@@ -89,7 +89,7 @@ impl Question {
 pub enum LineFault {
     /// It is refused.
     Code(Code),
-    /// Want of memory.
+    /// Out of memory.
     Memory,
 }
 

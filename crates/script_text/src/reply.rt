@@ -29,7 +29,7 @@ pub type TableList = PlainList<(Region, Pooled)>;
 /// The reply to a line.
 #[derive(Debug, Drop)]
 pub enum Reply {
-    /// An edit or a growth that was done, with the number of facts that are new or lie otherwise.
+    /// An edit or a growth that was done, with the number of facts that are new or whose allocation changed.
     Done(u64),
     /// A refusal.
     Refused(Code),

@@ -7,7 +7,7 @@ ghost use Rattle.script_text.specs.ReplySteps.{Keeps, fields_text};
 use cube_base::Memory;
 use itoa::{Buffer, Integer};
 
-// Where memory is wanting, these and their callers below `append_reply` may have appended a part.
+// Where it runs out of memory, these and their callers below `append_reply` may have appended a part.
 
 /// Appends TAB and a number.
 pub fn append_number<I: Integer>(text: &mut Vec<u8>, number: I) -> Result<(), Memory>

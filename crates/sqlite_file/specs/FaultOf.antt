@@ -21,7 +21,7 @@ reason_of TypeMismatch = reason.Refused
 reason_of TooBig = reason.Refused
 reason_of code = reason.Unreadable
 
--- want of memory where SQL tells that, and else a fault of the outside with its reason
+-- out of memory where SQL tells that, and else a fault of the outside with its reason
 abbrev pub fault_of_error : Error → Fault
 fault_of_error (SqliteFailure OutOfMemory) = fault_kind.Memory
 fault_of_error (SqliteFailure code) = fault_kind.Outside (reason_of code)

@@ -13,7 +13,7 @@ use std::alloc::{AllocError, AllocFailed};
 pub enum Fault {
     /// The file, the system below it, or what the file holds.
     Outside(Reason),
-    /// Want of memory.
+    /// Out of memory.
     Memory,
 }
 

@@ -31,7 +31,7 @@ impl StoreFile {
     /// Opens the file at a path, which is made where there is none. It makes no table. `look` comes first: an open empties a log that it
     /// takes for none of its own.
     ///
-    /// `Outside` comes where the file is not to be had, is held open elsewhere, or is no database; `Memory` at want of memory. Either
+    /// `Outside` comes where the file is not to be had, is held open elsewhere, or is no database; `Memory` when it runs out of memory. Either
     /// leaves it closed.
     pub fn open(rt: &HostRuntime, path: &str) -> Result<Self, Fault>
         ensures { IfOk result (λ file. file ≡ path.now) }
@@ -45,7 +45,7 @@ impl StoreFile {
     /// The content. A table that is missing is read as an empty one.
     ///
     /// `Outside` comes where a table is laid out in another way, where a row holds what no batch writes, or where the file cannot be
-    /// read; `Memory` at want of memory.
+    /// read; `Memory` when it runs out of memory.
     pub fn read(&mut self, alloc: Global) -> Result<Stored, Fault>
         ensures { self.new ≡ self.old }
     {
@@ -55,7 +55,7 @@ impl StoreFile {
     /// Writes a batch as one transaction, and makes the tables that are missing. Where it is not written whole, nothing of it is.
     ///
     /// `Outside` comes where the path leads to another file or log than those that are open, or these are not as they were left; where an
-    /// id or a denominator is 2^63 or more, where a table takes no such row, or where the file cannot be written; `Memory` at want of
+    /// id or a denominator is 2^63 or more, where a table takes no such row, or where the file cannot be written; `Memory` at out of
     /// memory.
     pub fn write(&mut self, rt: &HostRuntime, batch: &Batch) -> Result<(), Fault>
         ensures { self.new ≡ self.old }

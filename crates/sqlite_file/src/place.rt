@@ -46,7 +46,7 @@ struct Stamp {
 ///
 /// `Outside` comes where no store can be there: by its name, its folder or its kind of file; where a log with content stands beside no
 /// store, which an open would empty; where a journal does, which an open would pass over; where the file has a second hard link; and
-/// where it does not begin as one of SQLite's. `Memory` comes at want of memory.
+/// where it does not begin as one of SQLite's. `Memory` comes when it runs out of memory.
 pub fn look(rt: &HostRuntime, path: &str) -> Result<Standing, Fault> {
     if is_bad_name(path) {
         return Err(Fault::Outside(Reason::BadName));

@@ -95,7 +95,7 @@ impl<'rt> SqlKeeper<'rt> {
         Ok(())
     }
 
-    /// Counts a fault of the outside, and want of memory as none. The count stands at its last value.
+    /// Counts a fault of the outside, and running out of memory as none. The count stands at its last value.
     fn refuse<T>(&mut self, fault: Fault) -> Result<T, KeepError>
         ensures err { IsErr result }
         ensures count { CountsKeepFault self.old.faults self.new.faults result }

@@ -1,4 +1,4 @@
--- The rows of facts, after a batch that has those of the facts that are new or lie otherwise.
+-- The rows of facts, after a batch that has those of the facts that are new or whose allocation changed.
 use Rattle.std.proofs.Common.{◌≡◌, ℕ, ◌<◌, Bool, true, false, cond, List, map, refl, ap, sym, ◌∙◌}
 use Rattle.std.specs.Prelude.{AllPairs, Option, Some, None, filter, not, ◌==◌}
 use Rattle.std.specs.List.{list_any}

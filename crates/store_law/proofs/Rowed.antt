@@ -1,4 +1,4 @@
--- The rows of facts, after a batch that has those of the facts that lie otherwise.
+-- The rows of facts, after a batch that has those of the facts whose allocation changed.
 use Rattle.std.proofs.Common.{◌≡◌, ℕ, ◌<◌, Bool, true, false, cond, List, map, refl, ap, sym, ◌∙◌}
 use Rattle.std.specs.Prelude.{AllPairs, Option, Some, None, filter, ◌==◌}
 use Rattle.std.specs.List.{list_any}

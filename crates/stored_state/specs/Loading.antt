@@ -26,7 +26,7 @@ rows_told id spread = record { id = id; den = spread.den; rows = spread.rows }
 abbrev pub spread_told : KeptRows → Allocation
 spread_told kept = record { den = kept.den; rows = kept.rows }
 
--- Why facts are not read: one is refused; or want of memory, of which nothing is said.
+-- Why facts are not read: one is refused; or out of memory, of which nothing is said.
 abbrev pub IsFactFinding : ShapeValue → List Dimension → List KeptFact → Finding → Type 0
 IsFactFinding shape dims facts (finding.Schema line why) = ⊥
 IsFactFinding shape dims facts (finding.Fact place id why) = IsBadFact shape dims facts place id why
@@ -44,7 +44,7 @@ pub record DifferFirst (kept anew : List KeptRows) (place : ℕ) (here there : O
   pub different : here ≢ there
   pub first : (earlier : ℕ) → earlier < place → slice_get kept earlier ≡ slice_get anew earlier
 
--- Why rows are not those that were made anew: where the lists differ first; or want of memory.
+-- Why rows are not those that were made anew: where the lists differ first; or out of memory.
 abbrev pub IsRowsFinding : List KeptRows → List KeptRows → Finding → Type 0
 IsRowsFinding kept anew (finding.Schema line why) = ⊥
 IsRowsFinding kept anew (finding.Fact place id why) = ⊥

@@ -66,7 +66,7 @@ IsMendFinding policy shape dims content (finding.Fact place id why) = IsBadFact 
 IsMendFinding policy shape dims content (finding.TooManyRows would) = HaveManyRows policy shape dims content would
 IsMendFinding policy shape dims content (finding.Rows place kept anew) = ⊥
 
--- why the rows of a content are not put right; want of memory says nothing
+-- why the rows of a content are not put right; out of memory says nothing
 abbrev pub IsMendFault : Policy → ShapeValue → List Dimension → Stored → LoadFault → Type 0
 IsMendFault policy shape dims content (load_fault.Bad found) = IsMendFinding policy shape dims content found
 IsMendFault policy shape dims content load_fault.Memory = ⊤

@@ -102,7 +102,7 @@ pub record IsSound (policy : Policy) (shape : ShapeValue) (dims : List Dimension
   pub few : rows_counted policy dims content ≤ MAX_ROWS
   pub rows_are : content.rows ≡ rows_anew policy dims content
 
--- why a content is not loaded; want of memory says nothing
+-- why a content is not loaded; out of memory says nothing
 abbrev pub IsLoadFault : Policy → ShapeValue → List Dimension → Stored → LoadFault → Type 0
 IsLoadFault policy shape dims content (load_fault.Bad found) = IsFinding policy shape dims content found
 IsLoadFault policy shape dims content load_fault.Memory = ⊤

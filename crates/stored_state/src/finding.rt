@@ -41,7 +41,7 @@ pub enum Finding {
 pub enum LoadFault {
     /// It is not sound: what was found first.
     Bad(Finding),
-    /// Want of memory.
+    /// Out of memory.
     Memory,
 }
 

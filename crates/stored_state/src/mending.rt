@@ -40,7 +40,7 @@ pub struct Mending {
 
 /// What puts the rows of a content over a space and measures right: behind its batch the content is sound. Where the kept entries
 /// ascend by id, each id once, only those are put that are not kept as the facts make them, and else all. What is not sound in the
-/// facts is answered by what is found first, and the one other error is want of memory; the text of the schema is not looked at. Each
+/// facts is answered by what is found first, and the only other error is running out of memory; the text of the schema is not looked at. Each
 /// region that facts have is spread once. Each fact is searched for once among the kept entries, and each of these among the facts.
 pub fn mend_rows<P: WeightPolicy + Drop>(
     alloc: Global,

@@ -60,7 +60,7 @@ fault_of placed =
     option_map_or (λ product. Some (world_fault.Many product)) (product_above MAX_WORLDS 1 (row_counts placed))
     (if nat_lt MAX_MASS (product (dens placed)) then Some world_fault.Wide else None)
 
--- want of memory is said only where there is no other fault, and any other fault where it is the one
+-- out of memory is said only where there is no other fault, and any other fault where it is the one
 abbrev pub IsFaultOf : List Placed → WorldFault → Type 0
 IsFaultOf placed (world_fault.Many product) = fault_of placed ≡ Some (world_fault.Many product)
 IsFaultOf placed world_fault.Wide = fault_of placed ≡ Some world_fault.Wide

@@ -35,7 +35,7 @@ pub enum WorldFault {
     Many { product: u64 },
     /// Their weights come to more than [`crate::MAX_MASS`].
     Wide,
-    /// Want of memory.
+    /// Out of memory.
     Memory,
 }
 
@@ -55,7 +55,7 @@ impl From<Memory> for WorldFault {
 ///
 /// `Many` is answered exactly where there are more than 65,536 worlds, with the first product of the numbers of rows, in the
 /// order of the facts, that shows it. Else `Wide` is answered exactly where the product of the denominators, which is what
-/// the weights come to, is above 2^60. Want of memory is the one other error.
+/// the weights come to, is above 2^60. Running out of memory is the only other error.
 ///
 /// It goes through the worlds one by one for each column, and keeps none of them: it takes memory for the rows of the facts
 /// with several.

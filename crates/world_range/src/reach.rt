@@ -21,7 +21,7 @@ use world_law::Placed;
 /// one cell of its rows, and a world that reaches each. Column 0 is the count.
 ///
 /// Each fact's rows are an allocation over cells of the space, and it has that column, whose values are at most 10^12 in
-/// absolute value. There are at most 2^20 facts, and the region is one of the space. Want of memory is the one error.
+/// absolute value. There are at most 2^20 facts, and the region is one of the space. Running out of memory is the only error.
 ///
 /// It lists no world: it reads each fact's rows once or twice, up to the first that is wanted, and takes memory for the two
 /// lists of cells.

@@ -26,7 +26,7 @@ returns-clause-says g c = λ source content unread given is.
     (subst (λ line. SaysAsked line (Some (Store Ask)) seen (end_of_line c.run_line.result)) line
     (says_asked c.deref.result.now content ground (over_cube cube content is) seen unread given is.sound c.run_line.result told.done told.broken told.kept told.stopped told.count told.cause told.other_cause))
 
--- memory was wanting before anything was done
+-- it ran out of memory before anything was done
 pub returns-in_default-clause-says : goal.returns-in_default-clause-says
 returns-in_default-clause-says g c = λ source content unread given is.
     let seen : SeenAll = record { source = source; sink = sink_seen g.K.Sink.tells c.args.out.now c.args.out.now; keeper = keeper_seen g.Q.Keeper.tells c.args.keeper.now c.args.keeper.now } in

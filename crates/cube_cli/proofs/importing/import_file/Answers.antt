@@ -33,7 +33,7 @@ returns-in-Err-clause-says g c = λ source content taken read given is.
     (import_refused cube content is seen given file taken read seq seq_is c.in-Err.fault c.in-Err.ensures.fault refl
     (record { wrote = Keeps-refl _; kept = same_told before after c.in-Err.ensures.same_content c.in-Err.ensures.same_journal }) c.in-Err.ensures.count)
 
--- memory was wanting for the records
+-- there was no memory for the records
 pub returns-in_default-clause-says : goal.returns-in_default-clause-says
 returns-in_default-clause-says g c = λ source content taken read given is.
     let seen : SeenAll = record { source = source; sink = sink_seen g.K.Sink.tells c.args.out.now c.args.out.now; keeper = keeper_seen g.Q.Keeper.tells c.args.keeper.now c.args.keeper.now } in

@@ -35,7 +35,7 @@ returns-clause-says g c = λ content given is.
     rw c.end_of_run.ensures
     (says_stream content (on g c) (over_cube c.args.cube content is) (seen g c) given is.sound c.run_stream.result (streamed g c) (c.run_stream.ensures.count refl))
 
--- memory was wanting before anything was done
+-- it ran out of memory before anything was done
 pub returns-in_default-clause-says : goal.returns-in_default-clause-says
 returns-in_default-clause-says g c = λ content given is.
     let seen : SeenAll = seen_of g.S.Source.tells g.K.Sink.tells g.Q.Keeper.tells c.args.source.now c.args.source.now c.args.out.now c.args.out.now c.args.keeper.now c.args.keeper.now in

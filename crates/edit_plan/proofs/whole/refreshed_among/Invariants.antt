@@ -1,4 +1,4 @@
--- Of the facts before this one those that are new or lie otherwise are held.
+-- Of the facts before this one those that are new or whose allocation changed are held.
 use Rattle.std.proofs.Common.{◌≡◌, ◌++◌}
 use Rattle.std.specs.Prelude.{All}
 use Rattle.fact_records.specs.Shape.{width_of_all}
