@@ -12,10 +12,12 @@
 # - mixed: 100,000 inserts over three dimensions, one in ten imprecise, a tenth as many changes, a twentieth as many withdrawals; the
 #   same with a view and 2,000 `terms` that it serves; and the microseconds of a `terms` that no view serves;
 # - refused: 1,000,000 lines that are refused.
+# Last come the jobs of bench/questions.py, through the built program alone: tables, ends over worlds, rounds and components of large cubes.
 set -euo pipefail
 
 other=${1:-}
 runs=${2:-3}
 top=$(cd -- "$(dirname -- "$0")/.." && pwd -P)
 "$top/cube" --build
-exec python3 "$top/bench/engine.py" "$runs" "$top/crates/cube/out/cube" ${other:+"$other"}
+python3 "$top/bench/engine.py" "$runs" "$top/crates/cube/out/cube" ${other:+"$other"}
+exec python3 "$top/bench/questions.py" "$top/crates/cube/out/cube" "$runs"
