@@ -27,7 +27,7 @@ enum Made {
 type Row = (Made, &'static str, Reason, &'static str);
 
 /// The byte of the damaged page says of which kind it is. The other one stands in the text of a rule, at the end of the first page.
-const ROWS: [Row; 15] = [
+const ROWS: [Row; 17] = [
     (Made::Nothing, "", Reason::BadName, "not a name for a store"),
     (
         Made::Nothing,
@@ -91,6 +91,24 @@ const ROWS: [Row; 15] = [
         "table.cube",
         Reason::Table("cube"),
         "its table cube is not laid out as a store's",
+    ),
+    (
+        Made::Sql(
+            "ruled.cube",
+            "CREATE TABLE fact (id INTEGER PRIMARY KEY, nodes BLOB NOT NULL, cols BLOB NOT NULL, CHECK (id < 3))",
+        ),
+        "ruled.cube",
+        Reason::Table("fact"),
+        "its table fact is not laid out as a store's",
+    ),
+    (
+        Made::Sql(
+            "resolved.cube",
+            "CREATE TABLE alloc (id INTEGER PRIMARY KEY ON CONFLICT IGNORE, den INTEGER NOT NULL, body BLOB NOT NULL)",
+        ),
+        "resolved.cube",
+        Reason::Table("alloc"),
+        "its table alloc is not laid out as a store's",
     ),
     (
         Made::Nothing,
@@ -233,17 +251,17 @@ fn stores_in_use_and_exchanged_are_told(rt: HostRuntime) -> Result<(), Fail> {
     Ok(())
 }
 
-/// A table of facts that takes no id above 2.
-const RULED: &str =
-    "CREATE TABLE fact (id INTEGER PRIMARY KEY, nodes BLOB NOT NULL, cols BLOB NOT NULL, CHECK (id < 3))";
+/// A table with a fact, of whose index no two facts may have the same nodes.
+const APART: &str =
+    "CREATE TABLE fact (id INTEGER PRIMARY KEY, nodes BLOB NOT NULL, cols BLOB NOT NULL); CREATE UNIQUE INDEX apart ON fact (nodes); INSERT INTO fact VALUES (9, x'00000002', x'')";
 
-/// What SQL finds where nothing of a batch is kept: no fact, and no other table of a store.
+/// What SQL finds where nothing of a batch is kept: that fact alone, and no other table of a store.
 const NOT_KEPT: [&str; 2] = [
-    "SELECT count(*) = 0 FROM fact",
-    "SELECT count(*) = 1 FROM sqlite_schema",
+    "SELECT count(*) = 1 FROM fact",
+    "SELECT count(*) = 2 FROM sqlite_schema",
 ];
 
-/// Whether the first batch, which puts facts 1 and 3, is refused by a table.
+/// Whether the first batch, which puts a fact of the same nodes, is refused by the index.
 fn is_refused(rt: &HostRuntime, path: &str) -> Result<bool, Memory> {
     let first = batch_of(rt.alloc(), &FIRST)?;
     let mut keeper = SqlKeeper::new(rt);
@@ -256,8 +274,8 @@ fn is_refused(rt: &HostRuntime, path: &str) -> Result<bool, Memory> {
 
 #[test]
 fn what_a_table_refuses_is_not_kept(rt: HostRuntime) -> Result<(), Fail> {
-    run_script(&rt, "ruled.cube", RULED)?;
-    let told = is_refused(&rt, "ruled.cube")?;
-    assert!(rt; told && are_found(&rt, "ruled.cube", &NOT_KEPT));
+    run_script(&rt, "apart.cube", APART)?;
+    let told = is_refused(&rt, "apart.cube")?;
+    assert!(rt; told && are_found(&rt, "apart.cube", &NOT_KEPT));
     Ok(())
 }

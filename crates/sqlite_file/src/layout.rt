@@ -27,7 +27,7 @@ pub(crate) const FACT: [Column; 3] = [("id", "INTEGER"), ("nodes", "BLOB"), ("co
 /// The columns of allocations.
 pub(crate) const ALLOC: [Column; 3] = [("id", "INTEGER"), ("den", "INTEGER"), ("body", "BLOB")];
 
-/// Whether there is a table of that name. One with other columns, and anything else of that name, is a fault.
+/// Whether there is a table of that name. One with other columns or with rules of its own, and anything else of that name, is a fault.
 pub(crate) fn has_table<S: Alter>(
     alloc: Global,
     conn: &mut Connection<S>,
@@ -57,7 +57,7 @@ fn text_of<S: Alter>(conn: &mut Connection<S>, name: &str) -> Result<Option<Stri
     }
 }
 
-/// Whether a statement makes a table of these columns.
+/// Whether a statement makes a table of these columns, without rules that could refuse a batch later.
 fn makes_table(alloc: Global, text: &[u8], columns: &[Column]) -> Result<bool, Fault> {
     match parse(alloc, text) {
         Ok(parsed) => {
@@ -74,7 +74,11 @@ fn makes_table(alloc: Global, text: &[u8], columns: &[Column]) -> Result<bool, F
 /// The same, of a statement that is read.
 fn is_of_table(statement: &Statement, columns: &[Column]) -> bool {
     match statement {
-        Statement::CreateTable(table) => is_laid_out(&table.body, columns),
+        Statement::CreateTable(table) => {
+            !table.resolves
+                && has_no_other_rule(table.body.rules.as_slice())
+                && is_laid_out(&table.body, columns)
+        }
         _ => false,
     }
 }
@@ -99,6 +103,14 @@ fn is_laid_out(table: &TableBody, columns: &[Column]) -> bool {
         }
     }
     true
+}
+
+/// Whether there are no rules but keys and those that keep NULL out.
+fn has_no_other_rule(rules: &[Rule]) -> bool {
+    rules.iter().all(|rule| match rule {
+        Rule::NotNull(_) | Rule::PrimaryKey(_) | Rule::CountedKey(_) => true,
+        _ => false,
+    })
 }
 
 /// Whether two words are one, as SQL compares them.
