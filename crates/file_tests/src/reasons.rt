@@ -27,7 +27,7 @@ enum Made {
 type Row = (Made, &'static str, Reason, &'static str);
 
 /// The byte of the damaged page says of which kind it is. The other one stands in the text of a rule, at the end of the first page.
-const ROWS: [Row; 17] = [
+const ROWS: [Row; 16] = [
     (Made::Nothing, "", Reason::BadName, "not a name for a store"),
     (
         Made::Nothing,
@@ -100,15 +100,6 @@ const ROWS: [Row; 17] = [
         "ruled.cube",
         Reason::Table("fact"),
         "its table fact is not laid out as a store's",
-    ),
-    (
-        Made::Sql(
-            "resolved.cube",
-            "CREATE TABLE alloc (id INTEGER PRIMARY KEY ON CONFLICT IGNORE, den INTEGER NOT NULL, body BLOB NOT NULL)",
-        ),
-        "resolved.cube",
-        Reason::Table("alloc"),
-        "its table alloc is not laid out as a store's",
     ),
     (
         Made::Nothing,
