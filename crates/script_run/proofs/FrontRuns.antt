@@ -15,18 +15,18 @@ use Rattle.script_run.specs.Run.{Outcome, State, Step, refusals_in, run, schema_
 use Rattle.script_run.specs.Seen.{Told}
 
 -- a line says what its front says, however long it is
-line_of-any_front : (schema : SchemaValue) (line : List ℕ) → line_of schema (front line) ≡ line_of schema line
+pub line_of-any_front : (schema : SchemaValue) (line : List ℕ) → line_of schema (front line) ≡ line_of schema line
 line_of-any_front schema line =
     elim (cases_lt LINE_FRONT (length line)) [
       | inl long ↦ sym (line_of-front schema line long)
       | inr short ↦ ap (line_of schema) (take_all LINE_FRONT line short)
     ]
 
-step-front : (weigh : CellStat → ℕ) (schema : SchemaValue) (state : State) (line : List ℕ) → step weigh schema state (front line) ≡ step weigh schema state line
+pub step-front : (weigh : CellStat → ℕ) (schema : SchemaValue) (state : State) (line : List ℕ) → step weigh schema state (front line) ≡ step weigh schema state line
 unfolding step
 step-front weigh schema state line = ap (step_from weigh schema state) (line_of-any_front (schema_at schema state) line)
 
-batches_at-front : (weigh : CellStat → ℕ) (schema : SchemaValue) (state : State) (line : List ℕ) → batches_at weigh schema state (front line) ≡ batches_at weigh schema state line
+pub batches_at-front : (weigh : CellStat → ℕ) (schema : SchemaValue) (state : State) (line : List ℕ) → batches_at weigh schema state (front line) ≡ batches_at weigh schema state line
 unfolding batches_at
 batches_at-front weigh schema state line = ap (batches_from weigh schema state) (line_of-any_front (schema_at schema state) line)
 

@@ -31,6 +31,19 @@ pub enum StreamStop {
     TooLong { done: u64 },
 }
 
+impl StreamStop {
+    /// Why a run stops where nothing more of its input came, and so many lines are done.
+    pub fn at(stop: InputStop, done: u64) -> Self
+        ensures { result ≡ stop_of stop done }
+    {
+        match stop {
+            InputStop::Fault => StreamStop::Read { done },
+            InputStop::TooLong => StreamStop::TooLong { done },
+            InputStop::Memory => StreamStop::Broke(BreakOff::Memory { done }),
+        }
+    }
+}
+
 impl From<BreakOff> for StreamStop {
     ghost use Rattle.script_run.specs.declared.streaming.StreamStop.TheVariants.{Broke};
 
@@ -124,7 +137,7 @@ fn do_piece<S: Source, K: Sink, Q: Keeper>(
 {
     do_and_send(run, lines, out, keeper)?;
     if let Err(stop) = pieces.feed_next(source, lines) {
-        return Err(stop_at(stop, run.done()));
+        return Err(StreamStop::at(stop, run.done()));
     }
     Ok(())
 }
@@ -198,16 +211,5 @@ fn do_rest<K: Sink, Q: Keeper>(
     match lines.finish() {
         Some(line) => run.do_line(line, out, keeper),
         None => Ok(()),
-    }
-}
-
-/// Why the run stops where no piece came, and so many lines are done.
-fn stop_at(stop: InputStop, done: u64) -> StreamStop
-    ensures { result ≡ stop_of stop done }
-{
-    match stop {
-        InputStop::Fault => StreamStop::Read { done },
-        InputStop::TooLong => StreamStop::TooLong { done },
-        InputStop::Memory => StreamStop::Broke(BreakOff::Memory { done }),
     }
 }

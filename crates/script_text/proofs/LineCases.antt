@@ -68,7 +68,8 @@ module _ (schema : SchemaValue) (P : Line → Type 0) (each : HoldsOfEach schema
       (λ grow same. subst P (sym same) (each.growth fields grow (e ∙ ap Ok same))) e
   line_given-holds (script_word.Asks name) fields said e = of_question (question_given schema name fields) said e
 
-  command_line-holds : (fields : List (List ℕ)) (spelled : Option ScriptWord) (said : Line) → command_line schema fields spelled ≡ Ok said → P said
+  -- it holds of what fields say
+  pub command_line-holds : (fields : List (List ℕ)) (spelled : Option ScriptWord) (said : Line) → command_line schema fields spelled ≡ Ok said → P said
   command_line-holds fields None said e = cc
   command_line-holds fields (Some name) said e = either (length fields == field_count_of schema name) e
     where

@@ -21,9 +21,10 @@ use Rattle.script_text.specs.declared.line.Line.{Line}
 use Rattle.script_text.specs.declared.line.Line.TheVariants as line
 use Rattle.script_text.specs.declared.word.FactWord.{FactWord}
 use Rattle.script_text.specs.declared.word.FactWord.TheVariants.{Insert, Change}
-use Rattle.script_text.specs.ScriptLine.{line_of}
+use Rattle.script_text.specs.declared.word.ScriptWord.{ScriptWord}
+use Rattle.script_text.specs.ScriptLine.{command_line, line_of}
 use Rattle.script_text.specs.ScriptWord.{line_of_fact}
-use Rattle.script_text.proofs.LineCases.{line_of-holds}
+use Rattle.script_text.proofs.LineCases.{HoldsOfEach, command_line-holds, line_of-holds}
 
 -- a node that is found among some has a number below each bound of theirs
 first-below : (bound : ℕ) (first : Entry) (found : Option Entry) (node : ℕ) (b : Bool) → nat_lt first.number bound ≡ true → (option_map (λ e. e.number) found ≡ Some node → node < bound)
@@ -96,13 +97,18 @@ module _ (schema : SchemaValue) (trees : All IsTree schema.dims) where
   of_fact Insert fact here = here
   of_fact Change fact here = here
 
-  -- the fact of an accepted line lies at a region of the dimensions
+  each_lies : HoldsOfEach schema Lies
+  each_lies = record {
+    nothing = tt;
+    fact = λ word fields fact is. of_fact word fact (fact_given-region schema.dims (shape_of schema) fields fact trees is);
+    withdrawal = λ fields id is. tt;
+    growth = λ fields grow is. tt;
+    question = λ asked. tt;
+  }
+
+  -- the fact of an accepted line lies at a region of the dimensions, and so does that which fields say
   pub line_of-lies : (bytes : List ℕ) (said : Line) → line_of schema bytes ≡ Ok said → OnFact (λ fact. IsRegion schema.dims fact.region) said
-  line_of-lies bytes said e =
-      line_of-holds schema Lies (record {
-        nothing = tt;
-        fact = λ word fields fact is. of_fact word fact (fact_given-region schema.dims (shape_of schema) fields fact trees is);
-        withdrawal = λ fields id is. tt;
-        growth = λ fields grow is. tt;
-        question = λ asked. tt;
-      }) bytes said e
+  line_of-lies bytes said e = line_of-holds schema Lies each_lies bytes said e
+
+  pub command_line-lies : (fields : List (List ℕ)) (spelled : Option ScriptWord) (said : Line) → command_line schema fields spelled ≡ Ok said → OnFact (λ fact. IsRegion schema.dims fact.region) said
+  command_line-lies fields spelled said e = command_line-holds schema Lies each_lies fields spelled said e

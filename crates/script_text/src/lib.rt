@@ -24,8 +24,9 @@ pub use laws::{
 pub use line::{Line, LineFault, Question};
 pub use line_reader::read_line;
 pub use reply::{Answer, Reply, TableList, ViewList, append_reply, write_reply};
-pub use reply_fields::append_number;
+pub use reply_fields::{append_field, append_number};
 pub use reply_numbers::append_exact;
+pub use reply_rows::{append_names, append_row};
 pub use word::{
     AskWord, IdWord, MeasureTableWord, MeasureWord, RegionWord, RoundsWord, TableWord, ViewWord,
 };

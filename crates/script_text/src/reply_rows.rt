@@ -30,7 +30,7 @@ pub fn append_rows(
 }
 
 /// Appends the fields of a row: the names of the cell's leaves, and the weight.
-fn append_row(text: &mut Vec<u8>, space: &Space, row: (u64, u64)) -> Result<(), Memory>
+pub fn append_row(text: &mut Vec<u8>, space: &Space, row: (u64, u64)) -> Result<(), Memory>
     requires { row.0 < length (all_cells space.now) }
     ensures ok { OnOk result (text.new.items ≡ text.old.items ++ fields_text (row_fields space.now row)) }
     ensures err { OnErr result (Keeps text.old.items text.new.items) }
