@@ -10,10 +10,11 @@ use Rattle.std.proofs.lemmas.List.{append-nil, map-append, take_all}
 use Rattle.cube_model.specs.Allocation.{ExtendedFact}
 use Rattle.cube_model.specs.Cells.{all_cells}
 use Rattle.schema_text.specs.Schema.{SchemaValue}
+use Rattle.script_text.specs.Reply.{names_of}
+use Rattle.fact_fields.specs.FactRow.{value_fields}
 use Rattle.csv.specs.Records.{Row, fields_of}
 use Rattle.csv.specs.Writing.{default_writer, row_text}
 use Rattle.csv_facts.specs.ExtendedRow.{extended_text, part_text, row_record, rows_header, text_before}
-use Rattle.csv_facts.specs.FactRow.{names_of, value_fields}
 use Rattle.csv_facts.specs.RecordList.{IsLonger, IsRow, records_text}
 use Rattle.csv_facts.proofs.FieldsLeft.{IsRow-longer}
 

@@ -6,17 +6,17 @@ use Rattle.std.specs.Str.{bytes_eq}
 use Rattle.cube_model.specs.declared.edit.Fact.{Fact}
 use Rattle.fact_records.specs.Valid.{IsFactOf}
 use Rattle.schema_text.specs.Schema.{IsSchema, SchemaValue, shape_of}
+use Rattle.fact_fields.specs.FactRow.{record_of}
+use Rattle.fact_fields.proofs.NodesAgain.{bytes_eq-same}
 use Rattle.csv.specs.Reading.{default_config, strip_bom}
 use Rattle.csv.specs.Writing.{default_writer, read_back, row_text}
 use Rattle.csv.specs.declared.parser.State.TheVariants as st
 use Rattle.csv.proofs.OnLiterals.{csv_on_literals}
 use Rattle.csv.proofs.RoundTrip.{read-write}
-use Rattle.csv_facts.specs.FactFile.{facts_in, header_of}
-use Rattle.csv_facts.specs.FactRow.{file_text, record_of}
+use Rattle.csv_facts.specs.FactFile.{facts_in, file_text, header_of}
 use Rattle.csv_facts.specs.RecordList.{records_in, records_of, records_text}
 use Rattle.csv_facts.proofs.FactsAgain.{facts-again}
 use Rattle.csv_facts.proofs.FactsRead.{facts_in-header}
-use Rattle.csv_facts.proofs.NodesAgain.{bytes_eq-same}
 use Rattle.csv_facts.proofs.RecordsLeft.{records_from-end, records_in-next}
 
 -- the records of a text are those that it was written of

@@ -2,8 +2,6 @@ pub mod FactsRead
 pub mod FieldsLeft
 pub mod RecordsLeft
 pub mod RowsWritten
-pub mod ValuesAgain
-pub mod NodesAgain
 pub mod FactsAgain
 pub mod FileAgain
 pub mod ExtendedRows

@@ -21,8 +21,9 @@ use Rattle.csv.specs.Records.{Row}
 use Rattle.csv.specs.Writing.{default_writer, fields_written, has_written, row_text, writer_setup}
 use Rattle.csv.specs.declared.writer.QuoteStyle.TheVariants as style
 use Rattle.csv.specs.declared.writer.Writer.{Writer}
-use Rattle.csv_facts.specs.FactFile.{header_of}
-use Rattle.csv_facts.specs.FactRow.{file_text, names_of, record_of, value_text}
+use Rattle.script_text.specs.Reply.{names_of}
+use Rattle.fact_fields.specs.FactRow.{record_of}
+use Rattle.csv_facts.specs.FactFile.{file_text, header_of}
 use Rattle.csv_facts.specs.RecordList.{IsLonger, IsWriting, Writes, records_text, text_in}
 
 -- the name of a node of a region
@@ -48,65 +49,13 @@ names_of-next (e ∷ dims) (n ∷ nodes) (suc d) dim node at_dim at_node =
     let next : suc d + 1 ≡ suc (d + 1) = omega arith in
     rw next (ap (λ names. option_map_or (λ e. e.name) (entry_of e n) [] ∷ names) (names_of-next dims nodes d dim node at_dim at_node))
 
-pub length-names_of : (dims : List Dimension) (region : List ℕ) → is_region dims region ≡ true → length (names_of dims region) ≡ length dims
-length-names_of [] region is = refl
-length-names_of (dim ∷ dims) [] is = cc
-length-names_of (dim ∷ dims) (node ∷ nodes) is = ap suc (length-names_of dims nodes (is_region-cons dim dims node nodes is).1)
-
 pub name-there : (found : Option Entry) (name : List ℕ) → option_map (λ e. e.name) found ≡ Some name → option_map_or (λ e. e.name) found [] ≡ name
 name-there None name e = cc
 name-there (Some entry) name e = cc
 
--- one item more of a list that is taken field by field
-pub taken-next : {A : Type 0} (f : A → List ℕ) (xs : List A) (i : ℕ) (x : A) → slice_get xs i ≡ Some x → map f (take (i + 1) xs) ≡ map f (take i xs) ++ f x ∷ []
-taken-next f [] i x e = cc
-taken-next f (y ∷ xs) zero x e = let same : y ≡ x = cc in rw same refl
-taken-next f (y ∷ xs) (suc i) x e =
-    let next : suc i + 1 ≡ suc (i + 1) = omega arith in
-    rw next (ap (λ l. f y ∷ l) (taken-next f xs i x e))
-
 -- a row with the fields of all items
 pub IsLonger-same : (before row : Row) (a b : List (List ℕ)) → a ≡ b → IsLonger before a row → IsLonger before b row
 IsLonger-same before row a b same longer = subst (λ l. IsLonger before l row) same longer
-
--- one value more
-value_text-next : (values : List ℤ) (value : ℤ) → 1 ≤ length values → value_text (values ++ value ∷ []) ≡ value_text values ++ 58 ∷ signed_decimal value
-value_text-next [] value some = absurd (omega arith)
-value_text-next (v ∷ values) value some = ap (λ l. signed_decimal v ++ l) (more values) ∙ sym (append_assoc (signed_decimal v) (flat_map (λ w. 58 ∷ signed_decimal w) values) (58 ∷ signed_decimal value))
-  where
-    more : (vs : List ℤ) → flat_map (λ w. 58 ∷ signed_decimal w) (vs ++ value ∷ []) ≡ flat_map (λ w. 58 ∷ signed_decimal w) vs ++ 58 ∷ signed_decimal value
-    more [] = append-nil (58 ∷ signed_decimal value)
-    more (w ∷ vs) = ap (λ l. (58 ∷ signed_decimal w) ++ l) (more vs) ∙ sym (append_assoc (58 ∷ signed_decimal w) (flat_map (λ x. 58 ∷ signed_decimal x) vs) (58 ∷ signed_decimal value))
-
--- the values of a measure among those of a fact
-pub length-values_of : (m : Measure) (cols : List ℤ) → IsWithin (length cols) m → length (values_of m cols) ≡ width_of m.kind
-length-values_of m cols within = length-take-le (width_of m.kind) (drop (m.first_col - 1) cols) (omega (arith, length-drop (m.first_col - 1) cols, within.first, within.last))
-
-values-next : (m : Measure) (cols : List ℤ) (i k : ℕ) (value : ℤ) → IsWithin (length cols) m → i < width_of m.kind → slice_get cols k ≡ Some value → k + 1 ≡ m.first_col + i
-    → take (i + 1) (values_of m cols) ≡ take i (values_of m cols) ++ value ∷ []
-values-next m cols i k value within some there place =
-    let column : m.first_col - 1 + i ≡ k = omega (arith, within.first, place) in
-    let at : get_or (values_of m cols) i value ≡ value =
-    get_or-take (width_of m.kind) (drop (m.first_col - 1) cols) i value some ∙ get_or-drop (m.first_col - 1) cols i value ∙ ap (λ n. get_or cols n value) column ∙ get_or_from_slice_get cols k value value there in
-    take_more (values_of m cols) i value (omega (arith, some, length-values_of m cols within)) ∙ ap (λ v. take i (values_of m cols) ++ v ∷ []) at
-
--- and their text
-pub text-first : (m : Measure) (cols : List ℤ) (old new : List ℕ) (value : ℤ) (k : ℕ) → IsWithin (length cols) m → 1 ≤ width_of m.kind → slice_get cols k ≡ Some value → k + 1 ≡ m.first_col
-    → new ≡ old ++ signed_decimal value → new ≡ old ++ value_text (take 1 (values_of m cols))
-text-first m cols old new value k within some there place added =
-    added ∙ ap (λ t. old ++ t) (sym (append-nil (signed_decimal value))) ∙ ap (λ values. old ++ value_text values) (sym (values-next m cols 0 k value within (omega (arith, some)) there (omega (arith, place))))
-
-pub text-next : (m : Measure) (cols : List ℤ) (i k : ℕ) (old before colon new : List ℕ) (value : ℤ) → IsWithin (length cols) m → 1 ≤ i → i < width_of m.kind → slice_get cols k ≡ Some value
-    → k + 1 ≡ m.first_col + i → before ≡ old ++ value_text (take i (values_of m cols)) → colon ≡ before ++ 58 ∷ [] → new ≡ colon ++ signed_decimal value
-    → new ≡ old ++ value_text (take (i + 1) (values_of m cols))
-text-next m cols i k old before colon new value within later some there place text added more =
-    let values = take i (values_of m cols) in
-    let many : length values ≡ i = length-take-le i (values_of m cols) (omega (arith, some, length-values_of m cols within)) in
-    more ∙ ap (λ t. t ++ signed_decimal value) (added ∙ ap (λ t. t ++ 58 ∷ []) text)
-    ∙ append_assoc (old ++ value_text values) (58 ∷ []) (signed_decimal value)
-    ∙ append_assoc old (value_text values) (58 ∷ signed_decimal value)
-    ∙ ap (λ t. old ++ t) (sym (value_text-next values value (omega (arith, many, later))))
-    ∙ ap (λ vs. old ++ value_text vs) (sym (values-next m cols i k value within some there place))
 
 -- the records of some facts are written, and the others are left
 pub record IsPartWritten (schema : SchemaValue) (before : Writer (Vec ℕ)) (all : List Fact) (out : Writer (Vec ℕ)) (left : List Fact) : Type 0 where
@@ -170,10 +119,6 @@ file-written schema facts first second third row empty is header records =
 -- nothing more is written
 pub Writes-none : (out : Writer (Vec ℕ)) → IsWriting out → Writes out [] out
 Writes-none out writing = record { writing = writing; text = sym (append-nil (text_in out)) }
-
--- what holds of each item holds of the one at a place
-pub All-at : {X : Type 0} (P : X → Type 0) (xs : List X) (i : ℕ) (x : X) → All P xs → slice_get xs i ≡ Some x → P x
-All-at P xs i x all at = subst P (get_or_from_slice_get xs i x x at) (All-get_or P xs i x (slice_get_within xs i x at) all)
 
 pub was-ok : {A E : Type 0} (r : Result A E) (P : Type 0) → is_ok r ≡ true → OnOk r P → P
 was-ok (Ok x) P ok has = has

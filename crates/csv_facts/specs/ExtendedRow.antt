@@ -7,7 +7,8 @@ use Rattle.cube_model.specs.declared.edit.Fact.{Fact}
 use Rattle.cube_model.specs.Allocation.{Allocation, ExtendedFact}
 use Rattle.cube_model.specs.Cells.{all_cells}
 use Rattle.schema_text.specs.Schema.{SchemaValue}
-use Rattle.csv_facts.specs.FactRow.{names_of, value_fields}
+use Rattle.script_text.specs.Reply.{names_of}
+use Rattle.fact_fields.specs.FactRow.{value_fields}
 use Rattle.csv_facts.specs.RecordList.{records_text}
 
 -- the names of the columns: the id's, those of the dimensions, the weight's, that of the sum of all weights, those of the measures

@@ -1,4 +1,4 @@
--- What the records of a file say: facts, up to the first record that cannot be read.
+-- A file of facts: how it is written, and what the records of any file say: facts, up to the first record that cannot be read.
 use Rattle.std.specs.Prelude.{ℕ, ◌+◌, Bool, List, [], ◌∷◌, ◌++◌, length, map, not, ◌==◌, if◌then◌else◌, Some, None, codes, Result, Ok, Err}
 use Rattle.std.specs.List.{list_all}
 use Rattle.std.specs.Str.{bytes_eq, is_utf8}
@@ -9,10 +9,16 @@ use Rattle.cube_model.specs.declared.edit.Fact.{Fact}
 use Rattle.fact_records.specs.Fields.{fact_given}
 use Rattle.schema_text.specs.Schema.{SchemaValue, shape_of}
 use Rattle.fact_sequence.specs.declared.fact_seq.FactSeq.{FactSeq}
+use Rattle.fact_fields.specs.FactRow.{record_of}
+use Rattle.csv_facts.specs.RecordList.{records_text}
 
 -- the names of the columns: the id's, those of the dimensions, those of the measures
 abbrev pub header_of : SchemaValue → List (List ℕ)
 header_of schema = codes "id" ∷ schema.names ++ map (λ m. m.name) schema.measures
+
+-- the text of a file of facts: its header, then their records
+unfoldable pub file_text : SchemaValue → List Fact → List ℕ
+file_text schema facts = records_text (header_of schema ∷ map (record_of schema) facts)
 
 abbrev pub is_header : SchemaValue → List (List ℕ) → Bool
 is_header schema row = pointwise bytes_eq (header_of schema) row

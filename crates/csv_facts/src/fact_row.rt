@@ -1,18 +1,20 @@
 //! The record of a fact.
-ghost use Rattle.std.specs.Prelude.{◌≡◌, ◌≤◌, ◌∷◌, ◌++◌, [], length, OnOk};
-ghost use Rattle.std.specs.Fmt.{decimal, signed_decimal};
+ghost use Rattle.std.specs.Prelude.{◌≡◌, ◌∷◌, [], length, OnOk};
+ghost use Rattle.std.specs.Fmt.{decimal};
 ghost use Rattle.csv.specs.Records.{fields_of, partial_of};
-ghost use Rattle.fact_records.specs.Shape.{IsWithin, values_of, width_of, width_of_all};
+ghost use Rattle.fact_records.specs.Shape.{width_of_all};
 ghost use Rattle.fact_records.specs.Valid.{IsFactOf};
 ghost use Rattle.region_algebra.specs.Space.{IsRegion};
 ghost use Rattle.schema_text.specs.Schema.{shape_of};
-ghost use Rattle.csv_facts.specs.FactRow.{names_of, record_of, value_fields, value_text};
+ghost use Rattle.script_text.specs.Reply.{names_of};
+ghost use Rattle.fact_fields.specs.FactRow.{record_of, value_fields};
 ghost use Rattle.csv_facts.specs.RecordList.{IsLonger, IsRow};
 
 use csv::ByteRecord;
 use cube_base::{Cols, Memory};
 use cube_model::Region;
-use fact_records::{Fact, Measure, Shape, width};
+use fact_fields::append_values;
+use fact_records::{Fact, Shape};
 use itoa::Buffer;
 use region_algebra::Space;
 use schema_text::Schema;
@@ -83,28 +85,5 @@ pub(crate) fn push_values(
         append_values(text, shape.measure(i), cols)?;
         row.push_field(text)?;
     }
-    Ok(())
-}
-
-/// Appends the values of a measure, with `:` between them.
-fn append_values(text: &mut Vec<u8>, measure: &Measure, cols: Cols) -> Result<(), Memory>
-    requires within { IsWithin (length cols) measure.now }
-    requires some { 1 ≤ width_of measure.now.kind }
-    ensures { OnOk result (text.new.items ≡ text.old.items ++ value_text (values_of measure.now cols)) }
-{
-    let first = measure.first_col - 1;
-    append_value(text, cols.get(first))?;
-    for i in 1..width(&measure.kind) as u32 {
-        text.push(b':')?;
-        append_value(text, cols.get(first + i))?;
-    }
-    Ok(())
-}
-
-/// Appends a value.
-fn append_value(text: &mut Vec<u8>, value: i64) -> Result<(), Memory>
-    ensures { OnOk result (text.new.items ≡ text.old.items ++ signed_decimal value) }
-{
-    text.extend_from_slice(Buffer::new().format(value).as_bytes())?;
     Ok(())
 }

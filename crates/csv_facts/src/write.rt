@@ -2,8 +2,8 @@
 ghost use Rattle.std.specs.Prelude.{◌≡◌, map, All, None, IfOk, OnOk};
 ghost use Rattle.fact_records.specs.Valid.{IsFactOf};
 ghost use Rattle.schema_text.specs.Schema.{shape_of};
-ghost use Rattle.csv_facts.specs.FactFile.{facts_in};
-ghost use Rattle.csv_facts.specs.FactRow.{file_text, record_of};
+ghost use Rattle.fact_fields.specs.FactRow.{record_of};
+ghost use Rattle.csv_facts.specs.FactFile.{facts_in, file_text};
 ghost use Rattle.csv_facts.specs.RecordList.{IsWriting, Writes, records_of};
 
 use crate::columns::header_row;

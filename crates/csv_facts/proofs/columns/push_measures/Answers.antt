@@ -1,8 +1,8 @@
 -- The name of a measure more is appended.
 use Rattle.std.proofs.Common.{◌∙◌}
 use Rattle.fact_records.specs.declared.shape.Measure.{Measure}
+use Rattle.fact_fields.proofs.ValuesWritten.{taken-next}
 use Rattle.csv_facts.proofs.FieldsLeft.{IsLonger-more}
-use Rattle.csv_facts.proofs.RowsWritten.{taken-next}
 use Rattle.csv_facts.proofs.columns.push_measures.Goals as goal
 
 pub loop-i-preserved : goal.loop-i-preserved

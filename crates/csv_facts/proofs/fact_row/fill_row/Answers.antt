@@ -6,7 +6,8 @@ use Rattle.cube_model.specs.Tree.{Dimension}
 use Rattle.fact_records.specs.Shape.{ShapeValue}
 use Rattle.fact_records.proofs.SmallValues.{count-accepted}
 use Rattle.schema_text.specs.Schema.{shape_of}
-use Rattle.csv_facts.specs.FactRow.{names_of, value_fields}
+use Rattle.script_text.specs.Reply.{names_of}
+use Rattle.fact_fields.specs.FactRow.{value_fields}
 use Rattle.csv_facts.proofs.FieldsLeft.{IsRow-longer}
 use Rattle.csv_facts.proofs.fact_row.fill_row.Goals as goal
 

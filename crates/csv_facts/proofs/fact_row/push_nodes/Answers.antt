@@ -3,9 +3,10 @@ use Rattle.std.proofs.Common.{◌∙◌, ap, arith, List, ℕ, ◌++◌, ◌∷�
 use Rattle.std.proofs.lemmas.List.{take_all}
 use Rattle.cube_model.specs.Tree.{entry_of}
 use Rattle.region_algebra.proofs.Turns.{is_region-length}
-use Rattle.csv_facts.specs.FactRow.{names_of}
+use Rattle.script_text.specs.Reply.{names_of}
+use Rattle.fact_fields.proofs.NodesAgain.{length-names_of}
 use Rattle.csv_facts.proofs.FieldsLeft.{IsLonger-more, IsLonger-start}
-use Rattle.csv_facts.proofs.RowsWritten.{IsLonger-same, length-names_of, name-there, names_of-next, node-within}
+use Rattle.csv_facts.proofs.RowsWritten.{IsLonger-same, name-there, names_of-next, node-within}
 use Rattle.csv_facts.proofs.fact_row.push_nodes.Goals as goal
 
 pub loop-d-init : goal.loop-d-init

@@ -1,5 +1,5 @@
 use Rattle.std.proofs.Common.{take}
-use Rattle.csv_facts.specs.FactRow.{names_of}
+use Rattle.script_text.specs.Reply.{names_of}
 use Rattle.csv_facts.specs.RecordList.{IsLonger}
 use Rattle.csv_facts.proofs.fact_row.push_nodes.Given as goal
 

@@ -3,9 +3,9 @@ use Rattle.std.proofs.Common.{◌∙◌, ◌++◌, ◌≤◌, ap, length, List, 
 use Rattle.fact_records.specs.declared.shape.Measure.{Measure}
 use Rattle.fact_records.specs.Shape.{IsWithin, values_of, width_of}
 use Rattle.fact_records.proofs.Columns.{AreMeasures-within}
-use Rattle.csv_facts.specs.FactRow.{value_text}
+use Rattle.fact_fields.specs.FactRow.{value_text}
+use Rattle.fact_fields.proofs.ValuesWritten.{All-at, taken-next}
 use Rattle.csv_facts.proofs.FieldsLeft.{IsLonger-more}
-use Rattle.csv_facts.proofs.RowsWritten.{All-at, taken-next}
 use Rattle.csv_facts.proofs.fact_row.push_values.Goals as goal
 
 pub append_values-requires-clause-within : goal.append_values-requires-clause-within

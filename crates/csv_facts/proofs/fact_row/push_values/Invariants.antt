@@ -1,5 +1,5 @@
 use Rattle.std.proofs.Common.{take}
-use Rattle.csv_facts.specs.FactRow.{value_fields}
+use Rattle.fact_fields.specs.FactRow.{value_fields}
 use Rattle.csv_facts.specs.RecordList.{IsLonger}
 use Rattle.csv_facts.proofs.fact_row.push_values.Given as goal
 

@@ -1,14 +1,14 @@
 -- The nodes that names were written for are read again.
-use Rattle.std.proofs.Common.{◌≡◌, ℕ, ◌+◌, ◌<◌, Bool, true, false, List, [], ◌∷◌, length, Option, Some, None, refl, sym, ap, subst, ◌∙◌}
+use Rattle.std.proofs.Common.{◌≡◌, ℕ, ◌+◌, ◌<◌, Bool, true, false, List, [], ◌∷◌, length, suc, Option, Some, None, refl, sym, ap, subst, ◌∙◌}
 use Rattle.std.specs.Prelude.{All, ◌&&◌, ◌||◌, ◌==◌, if◌then◌else◌, nat_lt}
 use Rattle.std.specs.List.{find, list_all, list_any}
 use Rattle.std.specs.Option.{option_map, option_map_or, option_or}
-use Rattle.std.specs.Str.{bytes_eq, is_utf8}
+use Rattle.std.specs.Str.{bytes_eq}
 use Rattle.std.proofs.lemmas.Bool.{and_parts, eqb-true, or_parts}
 use Rattle.std.proofs.lemmas.List.{length-map}
 use Rattle.std.proofs.lemmas.Slice.Eq.{bytes_eq-Decides}
-use Rattle.std.proofs.lemmas.List.Elements.{All-head, All-tail}
-use Rattle.cube_base.specs.Name.{has_name_bytes, is_name}
+use Rattle.std.proofs.lemmas.List.Elements.{All-cons, All-head, All-nil, All-tail}
+use Rattle.cube_base.specs.Name.{is_name}
 use Rattle.cube_model.specs.declared.tree.NodeLine.{NodeLine}
 use Rattle.cube_model.specs.declared.tree.DimFault.{DimFault}
 use Rattle.cube_model.specs.declared.tree.DimFault.TheVariants.{Depth, Name}
@@ -19,7 +19,8 @@ use Rattle.dim_tree.proofs.Outlines.{tree_fault_none}
 use Rattle.fact_records.specs.Fields.{nodes_named}
 use Rattle.region_algebra.specs.Space.{is_region}
 use Rattle.region_algebra.proofs.Meets.{is_region-cons}
-use Rattle.csv_facts.specs.FactRow.{names_of}
+use Rattle.schema_text.proofs.WrittenLines.{IsField, IsField-name}
+use Rattle.script_text.specs.Reply.{names_of}
 
 pub bytes_eq-same : (bytes : List ℕ) → bytes_eq bytes bytes ≡ true
 bytes_eq-same bytes = (bytes_eq-Decides bytes bytes).1 refl
@@ -102,13 +103,13 @@ numbered dim is =
     (second.0, subst (λ k. list_all (λ n. nat_lt n k) (numbers dim) ≡ true) (sym (length-map dim (λ e. e.number))) second.1)
 
 -- a node by its number, and what its name says
-record IsNode (dim : Dimension) (number : ℕ) : Type 0 where
-  name : List ℕ
-  written : option_map_or (λ e. e.name) (entry_of dim number) [] ≡ name
-  again : node_named dim name ≡ Some number
-  utf8 : is_utf8 name ≡ true
+pub record IsNode (dim : Dimension) (number : ℕ) : Type 0 where
+  pub name : List ℕ
+  pub written : option_map_or (λ e. e.name) (entry_of dim number) [] ≡ name
+  pub again : node_named dim name ≡ Some number
+  pub field : IsField name
 
-node-again : (dim : Dimension) (number : ℕ) → IsTree dim → number < length dim → IsNode dim number
+pub node-again : (dim : Dimension) (number : ℕ) → IsTree dim → number < length dim → IsNode dim number
 node-again dim number tree within =
     let ns = numbered dim tree.numbered in
     let (e, at) = there dim number (all_among (numbers dim) number ns.0 ns.1 (rw (length-map dim (λ e. e.number)) within)) in
@@ -117,10 +118,10 @@ node-again dim number tree within =
       name = e.name;
       written = ap (λ o. option_map_or (λ f. f.name) o []) at;
       again = ap (option_map (λ f. f.number)) known.found ∙ ap (λ n. Some n) (found-number dim number e at);
-      utf8 = (and_parts (has_name_bytes e.name) (is_utf8 e.name) (found-name dim number e at tree.names)).1;
+      field = IsField-name e.name (found-name dim number e at tree.names);
     }
 
--- the names of a region's nodes give the region, and are UTF-8
+-- the names of a region's nodes give the region, and are fields
 pub nodes-again : (dims : List Dimension) (region : List ℕ) → All IsTree dims → is_region dims region ≡ true → nodes_named dims (names_of dims region) ≡ Some region
 nodes-again [] [] trees is = refl
 nodes-again [] (node ∷ nodes) trees is = cc
@@ -131,11 +132,17 @@ nodes-again (dim ∷ dims) (node ∷ nodes) trees is =
     let rest = nodes-again dims nodes (All-tail IsTree dim dims trees) parts.1 in
     rw (first.written, first.again, rest) refl
 
-pub nodes-utf8 : (dims : List Dimension) (region : List ℕ) → All IsTree dims → is_region dims region ≡ true → list_all is_utf8 (names_of dims region) ≡ true
-nodes-utf8 [] region trees is = refl
-nodes-utf8 (dim ∷ dims) [] trees is = cc
-nodes-utf8 (dim ∷ dims) (node ∷ nodes) trees is =
+pub nodes-fields : (dims : List Dimension) (region : List ℕ) → All IsTree dims → is_region dims region ≡ true → All IsField (names_of dims region)
+nodes-fields [] region trees is = All-nil IsField
+nodes-fields (dim ∷ dims) [] trees is = cc
+nodes-fields (dim ∷ dims) (node ∷ nodes) trees is =
     let parts = is_region-cons dim dims node nodes is in
     let first = node-again dim node (All-head IsTree dim dims trees) parts.0 in
-    let rest = nodes-utf8 dims nodes (All-tail IsTree dim dims trees) parts.1 in
-    rw (first.written, first.utf8) rest
+    let rest = nodes-fields dims nodes (All-tail IsTree dim dims trees) parts.1 in
+    subst (λ (name : List ℕ). All IsField (name ∷ names_of dims nodes)) (sym first.written) (All-cons IsField first.name (names_of dims nodes) first.field rest)
+
+-- there are as many names as dimensions
+pub length-names_of : (dims : List Dimension) (region : List ℕ) → is_region dims region ≡ true → length (names_of dims region) ≡ length dims
+length-names_of [] region is = refl
+length-names_of (dim ∷ dims) [] is = cc
+length-names_of (dim ∷ dims) (node ∷ nodes) is = ap suc (length-names_of dims nodes (is_region-cons dim dims node nodes is).1)

@@ -1,36 +1,23 @@
 -- The values that a field of a measure was written of are read again.
-use Rattle.std.proofs.Common.{◌≡◌, ℕ, suc, ◌+◌, ◌^◌, ◌<◌, ◌≤◌, Bool, true, false, List, [], ◌∷◌, ◌++◌, length, map, Some, None, refl, ap, ◌∙◌, arith, ℤ, pos, negsuc}
-use Rattle.std.specs.Prelude.{All, fold, ◌&&◌, ◌==◌, if◌then◌else◌, ◌+ℤ◌, int_lt, nat_abs, nat_le, nat_lt, neg_ℤ}
+use Rattle.std.proofs.Common.{◌≡◌, ℕ, suc, ◌+◌, ◌^◌, ◌<◌, ◌≤◌, Bool, true, false, List, [], ◌∷◌, ◌++◌, length, map, Some, refl, ap, ◌∙◌, arith, ℤ, pos, negsuc}
+use Rattle.std.specs.Prelude.{All, fold, ◌==◌, if◌then◌else◌, ◌+ℤ◌, int_lt, nat_abs, neg_ℤ}
 use Rattle.std.specs.Fmt.{decimal, signed_decimal}
 use Rattle.std.specs.List.{flat_map, list_all, slice_split}
 use Rattle.std.specs.Option.{option_map}
-use Rattle.std.specs.Str.{is_utf8}
-use Rattle.std.specs.Str.Parse.{digits_value}
 use Rattle.std.proofs.lemmas.Bool.{eqb-true, or_parts}
 use Rattle.std.proofs.lemmas.Bool.Decides.{nat_tests}
+use Rattle.std.proofs.lemmas.Fmt.{digits_decimal}
 use Rattle.std.proofs.lemmas.Int.{ints}
 use Rattle.std.proofs.lemmas.List.{append-nil}
 use Rattle.std.proofs.lemmas.List.Elements.{All-cons, All-head, All-nil, All-tail}
 use Rattle.std.proofs.lemmas.List.Splits.{slice_split_at, slice_split_none}
-use Rattle.text_lines.specs.Text.{is_digit, is_number, number_in}
-use Rattle.text_lines.proofs.Ascii.{ascii_is_utf8}
-use Rattle.text_lines.proofs.Numbers.{IsNumber-from_test, number_in-decimal}
+use Rattle.text_lines.specs.Text.{is_digit, number_in}
+use Rattle.text_lines.proofs.Numbers.{digits_model, number_in-decimal}
 use Rattle.fact_records.specs.Values.{all_of, has_negative, part_in, signed_number_in, sums_to}
 use Rattle.fact_records.proofs.PartTexts.{part_in-Some}
-use Rattle.csv_facts.specs.FactRow.{value_text}
+use Rattle.fact_fields.specs.FactRow.{value_text}
 
--- a number that was written, as one that is read
-test_of : (least most : ℕ) (bytes : List ℕ) (n : ℕ) → number_in least most bytes ≡ Some n → is_number bytes ≡ true
-test_of least most bytes n e = either (is_number bytes) e
-  where
-    either : (b : Bool) → (if b && nat_le least (digits_value 10 bytes) && nat_le (digits_value 10 bytes) most then Some (digits_value 10 bytes) else None) ≡ Some n → b ≡ true
-    either true e = refl
-    either false e = cc e
-
-digits-decimal : (n : ℕ) → n < 2 ^ 64 → list_all is_digit (decimal n) ≡ true
-digits-decimal n small = (IsNumber-from_test (decimal n) (test_of 0 n (decimal n) n (number_in-decimal 0 n n small (omega arith) (omega arith)))).digits
-
--- it does not begin with a minus
+-- the digits of a number do not begin with a minus
 unsigned : (most : ℕ) (bytes : List ℕ) (n : ℕ) → number_in 0 most bytes ≡ Some n → signed_number_in most bytes ≡ Some (pos n)
 unsigned most [] n e = cc e
 unsigned most (b ∷ bytes) n e = either (b == 45) refl
@@ -77,8 +64,8 @@ no_colon_in (b ∷ bytes) digits =
     All-cons (λ b. (b == 58) ≡ false) b bytes first (no_colon_in bytes rest)
 
 no_colon : (value : ℤ) → nat_abs value < 2 ^ 64 → All (λ b. (b == 58) ≡ false) (signed_decimal value)
-no_colon (pos n) small = no_colon_in (decimal n) (digits-decimal n (omega (arith, ints)))
-no_colon (negsuc n) small = All-cons (λ b. (b == 58) ≡ false) 45 (decimal (suc n)) refl (no_colon_in (decimal (suc n)) (digits-decimal (suc n) (omega (arith, ints))))
+no_colon (pos n) small = no_colon_in (decimal n) (digits_decimal digits_model n (omega (arith, ints)))
+no_colon (negsuc n) small = All-cons (λ b. (b == 58) ≡ false) 45 (decimal (suc n)) refl (no_colon_in (decimal (suc n)) (digits_decimal digits_model (suc n) (omega (arith, ints))))
 
 split-text : (text : List ℕ) (values : List ℤ) → All (λ b. (b == 58) ≡ false) text → All (λ value. nat_abs value < 2 ^ 64) values
     → slice_split (λ b. b == 58) (text ++ flat_map (λ v. 58 ∷ signed_decimal v) values) ≡ text ∷ map signed_decimal values
@@ -91,41 +78,3 @@ split-text text (value ∷ values) none small =
 pub split-again : (values : List ℤ) → 1 ≤ length values → All (λ value. nat_abs value < 2 ^ 64) values → slice_split (λ b. b == 58) (value_text values) ≡ map signed_decimal values
 split-again [] some small = absurd (omega arith)
 split-again (value ∷ values) some small = split-text (signed_decimal value) values (no_colon value (All-head (λ v. nat_abs v < 2 ^ 64) value values small)) (All-tail (λ v. nat_abs v < 2 ^ 64) value values small)
-
--- what was written is UTF-8, since it is ASCII
-abbrev is_small : ℕ → Bool
-is_small b = nat_lt b 128
-
-small-append : (a b : List ℕ) → list_all is_small a ≡ true → list_all is_small b ≡ true → list_all is_small (a ++ b) ≡ true
-small-append [] b small_a small_b = small_b
-small-append (x ∷ a) b small_a small_b =
-    let first : is_small x ≡ true = grind (arith, nat_tests) in
-    let rest : list_all is_small a ≡ true = grind (arith, nat_tests) in
-    rw first (small-append a b rest small_b)
-
-small-digits : (bytes : List ℕ) → list_all is_digit bytes ≡ true → list_all is_small bytes ≡ true
-small-digits [] digits = refl
-small-digits (b ∷ bytes) digits =
-    let first : is_small b ≡ true = grind (arith, nat_tests) in
-    let rest : list_all is_digit bytes ≡ true = grind (arith, nat_tests) in
-    rw first (small-digits bytes rest)
-
-small-signed : (value : ℤ) → nat_abs value < 2 ^ 64 → list_all is_small (signed_decimal value) ≡ true
-small-signed (pos n) small = small-digits (decimal n) (digits-decimal n (omega (arith, ints)))
-small-signed (negsuc n) small = small-digits (decimal (suc n)) (digits-decimal (suc n) (omega (arith, ints)))
-
-small-rest : (values : List ℤ) → All (λ value. nat_abs value < 2 ^ 64) values → list_all is_small (flat_map (λ v. 58 ∷ signed_decimal v) values) ≡ true
-small-rest [] small = refl
-small-rest (value ∷ values) small =
-    small-append (58 ∷ signed_decimal value) (flat_map (λ v. 58 ∷ signed_decimal v) values)
-    (small-signed value (All-head (λ v. nat_abs v < 2 ^ 64) value values small)) (small-rest values (All-tail (λ v. nat_abs v < 2 ^ 64) value values small))
-
-pub utf8-values : (values : List ℤ) → All (λ value. nat_abs value < 2 ^ 64) values → is_utf8 (value_text values) ≡ true
-utf8-values [] small = ascii_is_utf8 [] refl
-utf8-values (value ∷ values) small =
-    ascii_is_utf8 (value_text (value ∷ values))
-    (small-append (signed_decimal value) (flat_map (λ v. 58 ∷ signed_decimal v) values) (small-signed value (All-head (λ v. nat_abs v < 2 ^ 64) value values small))
-    (small-rest values (All-tail (λ v. nat_abs v < 2 ^ 64) value values small)))
-
-pub utf8-decimal : (n : ℕ) → n < 2 ^ 64 → is_utf8 (decimal n) ≡ true
-utf8-decimal n small = ascii_is_utf8 (decimal n) (small-digits (decimal n) (digits-decimal n small))

@@ -1,7 +1,7 @@
 use Rattle.std.proofs.Common.{◌≡◌, ◌++◌, take}
 use Rattle.fact_records.specs.Shape.{values_of}
-use Rattle.csv_facts.specs.FactRow.{value_text}
-use Rattle.csv_facts.proofs.fact_row.append_values.Given as goal
+use Rattle.fact_fields.specs.FactRow.{value_text}
+use Rattle.fact_fields.proofs.fact_row.append_values.Given as goal
 
 -- the values before this one are appended
 abbrev pub invariant-loop-i : goal.invariant-loop-i

@@ -4,9 +4,9 @@ use Rattle.std.specs.Fmt.{signed_decimal}
 use Rattle.std.proofs.lemmas.Int.{to_z-of_z}
 use Rattle.std.proofs.lemmas.List.{take_all}
 use Rattle.fact_records.specs.Shape.{values_of}
-use Rattle.csv_facts.specs.FactRow.{value_text}
-use Rattle.csv_facts.proofs.RowsWritten.{length-values_of, text-first, text-next}
-use Rattle.csv_facts.proofs.fact_row.append_values.Goals as goal
+use Rattle.fact_fields.specs.FactRow.{value_text}
+use Rattle.fact_fields.proofs.ValuesWritten.{length-values_of, text-first, text-next}
+use Rattle.fact_fields.proofs.fact_row.append_values.Goals as goal
 
 pub loop-i-init : goal.loop-i-init
 loop-i-init c =

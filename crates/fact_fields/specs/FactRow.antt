@@ -1,20 +1,12 @@
--- How facts are written: the fields of a record, and the text of a file.
+-- How a fact is spelled in fields.
 use Rattle.std.specs.Prelude.{ℕ, List, [], ◌∷◌, ◌++◌, map, ℤ}
 use Rattle.std.specs.Fmt.{decimal, signed_decimal}
 use Rattle.std.specs.List.{flat_map}
-use Rattle.std.specs.Option.{option_map_or}
 use Rattle.cube_model.specs.declared.edit.Fact.{Fact}
-use Rattle.cube_model.specs.Tree.{Dimension, entry_of}
 use Rattle.fact_records.specs.declared.shape.Measure.{Measure}
 use Rattle.fact_records.specs.Shape.{values_of}
 use Rattle.schema_text.specs.Schema.{SchemaValue}
-use Rattle.csv_facts.specs.FactFile.{header_of}
-use Rattle.csv_facts.specs.RecordList.{records_text}
-
--- the names of nodes, one of each dimension
-abbrev pub names_of : List Dimension → List ℕ → List (List ℕ)
-names_of (dim ∷ dims) (node ∷ nodes) = option_map_or (λ e. e.name) (entry_of dim node) [] ∷ names_of dims nodes
-names_of dims nodes = []
+use Rattle.script_text.specs.Reply.{names_of}
 
 -- the values of a measure with `:` between them
 abbrev pub value_text : List ℤ → List ℕ
@@ -28,7 +20,3 @@ value_fields measures cols = map (λ m. value_text (values_of m cols)) measures
 -- the record of a fact: its id, the names of its nodes, its values
 abbrev pub record_of : SchemaValue → Fact → List (List ℕ)
 record_of schema fact = decimal fact.id ∷ names_of schema.dims fact.region ++ value_fields schema.measures fact.cols
-
--- the text of a file of facts: its header, then their records
-unfoldable pub file_text : SchemaValue → List Fact → List ℕ
-file_text schema facts = records_text (header_of schema ∷ map (record_of schema) facts)

@@ -1,0 +1,5 @@
+pub mod ValuesWritten
+pub mod PrintedFields
+pub mod ValuesAgain
+pub mod NodesAgain
+pub mod FactsAgain
