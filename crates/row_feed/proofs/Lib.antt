@@ -1,0 +1,10 @@
+pub mod FeedBytes
+pub mod Appended
+pub mod WalkSteps
+pub mod CutLines
+pub mod SaidChanges
+pub mod FeedLines
+pub mod PlainTexts
+pub mod SchemaLines
+pub mod ReadAgain
+pub mod FeedLinesPlain
