@@ -1,0 +1,14 @@
+pub mod BaseTurn
+pub mod BatchTurn
+pub mod BeginTurn
+pub mod Catching
+pub mod FollowEnd
+pub mod FollowExamples
+pub mod FollowTurn
+pub mod Following
+pub mod HeadTurn
+pub mod Keeping
+pub mod LeadTurn
+pub mod Leading
+pub mod PartEnds
+pub mod Pulling
