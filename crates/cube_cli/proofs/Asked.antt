@@ -77,6 +77,8 @@ module _ (line : List ℕ) (content : Stored) (ground : Ground) (over : IsOver c
   wanted : (done : ℕ) (P : List ℕ → Type 0) → Wrote seen.sink.taken seen.sink.taken_after P → ((bytes : List ℕ) → P bytes → Stopped replies done bytes)
       → Commits (batches_on ground (take done lines)) seen.keeper.told seen.keeper.told_after → WantedMemory work done seen
   wanted done P written weaker commits = record {
+    parts = done;
+    count = refl;
     wrote = subst (λ replies. Wrote seen.sink.taken seen.sink.taken_after (Stopped replies done)) (sym (replies-over content ground over lines)) (wrote-weaker seen.sink.taken seen.sink.taken_after P (Stopped replies done) weaker written);
     kept = kept-first done commits;
   }
@@ -86,6 +88,10 @@ module _ (line : List ℕ) (content : Stored) (ground : Ground) (over : IsOver c
   told_broke (break_off.Write at) broke kept failed none =
       says_end (WriteFault at) refl (record { cause = broke.0; read = unread.count; keep = none refl }) (took INPUT_LIMIT) tt is_sound
       (record {
+        parts = at;
+        line = at;
+        parts_are = refl;
+        count = refl;
         wrote = subst (λ replies. Wrote seen.sink.taken seen.sink.taken_after (Broken replies at)) (sym (replies-over content ground over lines)) broke.1;
         kept = kept-first at kept.commits;
         near = took _;
@@ -99,6 +105,10 @@ module _ (line : List ℕ) (content : Stored) (ground : Ground) (over : IsOver c
   told_broke (break_off.Keep done) broke kept failed none =
       says_end (KeepFault done) refl (record { cause = failed refl; read = unread.count; write = broke.0 }) (took INPUT_LIMIT) tt (inr is_sound)
       (inr (record {
+        parts = done;
+        line = done + 1;
+        parts_are = refl;
+        count = refl;
         answered = subst (λ replies. Answered replies done seen.sink) (sym (replies-over content ground over lines)) broke.1;
         kept = kept-first done kept.commits;
         next = ap length (batches-over content ground over (take (done + 1) lines)) ∙ kept.next ∙ ap (λ n. n + 1) (sym (ap length (batches-over content ground over (take done lines))));

@@ -64,7 +64,9 @@ module _ (seen : SeenAll) (still : seen.sink.taken_after ≡ seen.sink.taken) (w
 
   stopped_first : (input bytes more : List ℕ) → input ≡ bytes ++ more → has_end bytes ≡ false → StoppedReading (try_work input empty_content) bytes 0 seen
   stopped_first input bytes more split none = record {
-    count = sym (no_lines input bytes more split none);
+    parts = 0;
+    parts_are = sym (no_lines input bytes more split none);
+    count = refl;
     awaits = λ some. absurd (cc (some, none));
     answered = answered_none (replies_of input) 0 seen.sink still refl;
     kept = kept;
@@ -143,5 +145,5 @@ module _ (seen : SeenAll) (still : seen.sink.taken_after ≡ seen.sink.taken) (w
     unkept = λ is. uncalled.kept;
     counts = tt;
     fits = of_any seen.keeper.told.content _ (λ content. inr tt);
-    means = of_any seen.source.left _ (λ input. inr (record { wrote = stopped_none (replies_of input) seen.sink still; kept = kept }));
+    means = of_any seen.source.left _ (λ input. inr (record { parts = 0; count = refl; wrote = stopped_none (replies_of input) seen.sink still; kept = kept }));
   }

@@ -1,6 +1,6 @@
 -- A run to which no fault comes, over a store that fits the command, is done to its end unless it is refused or it is out of memory: by cases
 -- of what its end says.
-use Rattle.std.proofs.Common.{◌≡◌, ℕ, ◌≤◌, Bool, true, false, List, [], length, refl, sym, ap, ◌∙◌, subst, arith, Option, Some, None, Result, Ok, Err}
+use Rattle.std.proofs.Common.{◌≡◌, ℕ, ◌≤◌, Bool, true, false, List, [], length, refl, sym, ap, ◌∙◌, subst, arith, inl, inr, Option, Some, None, Result, Ok, Err}
 use Rattle.std.specs.Prelude.{◌≢◌, IfSome, IsOkAnd, slice_get}
 use Rattle.cube_base.specs.declared.code.Code.TheVariants as code
 use Rattle.std.proofs.lemmas.List.{length-append}
@@ -19,16 +19,16 @@ use Rattle.script_run.specs.Seen.{KeeperSeen, SeenAll, SourceSeen}
 use Rattle.line_cutter.specs.Input.{INPUT_LIMIT, GoesOn}
 use Rattle.cube_cli.specs.declared.command.Command.{Command}
 use Rattle.cube_cli.specs.declared.command.Command.TheVariants.{Drill, Store, Try}
-use Rattle.cube_cli.specs.declared.command.StoreCommand.TheVariants.{Ask, Init, Input, Rebuild, Tell}
-use Rattle.cube_cli.specs.declared.store.InputTask.TheVariants.{Run, Import}
+use Rattle.cube_cli.specs.declared.command.StoreCommand.TheVariants.{Ask, Follow, Init, Input, Rebuild, Tell}
+use Rattle.cube_cli.specs.declared.store.InputTask.TheVariants.{Run, Import, Lead}
 use Rattle.cube_cli.specs.declared.end.End.{End}
-use Rattle.cube_cli.specs.declared.end.End.TheVariants.{Finished, Usage, Schema, NoCube, HasCube, BadStore, ReadFault, WriteFault, KeepFault, Memory, TooLong, BadRecord, ImportRows}
+use Rattle.cube_cli.specs.declared.end.End.TheVariants.{Finished, Usage, Schema, NoCube, HasCube, BadStore, ReadFault, WriteFault, KeepFault, Memory, TooLong, BadRecord, ImportRows, BadFeed, Order, Base, Differs}
 use Rattle.cube_cli.specs.Doing.{Fits, doing_of, ends_of}
 use Rattle.cube_cli.specs.End.{IsCompleteOf, IsDone, SaysAsked}
 use Rattle.cube_cli.specs.Kinds.{IsAmong, is_of_rows}
 use Rattle.cube_cli.specs.SchemaAlone.{schema_alone}
 use Rattle.cube_cli.specs.Seen.{Holds, OfContent, OfInput}
-use Rattle.cube_cli.specs.Store.{Finds, FindsBy, IsMendableContent, IsMendableOver, IsSoundContent, IsSoundOver, policy_of}
+use Rattle.cube_cli.specs.Store.{Finds, FindsBy, IsEmptyOrSound, IsMendableContent, IsMendableOver, IsSoundContent, IsSoundOver, policy_of}
 use Rattle.cube_cli.proofs.Known.{each_content, each_input, told-weaker}
 
 -- an input that goes on behind the limit is longer
@@ -90,6 +90,11 @@ empty_schema = refl
 not_empty : (content : Stored) → IsSoundContent content → content ≡ empty_content → ⊥
 not_empty content sound none = subst (λ r. IsOkAnd r (λ schema. IsSoundOver schema content)) (ap (λ (c : Stored). schema_alone c.schema) none ∙ empty_schema) sound
 
+-- nothing is found in what is empty or sound, and is not empty
+not_both : (content : Stored) (found : Finding) → (content ≢ empty_content) × Finds content found → IsEmptyOrSound content → ⊥
+not_both content found is (inl none) = is.0 none
+not_both content found is (inr sound) = nothing_found content found sound is.1
+
 not_empty_mendable : (content : Stored) → IsMendableContent content → content ≡ empty_content → ⊥
 not_empty_mendable content mendable none = subst (λ r. IsOkAnd r (λ schema. IsMendableOver schema content)) (ap (λ (c : Stored). schema_alone c.schema) none ∙ empty_schema) mendable
 
@@ -101,6 +106,8 @@ reads_failing line (Some (Drill n)) done may = absurd (cc may)
 reads_failing line (Some (Store Init)) done may = refl
 reads_failing line (Some (Store (Input Run))) done may = refl
 reads_failing line (Some (Store (Input Import))) done may = refl
+reads_failing line (Some (Store (Input Lead))) done may = refl
+reads_failing line (Some (Store Follow)) done may = refl
 reads_failing line (Some (Store Ask)) done may = absurd (cc may)
 reads_failing line (Some (Store Rebuild)) done may = absurd (cc may)
 reads_failing line (Some (Store (Tell telling))) done may = absurd (cc may)
@@ -112,6 +119,8 @@ reads_long line (Some (Drill n)) done may = absurd (cc may)
 reads_long line (Some (Store Init)) done may = refl
 reads_long line (Some (Store (Input Run))) done may = refl
 reads_long line (Some (Store (Input Import))) done may = refl
+reads_long line (Some (Store (Input Lead))) done may = refl
+reads_long line (Some (Store Follow)) done may = refl
 reads_long line (Some (Store Ask)) done may = absurd (cc may)
 reads_long line (Some (Store Rebuild)) done may = absurd (cc may)
 reads_long line (Some (Store (Tell telling))) done may = absurd (cc may)
@@ -123,6 +132,8 @@ stores_failing line (Some (Drill n)) done may = absurd (cc may)
 stores_failing line (Some (Store Init)) done may = refl
 stores_failing line (Some (Store (Input Run))) done may = refl
 stores_failing line (Some (Store (Input Import))) done may = refl
+stores_failing line (Some (Store (Input Lead))) done may = refl
+stores_failing line (Some (Store Follow)) done may = refl
 stores_failing line (Some (Store Ask)) done may = refl
 stores_failing line (Some (Store Rebuild)) done may = refl
 stores_failing line (Some (Store (Tell telling))) done may = refl
@@ -139,6 +150,8 @@ no_cube_unfit line (Some (Drill n)) may = absurd (cc may)
 no_cube_unfit line (Some (Store Init)) may = absurd (cc may)
 no_cube_unfit line (Some (Store (Input Run))) may = record { stores = refl; never = λ content none sound. not_empty content sound none }
 no_cube_unfit line (Some (Store (Input Import))) may = record { stores = refl; never = λ content none sound. not_empty content sound none }
+no_cube_unfit line (Some (Store (Input Lead))) may = record { stores = refl; never = λ content none sound. not_empty content sound none }
+no_cube_unfit line (Some (Store Follow)) may = absurd (cc may)
 no_cube_unfit line (Some (Store Ask)) may = record { stores = refl; never = λ content none sound. not_empty content sound none }
 no_cube_unfit line (Some (Store Rebuild)) may = record { stores = refl; never = λ content none mendable. not_empty_mendable content mendable none }
 no_cube_unfit line (Some (Store (Tell telling))) may = record { stores = refl; never = λ content none sound. not_empty content sound none }
@@ -150,6 +163,8 @@ has_cube_unfit line (Some (Drill n)) may = absurd (cc may)
 has_cube_unfit line (Some (Store Init)) may = record { stores = refl; never = λ content some none. some none }
 has_cube_unfit line (Some (Store (Input Run))) may = absurd (cc may)
 has_cube_unfit line (Some (Store (Input Import))) may = absurd (cc may)
+has_cube_unfit line (Some (Store (Input Lead))) may = absurd (cc may)
+has_cube_unfit line (Some (Store Follow)) may = absurd (cc may)
 has_cube_unfit line (Some (Store Ask)) may = absurd (cc may)
 has_cube_unfit line (Some (Store Rebuild)) may = absurd (cc may)
 has_cube_unfit line (Some (Store (Tell telling))) may = absurd (cc may)
@@ -161,6 +176,8 @@ bad_store_unfit line (Some (Drill n)) found may = absurd (cc may)
 bad_store_unfit line (Some (Store Init)) found may = absurd (cc may)
 bad_store_unfit line (Some (Store (Input Run))) found may = record { stores = refl; never = λ content is sound. nothing_found content found sound is.1 }
 bad_store_unfit line (Some (Store (Input Import))) found may = record { stores = refl; never = λ content is sound. nothing_found content found sound is.1 }
+bad_store_unfit line (Some (Store (Input Lead))) found may = record { stores = refl; never = λ content is sound. nothing_found content found sound is.1 }
+bad_store_unfit line (Some (Store Follow)) found may = record { stores = refl; never = λ content is fits. not_both content found is fits }
 bad_store_unfit line (Some (Store Ask)) found may = record { stores = refl; never = λ content is sound. nothing_found content found sound is.1 }
 bad_store_unfit line (Some (Store Rebuild)) found may = record { stores = refl; never = λ content is mendable. nothing_but_rows content found (not_of_rows line found may) mendable is.1 }
 bad_store_unfit line (Some (Store (Tell telling))) found may = record { stores = refl; never = λ content is sound. nothing_found content found sound is.1 }
@@ -184,6 +201,10 @@ module _ (line : List ℕ) (command : Option Command) (seen : SeenAll) where
   complete (Schema line why) says = λ none. done (Schema line why) refl
   complete (BadRecord bad) says = λ none. done (BadRecord bad) refl
   complete (ImportRows would) says = λ none. done (ImportRows would) refl
+  complete (BadFeed line why) says = λ none. done (BadFeed line why) refl
+  complete (Order want got) says = λ none. done (Order want got) refl
+  complete (Base place) says = λ none. done (Base place) refl
+  complete (Differs number line) says = λ none. done (Differs number line) refl
   complete (Memory count) says = λ none. done (Memory count) refl
   complete (ReadFault count) says = λ none. absurd (none.read (reads_failing line command count says.may) says.faults.cause)
   complete (WriteFault count) says = λ none. absurd (none.write says.faults.cause)

@@ -33,9 +33,10 @@ use Rattle.script_text.specs.declared.line.Line.{Line}
 use Rattle.script_text.specs.declared.line.Line.TheVariants as line
 use Rattle.script_text.specs.declared.word.FactWord.{FactWord}
 use Rattle.script_text.specs.declared.word.FactWord.TheVariants.{Insert, Change}
-use Rattle.script_text.specs.ScriptLine.{dim_given, growth_given, line_of}
+use Rattle.script_text.specs.declared.word.ScriptWord.{ScriptWord}
+use Rattle.script_text.specs.ScriptLine.{command_line, dim_given, growth_given, line_of}
 use Rattle.script_text.specs.ScriptWord.{line_of_fact}
-use Rattle.script_text.proofs.LineCases.{line_of-holds}
+use Rattle.script_text.proofs.LineCases.{HoldsOfEach, command_line-holds, line_of-holds}
 use Rattle.cube_core.specs.Growth.{growth_code, has_large_region, judge_growth}
 use Rattle.cube_core.proofs.Widening.{keep-grown}
 
@@ -109,15 +110,20 @@ module _ (schema : SchemaValue) (trees : All IsTree schema.dims) where
       let same : grow ≡ other = cc in
       subst (IsLeafOf schema.dims) same (growth-given grow (field_at fields 1) (field_at fields 2) (dim_given schema (field_at fields 0)) is)
 
+  each_leaf : HoldsOfEach schema MayGrow
+  each_leaf = record {
+    nothing = λ grow e. cc;
+    fact = λ word fields fact is. no_fact word fact;
+    withdrawal = λ fields id is grow e. cc;
+    growth = λ fields grow is. of_growth fields grow is;
+    question = λ asked grow e. cc;
+  }
+
   pub line_of-leaf : (grow : Grow) (bytes : List ℕ) → line_of schema bytes ≡ Ok (line.Grow grow) → IsLeafOf schema.dims grow
-  line_of-leaf grow bytes e =
-      line_of-holds schema MayGrow (record {
-        nothing = λ grow e. cc;
-        fact = λ word fields fact is. no_fact word fact;
-        withdrawal = λ fields id is grow e. cc;
-        growth = λ fields grow is. of_growth fields grow is;
-        question = λ asked grow e. cc;
-      }) bytes (line.Grow grow) e grow refl
+  line_of-leaf grow bytes e = line_of-holds schema MayGrow each_leaf bytes (line.Grow grow) e grow refl
+
+  pub command_line-leaf : (grow : Grow) (fields : List (List ℕ)) (spelled : Option ScriptWord) → command_line schema fields spelled ≡ Ok (line.Grow grow) → IsLeafOf schema.dims grow
+  command_line-leaf grow fields spelled e = command_line-holds schema MayGrow each_leaf fields spelled (line.Grow grow) e grow refl
 
 -- there is room for a leaf in a dimension of so many nodes: none has its name, and its parent is not too deep
 record HasRoom (same : Option ℕ) (parent : Option Entry) (nodes : ℕ) : Type 0 where

@@ -4,12 +4,16 @@ pub mod Auditing
 pub mod BeforeScript
 pub mod Coming
 pub mod Completing
+pub mod FeedParts
+pub mod FeedSteps
 pub mod First
+pub mod FollowEnds
 pub mod Growths
 pub mod HeldLines
 pub mod Keepers
 pub mod KeptFacts
 pub mod Known
+pub mod LeadEnds
 pub mod Making
 pub mod Names
 pub mod Opening

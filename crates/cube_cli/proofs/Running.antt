@@ -86,7 +86,9 @@ module _ (content : Stored) (ground : Ground) (over : IsOver content ground) whe
     -- behind the lines that end in what was taken
     behind : (taken after : List ℕ) (done : ℕ) → AnsweredTaken ground [] taken seen done → StoppedReading (run_work (taken ++ after) content) taken done seen
     behind taken after done answered = record {
-      count = answered.count;
+      parts = done;
+      parts_are = answered.count;
+      count = refl;
       awaits = λ has. refl;
       answered = subst (λ replies. Answered replies done seen.sink) (sym (replies-over (lines_of (taken ++ after)))) (answered-all ground taken after done seen.sink answered.count answered.answered);
       kept = kept-first (taken ++ after) done
@@ -115,6 +117,10 @@ module _ (content : Stored) (ground : Ground) (over : IsOver content ground) whe
     told_write line broke =
         in_whole (break_off.Write line) broke (λ input. BrokeOff (run_work input content) line seen)
         (λ after off kept. record {
+          parts = line;
+          line = line;
+          parts_are = refl;
+          count = refl;
           wrote = subst (λ replies. Wrote seen.sink.taken seen.sink.taken_after (Broken replies line)) (sym (replies-over (lines_of (broke.taken ++ after)))) off.1;
           kept = kept-first (broke.taken ++ after) line kept.commits;
           near = to_line broke.taken after line broke.bytes broke.near;
@@ -126,6 +132,10 @@ module _ (content : Stored) (ground : Ground) (over : IsOver content ground) whe
         (λ after off kept.
         let lines = lines_of (broke.taken ++ after) in
         record {
+          parts = done;
+          line = done + 1;
+          parts_are = refl;
+          count = refl;
           answered = subst (λ replies. Answered replies done seen.sink) (sym (replies-over lines)) off.1;
           kept = kept-first (broke.taken ++ after) done kept.commits;
           next = ap length (batches-over (take (done + 1) lines)) ∙ kept.next ∙ ap (λ n. n + 1) (sym (ap length (batches-over (take done lines))));
@@ -135,6 +145,8 @@ module _ (content : Stored) (ground : Ground) (over : IsOver content ground) whe
     wanted : (input : List ℕ) (done : ℕ) (P : List ℕ → Type 0) → Wrote seen.sink.taken seen.sink.taken_after P → ((bytes : List ℕ) → P bytes → Stopped (outcome_on ground (lines_of input)).replies done bytes)
         → Commits (batches_on ground (take done (lines_of input))) seen.keeper.told seen.keeper.told_after → WantedMemory (run_work input content) done seen
     wanted input done P written weaker commits = record {
+      parts = done;
+      count = refl;
       wrote = subst (λ replies. Wrote seen.sink.taken seen.sink.taken_after (Stopped replies done)) (sym (replies-over (lines_of input))) (wrote-weaker seen.sink.taken seen.sink.taken_after P (Stopped (outcome_on ground (lines_of input)).replies done) weaker written);
       kept = kept-first input done commits;
     }

@@ -132,7 +132,7 @@ accepted : (draft : Draft) (k : ℕ) (lines : List (List ℕ)) → IfOk (read_fr
 accepted draft k [] = tt
 accepted draft k (line ∷ lines) = accepted-step draft k line lines (is_skipped line) (is_end line) (line_fault draft line) refl refl refl (λ draft. accepted draft (k + 1) lines)
 
-accepted_at : (lines : List (List ℕ)) (read : ReadLines) → read_from blank_draft 0 lines ≡ Ok read → EndsAt 0 lines read.lines
+pub accepted_at : (lines : List (List ℕ)) (read : ReadLines) → read_from blank_draft 0 lines ≡ Ok read → EndsAt 0 lines read.lines
 accepted_at lines read is = subst (λ result. IfOk result (λ (read : ReadLines). EndsAt 0 lines read.lines)) is (accepted blank_draft 0 lines)
 
 -- so the lines that hold a schema tell it
@@ -143,7 +143,7 @@ read_same input size text holds =
     ∙ read_from-front blank_draft 0 (take count (lines_of input))
     ∙ read_from-to_end blank_draft 0 (lines_of input)
 
-sized-Ok : (bytes : List ℕ) (result : Result ReadLines BadLine) (read : ReadSchema) → sized bytes result ≡ Ok read
+pub sized-Ok : (bytes : List ℕ) (result : Result ReadLines BadLine) (read : ReadSchema) → sized bytes result ≡ Ok read
     → (told : ReadLines) × (result ≡ Ok told) × (read ≡ record { schema = told.schema; size = length bytes - length (after_lines told.lines bytes) })
 sized-Ok bytes (Ok told) read is = (told, refl, cc)
 sized-Ok bytes (Err bad) read is = cc

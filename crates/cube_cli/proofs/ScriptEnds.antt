@@ -83,7 +83,9 @@ module _ (source : SourceSeen) (room : ℕ) (held : List (List ℕ)) (schema : S
   stopped_in : (whole : SeenAll) (kept : Commits [] whole.keeper.told whole.keeper.told_after) (done : ℕ) (rest input : List ℕ) → IsInParts schema took.size took.taken second rest input → done ≡ lf_count text
       → Answered (run_of schema (lines_of text)).replies done whole.sink → StoppedReading (try_work input empty_content) both done whole
   stopped_in whole kept done rest input is count answered = record {
-    count = count ∙ sym (lines-read schema took.size took.taken second rest input is);
+    parts = done;
+    parts_are = count ∙ sym (lines-read schema took.size took.taken second rest input is);
+    count = refl;
     awaits = λ some. accepted rest input is;
     answered = subst (λ l. Answered l done whole.sink) (sym (replies-read schema took.size took.taken second rest input is)) (answered-all (new_ground (weigh_of schema.policy) schema) text rest done whole.sink count answered);
     kept = kept;
@@ -153,6 +155,10 @@ module _ (source : SourceSeen) (room : ℕ) (held : List (List ℕ)) (schema : S
       told_write line broke near =
           of_parts (λ input. BrokeOff (try_work input empty_content) line whole)
           (λ rest input none is. record {
+            parts = line;
+            line = line;
+            parts_are = refl;
+            count = refl;
             wrote = (broke_in after lines whole.sink (break_off.Write line) rest input is none are broke).1;
             kept = kept;
             near = record { input = both; bytes = bytes_both; few = near_in line rest input is near };
@@ -162,6 +168,8 @@ module _ (source : SourceSeen) (room : ℕ) (held : List (List ℕ)) (schema : S
       told_sink line broke =
           of_parts (λ input. WantedMemory (try_work input empty_content) line whole)
           (λ rest input none is. record {
+            parts = line;
+            count = refl;
             wrote = wrote-weaker whole.sink.taken whole.sink.taken_after (Broken (replies_of input) line) (Stopped (replies_of input) line) (λ bytes b. b.stopped)
                 (broke_in after lines whole.sink (break_off.SinkMemory line) rest input is none are broke).1;
             kept = kept;
@@ -171,6 +179,8 @@ module _ (source : SourceSeen) (room : ℕ) (held : List (List ℕ)) (schema : S
       told_memory done broke =
           of_parts (λ input. WantedMemory (try_work input empty_content) done whole)
           (λ rest input none is. record {
+            parts = done;
+            count = refl;
             wrote = wrote-weaker whole.sink.taken whole.sink.taken_after (Gathered (replies_of input) done) (Stopped (replies_of input) done) (stopped_gathered (replies_of input) done)
                 (broke_in after lines whole.sink (break_off.Memory done) rest input is none are broke).1;
             kept = kept;

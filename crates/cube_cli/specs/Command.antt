@@ -9,8 +9,8 @@ use Rattle.drill_run.specs.Edits.{MAX_DRILL}
 use Rattle.cube_cli.specs.declared.command.Command.{Command}
 use Rattle.cube_cli.specs.declared.command.Command.TheVariants.{Drill, Store, Try}
 use Rattle.cube_cli.specs.declared.command.StoreCommand.{StoreCommand}
-use Rattle.cube_cli.specs.declared.command.StoreCommand.TheVariants.{Ask, Init, Input, Rebuild, Tell}
-use Rattle.cube_cli.specs.declared.store.InputTask.TheVariants.{Run, Import}
+use Rattle.cube_cli.specs.declared.command.StoreCommand.TheVariants.{Ask, Follow, Init, Input, Rebuild, Tell}
+use Rattle.cube_cli.specs.declared.store.InputTask.TheVariants.{Run, Import, Lead}
 use Rattle.cube_cli.specs.declared.telling.Telling.TheVariants.{Check, Export, Schema, Rows}
 
 -- the drill of the number that bytes spell
@@ -27,7 +27,9 @@ store_command word =
     else (if bytes_eq word (codes "export") then Some (Tell Export)
     else (if bytes_eq word (codes "schema") then Some (Tell Schema)
     else (if bytes_eq word (codes "rows") then Some (Tell Rows)
-    else (if bytes_eq word (codes "rebuild") then Some Rebuild else None)))))))
+    else (if bytes_eq word (codes "rebuild") then Some Rebuild
+    else (if bytes_eq word (codes "lead") then Some (Input Lead)
+    else (if bytes_eq word (codes "follow") then Some Follow else None)))))))))
 
 -- that over the store of a name, which is not empty
 abbrev pub store_named : List ℕ → List ℕ → Option Command

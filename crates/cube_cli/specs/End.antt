@@ -13,7 +13,7 @@ use Rattle.script_run.specs.Written.{Answered, Broken, Stopped}
 use Rattle.cube_cli.specs.Command.{asked_line, command_of}
 use Rattle.cube_cli.specs.declared.command.Command.{Command}
 use Rattle.cube_cli.specs.declared.end.End.{End}
-use Rattle.cube_cli.specs.declared.end.End.TheVariants.{Finished, Usage, Schema, NoCube, HasCube, BadStore, ReadFault, WriteFault, KeepFault, Memory, TooLong, BadRecord, ImportRows}
+use Rattle.cube_cli.specs.declared.end.End.TheVariants.{Finished, Usage, Schema, NoCube, HasCube, BadStore, ReadFault, WriteFault, KeepFault, Memory, TooLong, BadRecord, ImportRows, BadFeed, Order, Base, Differs}
 use Rattle.cube_cli.specs.Doing.{AsNeeded, AtOnce, ByLines, Doing, Fits, LineWork, OneWork, Works, doing_of, ends_of}
 use Rattle.cube_cli.specs.Kinds.{EndKind, IsAmong}
 use Rattle.cube_cli.specs.Seen.{DidNothing, Holds, IsUntouched, LeftAll, NoFault, OfContent, OfInput, OnlyKeepFailed, OnlyReadFailed, OnlyWriteFailed, ReadNothing, ReadWhole, Took}
@@ -85,44 +85,64 @@ FitsAt Fitting seen (KeepFault done) content = StoppedFirst seen done ⊎ Fittin
 FitsAt Fitting seen (Memory done) content = StoppedFirst seen done ⊎ Fitting content
 FitsAt Fitting seen end content = Fitting content
 
--- Reading stopped behind these bytes of an input. If its head is refused, that had not come whole; else the lines that had come whole are
--- done and answered, and what they commit is kept.
+-- Reading stopped behind these bytes of an input. If its head is refused, that had not come whole; else the parts are done and written that
+-- the lines make which had come whole, and what they commit is kept.
 pub record StoppedReading (work : LineWork) (taken : List ℕ) (done : ℕ) (seen : SeenAll) : Type 0 where
-  pub count : done ≡ work.lines_in taken
+  pub parts : ℕ
+  pub parts_are : parts ≡ work.parts_at (work.lines_in taken)
+  pub count : done ≡ work.told_as parts
   pub awaits : work.has_head taken ≡ true → work.refusal ≡ None
-  pub answered : Answered work.replies done seen.sink
-  pub kept : Commits (work.kept done) seen.keeper.told seen.keeper.told_after
+  pub answered : Answered work.texts parts seen.sink
+  pub kept : Commits (work.kept parts) seen.keeper.told seen.keeper.told_after
 
--- The whole input, where one is taken, was read, and its lines are done and answered.
+-- The whole input, where one is taken, was read, and all its parts are done and written.
 pub record DidLines (work : LineWork) (reads : Bool) (input : List ℕ) (refused : ℕ) (seen : SeenAll) : Type 0 where
   pub accepted : work.refusal ≡ None
   pub read : reads ≡ true → ReadWhole seen.source input
   pub count : refused ≡ work.refused
-  pub wrote : Appends seen.sink.taken seen.sink.taken_after (concat work.replies)
+  pub wrote : Appends seen.sink.taken seen.sink.taken_after (concat work.texts)
   pub kept : Commits work.all_kept seen.keeper.told seen.keeper.told_after
 
--- A write failed within the first so many replies, the last of which is not whole. Its line ends in the last piece that was taken.
+-- A write failed within the texts of the first parts, the last of which is not whole. The line at which so many are done ends in the last
+-- piece that was taken.
 pub record BrokeOff (work : LineWork) (done : ℕ) (seen : SeenAll) : Type 0 where
-  pub wrote : Wrote seen.sink.taken seen.sink.taken_after (Broken work.replies done)
-  pub kept : Commits (work.kept done) seen.keeper.told seen.keeper.told_after
-  pub near : TakesAtMost (work.line_end done + PIECE_LIMIT) seen.source.left seen.source.left_after
+  pub parts : ℕ
+  pub line : ℕ
+  pub parts_are : parts ≡ work.parts_at line
+  pub count : done ≡ work.told_as parts
+  pub wrote : Wrote seen.sink.taken seen.sink.taken_after (Broken work.texts parts)
+  pub kept : Commits (work.kept parts) seen.keeper.told seen.keeper.told_after
+  pub near : TakesAtMost (work.line_end line + PIECE_LIMIT) seen.source.left seen.source.left_after
 
--- The keeper failed behind the first so many lines, whose replies are all written: the next line commits.
+-- The keeper failed behind the first parts, whose texts are all written: the next one commits, which is done at this line.
 pub record StoppedAtEdit (work : LineWork) (done : ℕ) (seen : SeenAll) : Type 0 where
-  pub answered : Answered work.replies done seen.sink
-  pub kept : Commits (work.kept done) seen.keeper.told seen.keeper.told_after
-  pub next : length (work.kept (done + 1)) ≡ length (work.kept done) + 1
-  pub near : TakesAtMost (work.line_end (done + 1) + PIECE_LIMIT) seen.source.left seen.source.left_after
+  pub parts : ℕ
+  pub line : ℕ
+  pub parts_are : parts + 1 ≡ work.parts_at line
+  pub count : done ≡ work.told_as parts
+  pub answered : Answered work.texts parts seen.sink
+  pub kept : Commits (work.kept parts) seen.keeper.told seen.keeper.told_after
+  pub next : length (work.kept (parts + 1)) ≡ length (work.kept parts) + 1
+  pub near : TakesAtMost (work.line_end line + PIECE_LIMIT) seen.source.left seen.source.left_after
 
--- It ran out of memory within the first so many replies.
+-- It ran out of memory within the texts of the first parts.
 pub record WantedMemory (work : LineWork) (done : ℕ) (seen : SeenAll) : Type 0 where
-  pub wrote : Wrote seen.sink.taken seen.sink.taken_after (Stopped work.replies done)
-  pub kept : Commits (work.kept done) seen.keeper.told seen.keeper.told_after
+  pub parts : ℕ
+  pub count : done ≡ work.told_as parts
+  pub wrote : Wrote seen.sink.taken seen.sink.taken_after (Stopped work.texts parts)
+  pub kept : Commits (work.kept parts) seen.keeper.told seen.keeper.told_after
 
 -- The head of the input is refused, and this end tells why. It ends in the last piece that was taken.
 pub record RefusedHead (work : LineWork) (end : End) (seen : SeenAll) : Type 0 where
   pub cause : work.refusal ≡ Some end
   pub near : TakesAtMost (work.head + PIECE_LIMIT) seen.source.left seen.source.left_after
+
+-- Of the input this end tells why no more of it is done: what is before that is done and written, and what it commits is kept. Its head is
+-- all that was read to tell this, and ends in the last piece that was taken.
+pub record RefusedWithin (work : LineWork) (end : End) (seen : SeenAll) : Type 0 where
+  pub head : RefusedHead work end seen
+  pub wrote : Appends seen.sink.taken seen.sink.taken_after (concat work.texts)
+  pub kept : Commits work.all_kept seen.keeper.told seen.keeper.told_after
 
 -- What each end says of an input that is done by its lines.
 abbrev pub MeansByLines : LineWork → Bool → List ℕ → SeenAll → End → Type 0
@@ -135,6 +155,10 @@ MeansByLines work reads input seen (Memory done) = StoppedFirst seen done ⊎ Wa
 MeansByLines work reads input seen (Schema line why) = RefusedHead work (Schema line why) seen
 MeansByLines work reads input seen (BadRecord bad) = RefusedHead work (BadRecord bad) seen
 MeansByLines work reads input seen (ImportRows would) = RefusedHead work (ImportRows would) seen
+MeansByLines work reads input seen (BadFeed line why) = RefusedWithin work (BadFeed line why) seen
+MeansByLines work reads input seen (Order want got) = RefusedWithin work (Order want got) seen
+MeansByLines work reads input seen (Base place) = RefusedWithin work (Base place) seen
+MeansByLines work reads input seen (Differs number line) = RefusedWithin work (Differs number line) seen
 MeansByLines work reads input seen end = ⊤
 
 -- The input, where one is taken, was read whole, and it has this refusal or none.
@@ -208,7 +232,7 @@ pub record NoneFailed (doing : Doing) (seen : SeenAll) : Type 0 where
 
 -- the run was done to its end, the words or the input are refused, or it ran out of memory
 abbrev pub IsDone : End → Type 0
-IsDone end = IsAmong (EndKind.Finished ∷ EndKind.Usage ∷ EndKind.Schema ∷ EndKind.BadRecord ∷ EndKind.ImportRows ∷ EndKind.Memory ∷ []) end
+IsDone end = IsAmong (EndKind.Finished ∷ EndKind.Usage ∷ EndKind.Schema ∷ EndKind.BadRecord ∷ EndKind.ImportRows ∷ EndKind.BadFeed ∷ EndKind.Order ∷ EndKind.Base ∷ EndKind.Differs ∷ EndKind.Memory ∷ []) end
 
 -- Where no fault comes, the store holds what the command must find, and the input is not too long, it is so. With what the end says an
 -- input that is accepted is done to its end then, unless it runs out of memory.

@@ -18,9 +18,8 @@ use Rattle.schema_text.specs.Schema.{SchemaValue, shape_of}
 use Rattle.schema_text.specs.SchemaText.{schema_text}
 use Rattle.stored_state.specs.Mending.{changed_by, mended_batch}
 use Rattle.stored_state.specs.Sound.{rows_counted}
-use Rattle.csv_facts.specs.FactFile.{facts_in}
+use Rattle.csv_facts.specs.FactFile.{facts_in, file_text}
 use Rattle.csv_facts.specs.ExtendedRow.{extended_text}
-use Rattle.csv_facts.specs.FactRow.{file_text}
 use Rattle.csv_facts.specs.RecordList.{records_of}
 use Rattle.cube_cli.specs.declared.telling.Telling.{Telling}
 use Rattle.cube_cli.specs.declared.telling.Telling.TheVariants.{Check, Export, Schema, Rows}

@@ -22,6 +22,10 @@ pub data EndKind : Type 0 where
   TooLong : EndKind
   BadRecord : EndKind
   ImportRows : EndKind
+  BadFeed : EndKind
+  Order : EndKind
+  Base : EndKind
+  Differs : EndKind
 
 abbrev pub is_of_rows : Finding → Bool
 is_of_rows (finding.Rows _ _ _) = true
@@ -42,6 +46,10 @@ is_kind Memory (ends.Memory _) = true
 is_kind TooLong (ends.TooLong _) = true
 is_kind BadRecord (ends.BadRecord _) = true
 is_kind ImportRows (ends.ImportRows _) = true
+is_kind BadFeed (ends.BadFeed _ _) = true
+is_kind Order (ends.Order _ _) = true
+is_kind Base (ends.Base _) = true
+is_kind Differs (ends.Differs _ _) = true
 is_kind kind end = false
 
 -- an end is of one of these kinds

@@ -5,6 +5,10 @@ use Rattle.cube_base.specs.declared.fault.SinkError.{SinkError}
 use Rattle.cube_base.specs.declared.fault.SinkError.TheVariants as sink_error
 use Rattle.cube_core.specs.declared.fault.ImportFault.{ImportFault}
 use Rattle.cube_core.specs.declared.fault.ImportFault.TheVariants as import_fault
+use Rattle.feed_run.specs.declared.feed_stop.FeedStop.{FeedStop}
+use Rattle.feed_run.specs.declared.feed_stop.FeedStop.TheVariants as feed_stop
+use Rattle.feed_run.specs.declared.follow.FollowStop.{FollowStop}
+use Rattle.feed_run.specs.declared.follow.FollowStop.TheVariants as follow_stop
 use Rattle.fact_keeper.specs.declared.keeper.KeepError.{KeepError}
 use Rattle.fact_keeper.specs.declared.keeper.KeepError.TheVariants as keep_error
 use Rattle.schema_text.specs.declared.schema.SchemaFault.{SchemaFault}
@@ -23,7 +27,7 @@ use Rattle.line_cutter.specs.declared.input.InputStop.TheVariants as input_stop
 use Rattle.stored_state.specs.declared.finding.Finding.TheVariants as finding
 use Rattle.stored_state.specs.declared.finding.LoadFault.{LoadFault}
 use Rattle.stored_state.specs.declared.finding.LoadFault.TheVariants as load_fault
-use Rattle.cube_cli.specs.declared.end.End.TheVariants.{BadRecord, BadStore, Finished, ImportRows, ReadFault, TooLong, WriteFault, KeepFault, Memory, NoCube, Schema}
+use Rattle.cube_cli.specs.declared.end.End.TheVariants.{BadFeed, BadRecord, BadStore, Base, Differs, Finished, ImportRows, Order, ReadFault, TooLong, WriteFault, KeepFault, Memory, NoCube, Schema}
 
 -- the end where a script broke off
 abbrev pub end_of_break_off : BreakOff → End
@@ -43,6 +47,19 @@ end_of_run (Ok refused) = Finished refused
 end_of_run (Err (stream_stop.Broke off)) = end_of_break_off off
 end_of_run (Err (stream_stop.Read done)) = ReadFault done
 end_of_run (Err (stream_stop.TooLong done)) = TooLong done
+
+-- the end where a feed is not followed further
+abbrev pub end_of_feed : FeedStop → End
+end_of_feed (feed_stop.Bad line why) = BadFeed line why
+end_of_feed (feed_stop.Order want got) = Order want got
+end_of_feed (feed_stop.Base place) = Base place
+end_of_feed (feed_stop.Differs number line) = Differs number line
+
+-- the end of a follower's run
+abbrev pub end_of_follow : {T : Type 0} → Result T FollowStop → End
+end_of_follow (Ok _) = Finished 0
+end_of_follow (Err (follow_stop.Feed stop)) = end_of_feed stop
+end_of_follow (Err (follow_stop.Stream stop)) = end_of_run (Err stop)
 
 -- the end where an input is not taken
 abbrev pub end_of_stop : InputStop → End

@@ -1,10 +1,11 @@
 -- What a stored content is, and what a script does over it.
-use Rattle.std.specs.Prelude.{◌≡◌, ℕ, List, [], ◌∷◌, Option, Some, IsOkAnd, Result, Ok, Err}
+use Rattle.std.specs.Prelude.{◌≡◌, ◌⊎◌, ℕ, List, [], ◌∷◌, Option, Some, IsOkAnd, Result, Ok, Err}
 use Rattle.std.specs.Option.{option_map, option_map_or}
 use Rattle.std.specs.Result.{result_ok}
 use Rattle.cube_model.specs.Allocation.{Policy}
 use Rattle.fact_keeper.specs.declared.content.Batch.{Batch}
 use Rattle.fact_keeper.specs.declared.content.Stored.{Stored}
+use Rattle.fact_keeper.specs.Batch.{empty_content}
 use Rattle.schema_text.specs.Schema.{SchemaValue, policy_in, shape_of, weigh_of}
 use Rattle.schema_text.specs.SchemaText.{BadLine, schema_text}
 use Rattle.stored_state.specs.declared.finding.Finding.{Finding}
@@ -26,6 +27,10 @@ IsSoundOver schema content = IsSound (policy_of schema) (shape_of schema) schema
 -- A content is sound: its schema's text holds a schema alone, over which its facts and rows are.
 abbrev pub IsSoundContent : Stored → Type 0
 IsSoundContent content = IsOkAnd (schema_alone content.schema) (λ schema. IsSoundOver schema content)
+
+-- There is nothing in it, or it is sound.
+abbrev pub IsEmptyOrSound : Stored → Type 0
+IsEmptyOrSound content = (content ≡ empty_content) ⊎ IsSoundContent content
 
 -- Its schema and its facts are sound, whatever rows are kept.
 abbrev pub IsMendableOver : SchemaValue → Stored → Type 0

@@ -10,6 +10,7 @@ ghost use Rattle.cube_cli.specs.Loaded.{Loads, second_word};
 use crate::End;
 use crate::asking::ask;
 use crate::drill::drill;
+use crate::following::follow;
 use crate::init::init;
 use crate::rebuilding::rebuild;
 use crate::store::{InputTask, do_input};
@@ -39,6 +40,8 @@ pub enum StoreCommand {
     Init,
     /// Something is done with the input over the cube of the store.
     Input(InputTask),
+    /// A feed is followed, from a store in which there is nothing or which is what the feed begins with.
+    Follow,
     /// The line that the words behind the name make is done over the cube of the store.
     Ask,
     /// The rows of the store are put right.
@@ -59,7 +62,7 @@ pub enum StoreCommand {
 /// The words `drill` and a number from 1 to 100,000, which has one spelling, do the drill of the number, and write its line. No input
 /// is taken. Neither of these calls the keeper.
 ///
-/// The words `init`, `run`, `check`, `import`, `export`, `schema`, `rows` and `rebuild` each take the name of a store, which is not empty, and load it first. `init` takes a schema
+/// The words `init`, `run`, `check`, `import`, `export`, `schema`, `rows`, `rebuild`, `lead` and `follow` each take the name of a store, which is not empty, and load it first. `init` takes a schema
 /// alone, keeps its one canonical text as the batch of a store in which there was nothing, and answers `ok` and 0. `run` does the lines of the
 /// input on the cube of the store, as they come. Each edit and each growth that is accepted commits one batch before it is answered, and all
 /// replies before it are written by then: the store holds at each stop what the first `done` lines made of it. `check` takes no input and
@@ -77,6 +80,15 @@ pub enum StoreCommand {
 ///
 /// `rebuild` takes no input. Where the schema and the facts of the store are sound, whatever rows are kept, it commits one batch that puts the rows right,
 /// or none where they are, and answers `rebuilt` with the numbers of the facts, of their rows, and of the entries of rows that were put or dropped.
+///
+/// `lead` does the lines of the input as `run` does, and writes a feed of the store in place of the replies: its base, which is the schema and
+/// the facts as they stand at the start, before anything is read, and then a batch for each edit and each growth that is accepted, once it is
+/// committed. `done` is the number of the lines as it is for `run`, and 0 within the base.
+///
+/// `follow` takes a feed. Where the store holds something, that must be sound and what the feed begins with; in a store in which there is nothing
+/// the base is kept as one batch. Of each batch of the feed it takes the edit or the growth into a cube of its own, compares the lines behind it
+/// with those that this cube gives, commits the batch once it is whole, and writes `applied` and its number. `done` is the number of the
+/// batches that are applied. It ends at the first line that breaks the form, comes out of turn or differs: what stands before that is kept.
 ///
 /// What is answered over the facts and the dimensions as they stand after each number of lines is the exact expectation over all possible
 /// worlds of the facts, in each of which every fact stands in one cell of its allocation; and where a node of a region has children, the
@@ -130,6 +142,9 @@ fn run_command<S: Source, K: Sink, Q: Keeper>(
         }
         Some(Command::Store(StoreCommand::Input(task))) => {
             do_input(alloc, second_of(words), task, source, out, keeper)
+        }
+        Some(Command::Store(StoreCommand::Follow)) => {
+            follow(alloc, second_of(words), source, out, keeper)
         }
         Some(Command::Store(StoreCommand::Ask)) => {
             ask(alloc, second_of(words), asked_of(words), out, keeper)
@@ -195,6 +210,10 @@ fn store_command(word: &[u8]) -> Option<StoreCommand>
         Some(StoreCommand::Tell(Telling::Rows))
     } else if is_text(word, "rebuild") {
         Some(StoreCommand::Rebuild)
+    } else if is_text(word, "lead") {
+        Some(StoreCommand::Input(InputTask::Lead))
+    } else if is_text(word, "follow") {
+        Some(StoreCommand::Follow)
     } else {
         None
     }

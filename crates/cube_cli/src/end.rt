@@ -11,7 +11,8 @@ use std::fmt;
 const LAST_DONE: u8 = 1;
 
 /// How a run ended. Of a run that stops, a part of the replies to the first `done` script lines is written, with all
-/// but the last of them whole. Of a command without a script, `done` is 1 where a batch was committed to the store, and else 0.
+/// but the last of them whole. Of `lead` it is the base of the feed and the batches of these lines, and of `follow` the lines that tell of the
+/// first `done` batches. Of a command without a script or a feed, `done` is 1 where a batch was committed to the store, and else 0.
 #[derive(Debug, Drop)]
 pub enum End {
     /// The input was read to its end, and this many of its lines were answered `error`.
@@ -42,6 +43,16 @@ pub enum End {
     BadRecord(BadRecord),
     /// No record of the file to be imported is refused, but with its facts there would be more than 2^21 rows: so many.
     ImportRows { would: u64 },
+    /// The feed breaks its form: the first line that does, counted from 1, and why. The batches before it are applied.
+    BadFeed { line: u64, code: Code },
+    /// A batch of the feed comes out of turn: the number that is next, and its own. The batches before it are applied.
+    Order { want: u64, got: u64 },
+    /// The feed begins at another content than the one that the store holds: the place of the first fact that differs, or none where the
+    /// schema does. Nothing is kept.
+    Base { place: Option<u64> },
+    /// The lines of a batch of the feed are not those that its edit gives here: the number of the batch, and the first such line, counted
+    /// from 1. The batches before it are applied.
+    Differs { number: u64, line: u64 },
 }
 
 impl End {
@@ -64,6 +75,10 @@ impl End {
             End::TooLong { done: _ } => 10,
             End::BadRecord(_) => 11,
             End::ImportRows { would: _ } => 12,
+            End::BadFeed { line: _, code: _ } => 13,
+            End::Order { want: _, got: _ } => 14,
+            End::Base { place: _ } => 15,
+            End::Differs { number: _, line: _ } => 16,
         }
     }
 
@@ -99,7 +114,7 @@ impl fmt::Display for End {
         match self {
             End::Finished { refused } => write!(f, "finished, {refused} lines refused"),
             End::Usage => f.write_str(
-                "usage: cube try, init NAME, run NAME, check NAME, import NAME, export NAME, drill N, ask NAME WORD.., schema NAME, rows NAME, rebuild NAME",
+                "usage: cube try, init NAME, run NAME, check NAME, import NAME, export NAME, drill N, lead NAME, follow NAME, ask NAME WORD.., schema NAME, rows NAME, rebuild NAME",
             ),
             End::Schema { line, code } => {
                 let word = code.word();
@@ -121,8 +136,28 @@ impl fmt::Display for End {
                 write!(f, "record {index}: {word}")
             }
             End::ImportRows { would } => write!(f, "import would make {would} rows"),
+            End::BadFeed { line, code } => say_feed_line(*line, *code, f),
+            End::Order { want, got } => say_order(*want, *got, f),
+            End::Base { place: _ } => f.write_str("base differs"),
+            End::Differs { number, line } => say_difference(*number, *line, f),
         }
     }
+}
+
+/// What the program says of a line of a feed that breaks its form.
+fn say_feed_line<W: fmt::Write>(line: u64, code: Code, f: &mut fmt::Formatter<W>) -> fmt::Result {
+    let word = code.word();
+    write!(f, "feed line {line}: {word}")
+}
+
+/// What it says of a batch of one that comes out of turn.
+fn say_order<W: fmt::Write>(want: u64, got: u64, f: &mut fmt::Formatter<W>) -> fmt::Result {
+    write!(f, "batch {got} where {want} is next")
+}
+
+/// What it says of a batch whose line is another than its edit gives.
+fn say_difference<W: fmt::Write>(number: u64, line: u64, f: &mut fmt::Formatter<W>) -> fmt::Result {
+    write!(f, "batch {number} differs at line {line}")
 }
 
 /// What the program says of what is found in a store.

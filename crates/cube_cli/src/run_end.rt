@@ -1,7 +1,7 @@
 //! The end of the program by that of its script, by whether a text was written, or by why an input or its head is not taken, a store not
 //! opened or a file not imported.
 ghost use Rattle.std.specs.Prelude.{◌≡◌};
-ghost use Rattle.cube_cli.specs.RunEnd.{end_of_break_off, end_of_head, end_of_import, end_of_keep, end_of_load, end_of_open, end_of_run, end_of_schema, end_of_stop, end_of_write};
+ghost use Rattle.cube_cli.specs.RunEnd.{end_of_break_off, end_of_feed, end_of_follow, end_of_head, end_of_import, end_of_keep, end_of_load, end_of_open, end_of_run, end_of_schema, end_of_stop, end_of_write};
 
 use crate::End;
 use crate::schema_lines::HeadStop;
@@ -9,6 +9,7 @@ use crate::store::OpenStop;
 use cube_base::SinkError;
 use cube_core::{ImportFault, LoadFault};
 use fact_keeper::KeepError;
+use feed_run::{FeedStop, FollowStop};
 use line_cutter::InputStop;
 use schema_text::SchemaFault;
 use script_run::{BreakOff, StreamStop};
@@ -34,6 +35,29 @@ pub fn end_of_break_off(off: BreakOff) -> End
         BreakOff::SinkMemory { line } => End::Memory { done: line },
         BreakOff::Memory { done } => End::Memory { done },
         BreakOff::Keep { done } => End::KeepFault { done },
+    }
+}
+
+// The end of the program where a feed is not followed further.
+fn end_of_feed(stop: FeedStop) -> End
+    ensures { result ≡ end_of_feed stop }
+{
+    match stop {
+        FeedStop::Bad { line, code } => End::BadFeed { line, code },
+        FeedStop::Order { want, got } => End::Order { want, got },
+        FeedStop::Base { place } => End::Base { place },
+        FeedStop::Differs { number, line } => End::Differs { number, line },
+    }
+}
+
+/// The end of the program whose feed was followed or not.
+pub fn end_of_follow(run: Result<(), FollowStop>) -> End
+    ensures { result ≡ end_of_follow run }
+{
+    match run {
+        Ok(()) => End::Finished { refused: 0 },
+        Err(FollowStop::Feed(stop)) => end_of_feed(stop),
+        Err(FollowStop::Stream(stop)) => end_of_run(Err(stop)),
     }
 }
 

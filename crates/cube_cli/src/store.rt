@@ -8,6 +8,7 @@ ghost use Rattle.script_run.specs.Seen.{keeper_seen, seen_of};
 ghost use Rattle.cube_cli.specs.declared.command.Command.TheVariants as command;
 ghost use Rattle.cube_cli.specs.declared.command.StoreCommand.TheVariants as store_command;
 ghost use Rattle.cube_cli.specs.declared.store.InputTask.TheVariants as task;
+ghost use Rattle.cube_cli.specs.declared.store.OpenStop.TheVariants as open_stop;
 ghost use Rattle.cube_cli.specs.End.{SaysOf};
 ghost use Rattle.cube_cli.specs.Loaded.{LoadedOnce, NamedAt, OpenedBy};
 ghost use Rattle.cube_cli.specs.Seen.{Holds};
@@ -16,6 +17,7 @@ ghost use Rattle.cube_cli.specs.Steps.{HoldsSchema, IsCubeOf, NotOpened, Opened}
 
 use crate::End;
 use crate::importing::import_file;
+use crate::leading::lead_over;
 use crate::run_end::{end_of_load, end_of_open, end_of_run, end_of_stop};
 use crate::schema_alone::read_schema_alone;
 use cube_base::{Sink, Source};
@@ -33,6 +35,8 @@ pub enum InputTask {
     Run,
     /// It is a file of facts, and these are put.
     Import,
+    /// It is a script, and its lines are done and told as a feed.
+    Lead,
 }
 
 /// Does what is to be done with the input over the cube of the store of a name.
@@ -73,6 +77,7 @@ pub fn open_store<Q: Keeper>(
 ) -> Result<(Schema, Stored), OpenStop>
     ensures opened { IfOk result (λ store. Opened store.0 store.1 (keeper_seen Q.tells keeper.old keeper.new)) }
     ensures open { IfOk result (λ _. IsTrue (Q.tells keeper.new).is_open) }
+    ensures open_empty { IfErr result (λ stop. stop ≡ open_stop.NoCube → IsTrue (Q.tells keeper.new).is_open) }
     ensures not_opened { IfErr result (NotOpened (keeper_seen Q.tells keeper.old keeper.new)) }
     ensures loads { (Q.tells keeper.new).loads ≡ next_count (Q.tells keeper.old).loads }
     ensures named { MatchResult result (λ _. OpenedBy name.now (Q.tells keeper.new)) (NamedAt name.now (Q.tells keeper.old) (Q.tells keeper.new)) }
@@ -148,6 +153,7 @@ fn do_cube<S: Source, K: Sink, Q: Keeper>(
     match task {
         InputTask::Run => run_over(alloc, cube, source, out, keeper),
         InputTask::Import => import_over(alloc, cube, source, out, keeper),
+        InputTask::Lead => lead_over(alloc, cube, source, out, keeper),
     }
 }
 

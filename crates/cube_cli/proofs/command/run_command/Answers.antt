@@ -9,9 +9,9 @@ use Rattle.fact_keeper.specs.Keeper.{KeeperTold}
 use Rattle.cube_cli.specs.Seen.{WasNotRead}
 use Rattle.cube_cli.specs.declared.command.Command.{Command}
 use Rattle.cube_cli.specs.declared.command.Command.TheVariants.{Drill, Store, Try}
-use Rattle.cube_cli.specs.declared.command.StoreCommand.TheVariants.{Ask, Init, Input, Rebuild, Tell}
+use Rattle.cube_cli.specs.declared.command.StoreCommand.TheVariants.{Ask, Follow, Init, Input, Rebuild, Tell}
 use Rattle.cube_cli.specs.declared.store.InputTask.{InputTask}
-use Rattle.cube_cli.specs.declared.store.InputTask.TheVariants.{Run, Import}
+use Rattle.cube_cli.specs.declared.store.InputTask.TheVariants.{Run, Import, Lead}
 use Rattle.cube_cli.specs.declared.end.End.{End}
 use Rattle.cube_cli.specs.declared.end.End.TheVariants.{Usage}
 use Rattle.cube_cli.proofs.First.{usage}
@@ -25,11 +25,13 @@ says_named words command seen end named says = subst (λ command. SaysAsked (ask
 says_input : (task : InputTask) (line : List ℕ) (seen : SeenAll) (end : End) → SaysOf (Some (Store (Input task))) seen end → SaysAsked line (Some (Store (Input task))) seen end
 says_input Run line seen end says = says
 says_input Import line seen end says = says
+says_input Lead line seen end says = says
 
 loads_input : (task : InputTask) (words : List (List ℕ)) (before after : KeeperTold) (seen : SeenAll) (end : End) → LoadedOnce (second_word words) before after seen end
     → Loads (doing_of (asked_line words) (Some (Store (Input task)))).stores (second_word words) before after seen end
 loads_input Run words before after seen end loaded = loaded
 loads_input Import words before after seen end loaded = loaded
+loads_input Lead words before after seen end loaded = loaded
 
 loads_named : (words : List (List ℕ)) (command : Option Command) (before after : KeeperTold) (seen : SeenAll) (end : End) → command_of words ≡ command → Loads (doing_of (asked_line words) command).stores (second_word words) before after seen end
     → Loads (doing_by words).stores (second_word words) before after seen end
@@ -147,3 +149,19 @@ returns-in-Some-Store-Rebuild-clause-loaded g c =
     let seen : SeenAll = seen_of g.S.Source.tells g.K.Sink.tells g.Q.Keeper.tells c.args.source.now c.args.source.now c.args.out.now c.rebuild.new.out c.args.keeper.now c.rebuild.new.keeper in
     loads_named words (Some (Store Rebuild)) _ _ _ _ named
     (subst (λ name. LoadedOnce name (tells c.args.keeper.now) (tells c.rebuild.new.keeper) seen c.rebuild.result) c.second_of-in-Some-Store-Rebuild.ensures (c.rebuild.ensures.loaded (source_seen g.S.Source.tells c.args.source.now c.args.source.now) (unread _ _)))
+
+pub returns-in-Some-Store-Follow-clause-says : goal.returns-in-Some-Store-Follow-clause-says
+returns-in-Some-Store-Follow-clause-says g c =
+    let words = map string_bytes c.args.words.now in
+    let seen : SeenAll = seen_of g.S.Source.tells g.K.Sink.tells g.Q.Keeper.tells c.args.source.now c.follow.new.source c.args.out.now c.follow.new.out c.args.keeper.now c.follow.new.keeper in
+    let named : command_of words ≡ Some (Store Follow) = cc (c.command_of.ensures, c.in-Some-Store-Follow.is, c.in-Some-Store-Follow.field-0-is, c.in-Some-Store-Follow.field-0-0-is) in
+    says_named words (Some (Store Follow)) seen c.follow.result named (c.follow.ensures.says)
+
+pub returns-in-Some-Store-Follow-clause-loaded : goal.returns-in-Some-Store-Follow-clause-loaded
+returns-in-Some-Store-Follow-clause-loaded g c =
+    let words = map string_bytes c.args.words.now in
+    let named : command_of words ≡ Some (Store Follow) = cc (c.command_of.ensures, c.in-Some-Store-Follow.is, c.in-Some-Store-Follow.field-0-is, c.in-Some-Store-Follow.field-0-0-is) in
+    let tells = g.Q.Keeper.tells in
+    let seen : SeenAll = seen_of g.S.Source.tells g.K.Sink.tells g.Q.Keeper.tells c.args.source.now c.follow.new.source c.args.out.now c.follow.new.out c.args.keeper.now c.follow.new.keeper in
+    loads_named words (Some (Store Follow)) _ _ _ _ named
+    (subst (λ name. LoadedOnce name (tells c.args.keeper.now) (tells c.follow.new.keeper) seen c.follow.result) c.second_of-in-Some-Store-Follow.ensures (c.follow.ensures.loaded))
