@@ -1,5 +1,5 @@
 -- What runs of the program leave of a store.
-use Rattle.std.proofs.Common.{◌≡◌, ◌≢◌, ◌≤◌, arith, ℕ, Bool, true, false, List, [], ◌∷◌, take, ltb-false, refl, sym, ap, ◌∙◌, subst, inl, inr, Option, Some, None, Result, Ok, Err}
+use Rattle.std.proofs.Common.{◌≡◌, ◌≢◌, ◌-◌, ◌≤◌, arith, ℕ, Bool, true, false, List, [], ◌∷◌, take, ltb-false, refl, sym, ap, ◌∙◌, subst, inl, inr, Option, Some, None, Result, Ok, Err}
 use Rattle.std.specs.Prelude.{◌⊎◌, ◌==◌, IfSome, IsOkAnd, IsSome, nat_lt, if◌then◌else◌}
 use Rattle.std.proofs.lemmas.Bool.Decides.{nat_tests}
 use Rattle.std.specs.Option.{option_map, option_map_or}
@@ -13,7 +13,7 @@ use Rattle.fact_sequence.specs.declared.fact_seq.BadRecord.{BadRecord as RecordA
 use Rattle.fact_keeper.specs.declared.content.Stored.{Stored}
 use Rattle.fact_keeper.specs.Batch.{apply_batch, empty_content}
 use Rattle.schema_text.specs.Schema.{SchemaValue, shape_of}
-use Rattle.schema_text.specs.SchemaText.{BadLine, schema_of}
+use Rattle.schema_text.specs.SchemaText.{BadLine, schema_of, schema_text}
 use Rattle.stored_state.specs.Mending.{changed_by, mended, mended_batch}
 use Rattle.stored_state.specs.Sound.{IsSound, facts_told}
 use Rattle.stored_state.proofs.Mended.{mended-sound, mending-applied, unchanged-sound}
@@ -21,19 +21,20 @@ use Rattle.script_run.specs.Kept.{Commits, apply_all}
 use Rattle.script_run.specs.Seen.{SeenAll, Told}
 use Rattle.cube_cli.specs.declared.command.Command.{Command}
 use Rattle.cube_cli.specs.declared.command.Command.TheVariants.{Drill, Store, Try}
-use Rattle.cube_cli.specs.declared.command.StoreCommand.TheVariants.{Ask, Init, Input, Rebuild, Tell}
-use Rattle.cube_cli.specs.declared.store.InputTask.TheVariants.{Import, Run}
+use Rattle.cube_cli.specs.declared.command.StoreCommand.TheVariants.{Ask, Follow, Init, Input, Rebuild, Tell}
+use Rattle.cube_cli.specs.declared.store.InputTask.TheVariants.{Import, Lead, Run}
 use Rattle.cube_cli.specs.declared.end.End.{End}
-use Rattle.cube_cli.specs.declared.end.End.TheVariants.{Finished, Usage, Schema, NoCube, HasCube, BadStore, ReadFault, WriteFault, KeepFault, Memory, TooLong, BadRecord, ImportRows}
+use Rattle.cube_cli.specs.declared.end.End.TheVariants.{Finished, Usage, Schema, NoCube, HasCube, BadStore, ReadFault, WriteFault, KeepFault, Memory, TooLong, BadRecord, ImportRows, BadFeed, Order, Base, Differs}
 use Rattle.cube_cli.specs.Command.{asked_line, command_of}
-use Rattle.cube_cli.specs.Doing.{Fits, OneWork, ask_work, file_work, import_work, init_work, mending_work, rebuild_work, refused_schema, run_work, text_work}
-use Rattle.cube_cli.specs.End.{DidKeep, FitsAt, MeansAsNeeded, MeansAtOnce, MeansByLines, Says, SaysAsked, SaysOf, StoppedAtEdit, StoppedFirst, WantedMemory}
+use Rattle.cube_cli.specs.Doing.{Fits, LineWork, OneWork, ask_work, base_in, feed_lines, file_work, follow_work, import_work, init_work, lead_work, mending_work, rebuild_work, refused_schema, run_work, text_work}
+use Rattle.cube_cli.specs.End.{DidKeep, FitsAt, Leaves, MeansAsNeeded, MeansAtOnce, MeansByLines, Says, SaysAsked, SaysOf, StoppedFirst}
 use Rattle.cube_cli.specs.Files.{IsAccepted, import_batch, mending_batches, refused_file, refused_over, rows_with}
 use Rattle.cube_cli.specs.SchemaAlone.{schema_alone}
 use Rattle.cube_cli.specs.Seen.{Holds, IsUntouched}
-use Rattle.cube_cli.specs.Store.{IsMendableContent, IsMendableOver, IsSoundContent, IsSoundOver, batches_over, policy_of, schema_batch}
-use Rattle.store_law.specs.Holds.{BeginsSound, IsEmptyOrSound, IsRebuilt, StaysSound, content_after}
+use Rattle.cube_cli.specs.Store.{IsEmptyOrSound, IsMendableContent, IsMendableOver, IsSoundContent, IsSoundOver, batches_over, policy_of, schema_batch}
+use Rattle.store_law.specs.Holds.{BeginsSound, IsRebuilt, StaysSound, content_after}
 use Rattle.store_law.proofs.Alone.{alone-schema, text-alone}
+use Rattle.store_law.proofs.Followed.{BeginsWith, all-hold, parts-hold}
 use Rattle.store_law.proofs.Imported.{file-holds}
 use Rattle.store_law.proofs.Scripted.{scripted-sound}
 use Rattle.store_law.proofs.Told.{holds-none}
@@ -85,10 +86,10 @@ module _ (content : Stored) (schema : SchemaValue) (alone : schema_alone content
   after_right P same made =
       subst (λ batches. P (apply_all batches content)) (sym kept_right) (rebuilt_by P (changed_by its_batch == 0) refl same made)
 
--- The keeper told a content, and the source its input. What holds of the content, of any sound one and of what lines leave holds of what
--- the keeper tells afterwards.
+-- The keeper told a content, and the source its input. What holds of the content, of any sound one, of what lines leave and of what the
+-- parts of a feed leave holds of what the keeper tells afterwards.
 module _ (seen : SeenAll) (content : Stored) (input : List ℕ) (told : seen.keeper.told.content ≡ Some content) (left : seen.source.left ≡ Some input)
-    (P : Stored → Type 0) (here : P content) (sounds : (other : Stored) → IsSoundContent other → P other) (kept : (lines : List (List ℕ)) → P (content_after content lines)) where
+    (P : Stored → Type 0) (here : P content) (sounds : (other : Stored) → IsSoundContent other → P other) (kept : (lines : List (List ℕ)) → P (content_after content lines)) (begins : BeginsWith (base_in content) content) where
   abbrev Stays : Type 0
   Stays = IfSome seen.keeper.told_after.content P
 
@@ -97,12 +98,6 @@ module _ (seen : SeenAll) (content : Stored) (input : List ℕ) (told : seen.kee
 
   committed : (batches : List Batch) → Commits batches seen.keeper.told seen.keeper.told_after → P (apply_all batches content) → Stays
   committed batches commits after = subst (λ c. IfSome c P) (sym (commits.content ∙ ap (option_map (apply_all batches)) told)) after
-
-  of_lines : (lines : List (List ℕ)) → Commits (batches_over content lines) seen.keeper.told seen.keeper.told_after → Stays
-  of_lines lines commits = committed (batches_over content lines) commits (kept lines)
-
-  first_lines : (done : ℕ) → Commits (batches_over content (take done (lines_of input))) seen.keeper.told seen.keeper.told_after → Stays
-  first_lines done commits = of_lines (take done (lines_of input)) commits
 
   -- what is said of the content and the input
   of_input : (Q : List ℕ → Type 0) → IfSome seen.source.left Q → Q input
@@ -114,57 +109,54 @@ module _ (seen : SeenAll) (content : Stored) (input : List ℕ) (told : seen.kee
   of_both : (Q : Stored → List ℕ → Type 0) → Holds seen.keeper (λ content. IfSome seen.source.left (Q content)) → Q content input
   of_both Q all = of_input (Q content) (of_held (λ content. IfSome seen.source.left (Q content)) all)
 
+  -- an input done by its lines, where it holds of what any number of parts leaves, and of what all leave
+  module _ (work : LineWork) (reads : Bool) (text : List ℕ) (each : (parts : ℕ) → P (apply_all (work.kept parts) content)) (all : P (apply_all work.all_kept content)) where
+    first_parts : (parts : ℕ) → Commits (work.kept parts) seen.keeper.told seen.keeper.told_after → Stays
+    first_parts parts commits = committed (work.kept parts) commits (each parts)
+
+    lines-stay : (end : End) → Leaves seen end → MeansByLines work reads text seen end → Stays
+    lines-stay Usage leaves means = untouched leaves.nothing.kept
+    lines-stay NoCube leaves means = untouched leaves.nothing.kept
+    lines-stay HasCube leaves means = untouched leaves.nothing.kept
+    lines-stay (BadStore found) leaves means = untouched leaves.nothing.kept
+    lines-stay (Schema at why) leaves means = untouched leaves.kept
+    lines-stay (BadRecord bad) leaves means = untouched leaves.kept
+    lines-stay (ImportRows would) leaves means = untouched leaves.kept
+    lines-stay (BadFeed at why) leaves means = committed work.all_kept means.kept all
+    lines-stay (Order want got) leaves means = committed work.all_kept means.kept all
+    lines-stay (Base place) leaves means = committed work.all_kept means.kept all
+    lines-stay (Differs number at) leaves means = committed work.all_kept means.kept all
+    lines-stay (Finished refused) leaves means = committed work.all_kept means.kept all
+    lines-stay (ReadFault done) leaves means = first_parts means.says.parts means.says.kept
+    lines-stay (TooLong done) leaves means = first_parts means.parts means.kept
+    lines-stay (WriteFault done) leaves means = first_parts means.parts means.kept
+    lines-stay (KeepFault done) leaves (inl stopped) = untouched stopped.left.nothing.kept
+    lines-stay (KeepFault done) leaves (inr at) = first_parts at.parts at.kept
+    lines-stay (Memory done) leaves (inl stopped) = untouched stopped.left.nothing.kept
+    lines-stay (Memory done) leaves (inr wanted) = first_parts wanted.parts wanted.kept
+
   -- a script
   run-stays : (end : End) → SaysOf (Some (Store (Input Run))) seen end → Stays
-  run-stays Usage says = untouched says.leaves.nothing.kept
-  run-stays NoCube says = untouched says.leaves.nothing.kept
-  run-stays HasCube says = untouched says.leaves.nothing.kept
-  run-stays (BadStore found) says = untouched says.leaves.nothing.kept
-  run-stays (Schema at why) says = untouched says.leaves.kept
-  run-stays (BadRecord bad) says = untouched says.leaves.kept
-  run-stays (ImportRows would) says = untouched says.leaves.kept
-  run-stays (Finished refused) says = of_lines (lines_of input) (of_both (λ content input. MeansByLines (run_work input content) true input seen (Finished refused)) says.means).kept
-  run-stays (ReadFault done) says = first_lines done (of_both (λ content input. MeansByLines (run_work input content) true input seen (ReadFault done)) says.means).says.kept
-  run-stays (TooLong done) says = first_lines done (of_both (λ content input. MeansByLines (run_work input content) true input seen (TooLong done)) says.means).kept
-  run-stays (WriteFault done) says = first_lines done (of_both (λ content input. MeansByLines (run_work input content) true input seen (WriteFault done)) says.means).kept
-  run-stays (KeepFault done) says = by (of_both (λ content input. MeansByLines (run_work input content) true input seen (KeepFault done)) says.means)
-    where
-      by : StoppedFirst seen done ⊎ StoppedAtEdit (run_work input content) done seen → Stays
-      by (inl stopped) = untouched stopped.left.nothing.kept
-      by (inr at) = first_lines done at.kept
-  run-stays (Memory done) says = by (of_both (λ content input. MeansByLines (run_work input content) true input seen (Memory done)) says.means)
-    where
-      by : StoppedFirst seen done ⊎ WantedMemory (run_work input content) done seen → Stays
-      by (inl stopped) = untouched stopped.left.nothing.kept
-      by (inr wanted) = first_lines done wanted.kept
+  run-stays end says =
+      lines-stay (run_work input content) true input (λ parts. kept (take parts (lines_of input))) (kept (lines_of input)) end says.leaves
+      (of_both (λ content input. MeansByLines (run_work input content) true input seen end) says.means)
 
   -- one line
-  module _ (line : List ℕ) where
-    first_asked : (done : ℕ) → Commits (batches_over content (take done (line ∷ []))) seen.keeper.told seen.keeper.told_after → Stays
-    first_asked done commits = of_lines (take done (line ∷ [])) commits
+  ask-stays : (line : List ℕ) (end : End) → SaysAsked line (Some (Store Ask)) seen end → Stays
+  ask-stays line end says =
+      lines-stay (ask_work line [] content) false [] (λ parts. kept (take parts (line ∷ []))) (kept (line ∷ [])) end says.leaves
+      (of_held (λ content. MeansByLines (ask_work line [] content) false [] seen end) says.means)
 
-    ask-stays : (end : End) → SaysAsked line (Some (Store Ask)) seen end → Stays
-    ask-stays Usage says = untouched says.leaves.nothing.kept
-    ask-stays NoCube says = untouched says.leaves.nothing.kept
-    ask-stays HasCube says = untouched says.leaves.nothing.kept
-    ask-stays (BadStore found) says = untouched says.leaves.nothing.kept
-    ask-stays (Schema at why) says = untouched says.leaves.kept
-    ask-stays (BadRecord bad) says = untouched says.leaves.kept
-    ask-stays (ImportRows would) says = untouched says.leaves.kept
-    ask-stays (ReadFault done) says = absurd (cc says.may)
-    ask-stays (TooLong done) says = absurd (cc says.may)
-    ask-stays (Finished refused) says = of_lines (line ∷ []) (of_held (λ content. MeansByLines (ask_work line [] content) false [] seen (Finished refused)) says.means).kept
-    ask-stays (WriteFault done) says = first_asked done (of_held (λ content. MeansByLines (ask_work line [] content) false [] seen (WriteFault done)) says.means).kept
-    ask-stays (KeepFault done) says = by (of_held (λ content. MeansByLines (ask_work line [] content) false [] seen (KeepFault done)) says.means)
-      where
-        by : StoppedFirst seen done ⊎ StoppedAtEdit (ask_work line [] content) done seen → Stays
-        by (inl stopped) = untouched stopped.left.nothing.kept
-        by (inr at) = first_asked done at.kept
-    ask-stays (Memory done) says = by (of_held (λ content. MeansByLines (ask_work line [] content) false [] seen (Memory done)) says.means)
-      where
-        by : StoppedFirst seen done ⊎ WantedMemory (ask_work line [] content) done seen → Stays
-        by (inl stopped) = untouched stopped.left.nothing.kept
-        by (inr wanted) = first_asked done wanted.kept
+  -- a script that leads, and a feed that is followed
+  lead-stays : (end : End) → SaysOf (Some (Store (Input Lead))) seen end → Stays
+  lead-stays end says =
+      lines-stay (lead_work input content) true input (λ parts. kept (take (parts - 1) (lines_of input))) (kept (lines_of input)) end says.leaves
+      (of_both (λ content input. MeansByLines (lead_work input content) true input seen end) says.means)
+
+  follow-stays : (end : End) → SaysOf (Some (Store Follow)) seen end → Stays
+  follow-stays end says =
+      lines-stay (follow_work input content) true input (λ parts. parts-hold (base_in content) content P here sounds begins (feed_lines input) parts) (all-hold (base_in content) content P here sounds begins (feed_lines input)) end says.leaves
+      (of_both (λ content input. MeansByLines (follow_work input content) true input seen end) says.means)
 
   -- a file
   file-sound : (schema : SchemaValue) → schema_alone content.schema ≡ Ok schema → IsSoundOver schema content → IsAccepted (policy_of schema) schema (facts_told content) input
@@ -195,6 +187,10 @@ module _ (seen : SeenAll) (content : Stored) (input : List ℕ) (told : seen.kee
   import-stays (Schema at why) says = untouched says.leaves.kept
   import-stays (BadRecord bad) says = untouched says.leaves.kept
   import-stays (ImportRows would) says = untouched says.leaves.kept
+  import-stays (BadFeed at why) says = absurd (cc says.may)
+  import-stays (Order want got) says = absurd (cc says.may)
+  import-stays (Base place) says = absurd (cc says.may)
+  import-stays (Differs number at) says = absurd (cc says.may)
   import-stays (ReadFault done) says = untouched says.counts.nothing.kept
   import-stays (TooLong done) says = untouched says.counts.nothing.kept
   import-stays (KeepFault done) says = untouched says.counts.nothing.kept
@@ -219,6 +215,10 @@ module _ (seen : SeenAll) (content : Stored) (input : List ℕ) (told : seen.kee
   init-stays (Schema at why) empty says = untouched says.leaves.kept
   init-stays (BadRecord bad) empty says = untouched says.leaves.kept
   init-stays (ImportRows would) empty says = untouched says.leaves.kept
+  init-stays (BadFeed at why) empty says = absurd (cc says.may)
+  init-stays (Order want got) empty says = absurd (cc says.may)
+  init-stays (Base place) empty says = absurd (cc says.may)
+  init-stays (Differs number at) empty says = absurd (cc says.may)
   init-stays (ReadFault done) empty says = untouched says.counts.nothing.kept
   init-stays (TooLong done) empty says = untouched says.counts.nothing.kept
   init-stays (KeepFault done) empty says = untouched says.counts.nothing.kept
@@ -247,6 +247,10 @@ module _ (seen : SeenAll) (content : Stored) (input : List ℕ) (told : seen.kee
   rebuild-stays (Schema at why) says = untouched says.leaves.kept
   rebuild-stays (BadRecord bad) says = untouched says.leaves.kept
   rebuild-stays (ImportRows would) says = untouched says.leaves.kept
+  rebuild-stays (BadFeed at why) says = absurd (cc says.may)
+  rebuild-stays (Order want got) says = absurd (cc says.may)
+  rebuild-stays (Base place) says = absurd (cc says.may)
+  rebuild-stays (Differs number at) says = absurd (cc says.may)
   rebuild-stays (ReadFault done) says = absurd (cc says.may)
   rebuild-stays (TooLong done) says = absurd (cc says.may)
   rebuild-stays (KeepFault done) says = untouched says.counts.nothing.kept
@@ -270,6 +274,8 @@ module _ (seen : SeenAll) (content : Stored) (input : List ℕ) (told : seen.kee
   command-stays line (Some (Store Init)) end other says = absurd (other refl)
   command-stays line (Some (Store (Input Run))) end other says = run-stays end says
   command-stays line (Some (Store (Input Import))) end other says = import-stays end says
+  command-stays line (Some (Store (Input Lead))) end other says = lead-stays end says
+  command-stays line (Some (Store Follow)) end other says = follow-stays end says
   command-stays line (Some (Store Ask)) end other says = ask-stays line end says
   command-stays line (Some (Store Rebuild)) end other says = rebuild-stays end says
   command-stays line (Some (Store (Tell telling))) end other says = untouched (says.unkept refl)
@@ -308,6 +314,10 @@ module _ (seen : SeenAll) (input : List ℕ) (told : seen.keeper.told.content �
   init-begins (Schema at why) says = unwritten says.leaves.kept
   init-begins (BadRecord bad) says = unwritten says.leaves.kept
   init-begins (ImportRows would) says = unwritten says.leaves.kept
+  init-begins (BadFeed at why) says = absurd (cc says.may)
+  init-begins (Order want got) says = absurd (cc says.may)
+  init-begins (Base place) says = absurd (cc says.may)
+  init-begins (Differs number at) says = absurd (cc says.may)
   init-begins (ReadFault done) says = unwritten says.counts.nothing.kept
   init-begins (TooLong done) says = unwritten says.counts.nothing.kept
   init-begins (KeepFault done) says = unwritten says.counts.nothing.kept
@@ -330,9 +340,23 @@ is-init (Some Try) = inr (λ is. cc)
 is-init (Some (Drill n)) = inr (λ is. cc)
 is-init (Some (Store Init)) = inl refl
 is-init (Some (Store (Input task))) = inr (λ is. cc)
+is-init (Some (Store Follow)) = inr (λ is. cc)
 is-init (Some (Store Ask)) = inr (λ is. cc)
 is-init (Some (Store Rebuild)) = inr (λ is. cc)
 is-init (Some (Store (Tell telling))) = inr (λ is. cc)
+
+-- what a follower begins with is what its store holds, where that is sound or nothing
+begins-sound : (content : Stored) → IsSoundContent content → BeginsWith (base_in content) content
+begins-sound content sound = by (schema_alone content.schema) refl sound
+  where
+    by : (read : Result SchemaValue BadLine) → schema_alone content.schema ≡ read → IsOkAnd read (λ schema. IsSoundOver schema content)
+        → BeginsWith (option_map (λ schema. record { text = schema_text schema; facts = facts_told content }) (result_ok read)) content
+    by (Err bad) is none = absurd none
+    by (Ok schema) is over = record { schema = schema; read = is; sound = over; text = refl; facts = refl }
+
+begins-empty : BeginsWith (base_in empty_content) empty_content
+unfolding schema_of
+begins-empty = refl
 
 -- a content in which there is nothing is not sound
 empty-unsound : IsSoundContent empty_content → ⊥
@@ -344,10 +368,10 @@ cube-stays words seen end tells says = by_content seen.keeper.told.content refl
   where
     by_command : (content : Stored) (input : List ℕ) → seen.keeper.told.content ≡ Some content → seen.source.left ≡ Some input → IsSoundContent content → (command_of words ≡ Some (Store Init)) ⊎ (command_of words ≢ Some (Store Init)) → IfSome seen.keeper.told_after.content IsSoundContent
     by_command content input told left sound (inl init) =
-        init-stays seen content input told left IsSoundContent sound (λ later holds. holds) (λ lines. scripted-sound content lines sound) end
+        init-stays seen content input told left IsSoundContent sound (λ later holds. holds) (λ lines. scripted-sound content lines sound) (begins-sound content sound) end
         (λ empty. absurd (empty-unsound (subst IsSoundContent empty sound))) (subst (λ command. SaysAsked (asked_line words) command seen end) init says)
     by_command content input told left sound (inr other) =
-        command-stays seen content input told left IsSoundContent sound (λ later holds. holds) (λ lines. scripted-sound content lines sound) (asked_line words) (command_of words) end other says
+        command-stays seen content input told left IsSoundContent sound (λ later holds. holds) (λ lines. scripted-sound content lines sound) (begins-sound content sound) (asked_line words) (command_of words) end other says
 
     by_input : (content : Stored) → seen.keeper.told.content ≡ Some content → IsSoundContent content → (left : Option (List ℕ)) → seen.source.left ≡ left → IsSome left → IfSome seen.keeper.told_after.content IsSoundContent
     by_input content told sound None is none = cc
@@ -363,7 +387,7 @@ cube-begins words seen end tells says = by_content seen.keeper.told.content refl
     by_command : (input : List ℕ) → seen.keeper.told.content ≡ Some empty_content → seen.source.left ≡ Some input → (command_of words ≡ Some (Store Init)) ⊎ (command_of words ≢ Some (Store Init)) → IfSome seen.keeper.told_after.content IsEmptyOrSound
     by_command input told left (inl init) = init-begins seen input told left end (subst (λ command. SaysAsked (asked_line words) command seen end) init says)
     by_command input told left (inr other) =
-        command-stays seen empty_content input told left IsEmptyOrSound (inl refl) (λ later holds. inr holds) (λ lines. inl (empty-kept lines)) (asked_line words) (command_of words) end other says
+        command-stays seen empty_content input told left IsEmptyOrSound (inl refl) (λ later holds. inr holds) (λ lines. inl (empty-kept lines)) begins-empty (asked_line words) (command_of words) end other says
 
     by_input : seen.keeper.told.content ≡ Some empty_content → (left : Option (List ℕ)) → seen.source.left ≡ left → IsSome left → IfSome seen.keeper.told_after.content IsEmptyOrSound
     by_input told None is none = cc

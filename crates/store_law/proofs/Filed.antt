@@ -58,7 +58,7 @@ given-region dims (Ok id) (Some region) (Ok cols) fact named e =
     let same : fact.region ≡ region = cc in
     rw same (named region refl)
 
-given-placed : (dims : List Dimension) (shape : ShapeValue) (fields : List (List ℕ)) (fact : Fact) → All IsTree dims → fact_given dims shape fields ≡ Ok fact → IsPlaced dims fact
+pub given-placed : (dims : List Dimension) (shape : ShapeValue) (fields : List (List ℕ)) (fact : Fact) → All IsTree dims → fact_given dims shape fields ≡ Ok fact → IsPlaced dims fact
 given-placed dims shape fields fact trees e =
     let names = take (length dims) (drop 1 fields) in
     record {

@@ -12,4 +12,7 @@ pub mod Filed
 pub mod Imported
 pub mod Scripted
 pub mod GoingOn
+pub mod Based
+pub mod FeedRead
+pub mod Followed
 pub mod Commands

@@ -19,9 +19,10 @@ use Rattle.script_text.specs.declared.line.Line.{Line}
 use Rattle.script_text.specs.declared.line.Line.TheVariants as line
 use Rattle.script_text.specs.declared.word.FactWord.{FactWord}
 use Rattle.script_text.specs.declared.word.FactWord.TheVariants.{Insert, Change}
-use Rattle.script_text.specs.ScriptLine.{line_of}
+use Rattle.script_text.specs.declared.word.ScriptWord.{ScriptWord}
+use Rattle.script_text.specs.ScriptLine.{command_line, line_of}
 use Rattle.script_text.specs.ScriptWord.{line_of_fact}
-use Rattle.script_text.proofs.LineCases.{line_of-holds}
+use Rattle.script_text.proofs.LineCases.{HoldsOfEach, command_line-holds, line_of-holds}
 
 -- an id that a field spells
 id_in-right : (field : List ℕ) (id : ℕ) → id_in field ≡ Some id → IsId id
@@ -69,12 +70,17 @@ module _ (schema : SchemaValue) where
       let same : edit.Withdraw id ≡ change = cc in
       subst (λ e. IsId (edited_id e)) same right
 
+  each_id : HoldsOfEach schema MayHaveId
+  each_id = record {
+    nothing = λ change e. cc;
+    fact = λ word fields fact is. of_fact word fact (fact_given-id schema.dims (shape_of schema) fields fact is);
+    withdrawal = λ fields id is. of_withdrawal id (id-right fields id is);
+    growth = λ fields grow is change e. cc;
+    question = λ asked change e. cc;
+  }
+
   pub line_of-id : (change : Edit) (bytes : List ℕ) → line_of schema bytes ≡ Ok (line.Edit change) → IsId (edited_id change)
-  line_of-id change bytes e =
-      line_of-holds schema MayHaveId (record {
-        nothing = λ change e. cc;
-        fact = λ word fields fact is. of_fact word fact (fact_given-id schema.dims (shape_of schema) fields fact is);
-        withdrawal = λ fields id is. of_withdrawal id (id-right fields id is);
-        growth = λ fields grow is change e. cc;
-        question = λ asked change e. cc;
-      }) bytes (line.Edit change) e change refl
+  line_of-id change bytes e = line_of-holds schema MayHaveId each_id bytes (line.Edit change) e change refl
+
+  pub command_line-id : (change : Edit) (fields : List (List ℕ)) (spelled : Option ScriptWord) → command_line schema fields spelled ≡ Ok (line.Edit change) → IsId (edited_id change)
+  command_line-id change fields spelled e = command_line-holds schema MayHaveId each_id fields spelled (line.Edit change) e change refl

@@ -31,23 +31,24 @@ use Rattle.schema_text.specs.SchemaText.{BadLine}
 use Rattle.script_text.specs.declared.line.Line.{Line}
 use Rattle.script_text.specs.declared.line.Line.TheVariants as line
 use Rattle.script_text.specs.declared.reply.Reply.TheVariants as reply
-use Rattle.script_text.specs.ScriptLine.{line_of}
-use Rattle.script_text.proofs.NamedRegions.{OnFact, line_of-lies}
+use Rattle.script_text.specs.declared.word.ScriptWord.{ScriptWord}
+use Rattle.script_text.specs.ScriptLine.{command_line, line_of}
+use Rattle.script_text.proofs.NamedRegions.{OnFact, command_line-lies, line_of-lies}
 use Rattle.cube_core.specs.Growth.{growth_difference, judge_growth}
 use Rattle.script_run.specs.Kept.{apply_all, batches, batches_at, batches_from, batches_of}
 use Rattle.script_run.specs.Run.{State, accepted, edited, grown, growth, replied, run, schema_at, step, step_from, step_of}
 use Rattle.cube_cli.specs.SchemaAlone.{schema_alone}
 use Rattle.cube_cli.specs.Store.{Finds, FindsBy, IsSoundContent, IsSoundOver, state_over, policy_of}
-use Rattle.cube_cli.proofs.Growths.{IsLeafOf, line_of-leaf}
+use Rattle.cube_cli.proofs.Growths.{IsLeafOf, command_line-leaf, line_of-leaf}
 use Rattle.store_law.specs.Holds.{HoldsState, content_after, state_reached}
 use Rattle.store_law.proofs.Edited.{edited-holds}
 use Rattle.store_law.proofs.Grown.{grown-holds}
 use Rattle.store_law.proofs.Alone.{alone-schema, text-alone}
 use Rattle.store_law.proofs.GrownSchema.{grown-schema}
-use Rattle.store_law.proofs.ReadIds.{line_of-id}
+use Rattle.store_law.proofs.ReadIds.{command_line-id, line_of-id}
 
 -- an accepted edit that is read is one of the measures and the space
-edit-of : (policy : Policy) (shape : ShapeValue) (dims : List Dimension) (edit : Edit) (facts : List Fact) → IsId (edited_id edit) → OnFact (λ fact. IsRegion dims fact.region) (line.Edit edit)
+pub edit-of : (policy : Policy) (shape : ShapeValue) (dims : List Dimension) (edit : Edit) (facts : List Fact) → IsId (edited_id edit) → OnFact (λ fact. IsRegion dims fact.region) (line.Edit edit)
     → judge policy shape dims edit facts ≡ None → IsEditOf shape dims edit
 edit-of policy shape dims (Put fact) facts id region none =
     record { placed = record { id = id; region = region }; values = (allowed shape dims (Put fact) facts (judged policy shape dims (Put fact) facts none).0).cols }
@@ -118,6 +119,14 @@ module _ (schema : SchemaValue) where
   said-kept state content line.Nothing kept region id leaf = kept
   said-kept state content (line.Ask asked) kept region id leaf = kept
 
+  -- what fields say
+  pub fields-kept : (state : State) (content : Stored) (fields : List (List ℕ)) (spelled : Option ScriptWord) (said : Line) → IsKeptAt state content → command_line (schema_at schema state) fields spelled ≡ Ok said
+      → IsKeptAt (step_of weigh schema state said).state (apply_all (batches_of weigh schema state said) content)
+  fields-kept state content fields spelled said kept is =
+      said-kept state content said kept (command_line-lies (schema_at schema state) kept.known.trees fields spelled said is)
+      (λ edit same. command_line-id (schema_at schema state) edit fields spelled (is ∙ ap Ok same))
+      (λ grow same. command_line-leaf (schema_at schema state) kept.known.trees grow fields spelled (is ∙ ap Ok same))
+
   step-kept : (state : State) (content : Stored) (bytes : List ℕ) → IsKeptAt state content → IsKeptAt (step weigh schema state bytes).state (apply_all (batches_at weigh schema state bytes) content)
   unfolding step batches_at
   step-kept state content bytes kept = by_line (line_of (schema_at schema state) bytes) refl
@@ -141,7 +150,7 @@ module _ (schema : SchemaValue) where
 
   -- what is said of the end
   module _ (state : State) (content : Stored) (kept : IsKeptAt state content) where
-    last-sound : IsSoundContent content
+    pub last-sound : IsSoundContent content
     last-sound = subst (λ read. IsOkAnd read (λ s. IsSoundOver s content)) (sym kept.read) kept.holds.sound
 
     last-state : IsOkAnd (schema_alone content.schema) (λ s. Some state ≡ Some (state_over s content))

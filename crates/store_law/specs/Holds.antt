@@ -1,5 +1,5 @@
 -- A stored content that is the one of a state.
-use Rattle.std.specs.Prelude.{◌≡◌, ◌++◌, ◌⊎◌, ℕ, List, Option, IfSome}
+use Rattle.std.specs.Prelude.{◌≡◌, ◌++◌, ℕ, List, Option, IfSome}
 use Rattle.std.specs.Option.{option_map}
 use Rattle.cube_model.specs.declared.edit.Fact.{Fact}
 use Rattle.cube_model.specs.Allocation.{Policy}
@@ -12,7 +12,7 @@ use Rattle.script_run.specs.Kept.{apply_all}
 use Rattle.script_run.specs.Run.{State}
 use Rattle.script_run.specs.Seen.{KeeperSeen}
 use Rattle.cube_cli.specs.Seen.{Holds}
-use Rattle.cube_cli.specs.Store.{IsSoundContent, batches_over, outcome_over, replies_over}
+use Rattle.cube_cli.specs.Store.{IsEmptyOrSound, IsSoundContent, batches_over, outcome_over, replies_over}
 
 -- A content holds facts: it tells these and no others, none of them is refused, and the kept rows are those that they make.
 pub record HoldsState (policy : Policy) (shape : ShapeValue) (dims : List Dimension) (facts : List Fact) (content : Stored) : Type 0 where
@@ -37,10 +37,7 @@ pub record GoesOnOver (content : Stored) (lines more : List (List ℕ)) : Type 0
 abbrev pub StaysSound : KeeperSeen → Type 0
 StaysSound keeper = Holds keeper (λ content. IsSoundContent content → IfSome keeper.told_after.content IsSoundContent)
 
--- A content in which there is nothing, or that is sound; and a keeper that told an empty one tells such a content afterwards.
-abbrev pub IsEmptyOrSound : Stored → Type 0
-IsEmptyOrSound content = (content ≡ empty_content) ⊎ IsSoundContent content
-
+-- A keeper that told an empty content tells one afterwards in which there is nothing, or that is sound.
 abbrev pub BeginsSound : KeeperSeen → Type 0
 BeginsSound keeper = Holds keeper (λ content. content ≡ empty_content → IfSome keeper.told_after.content IsEmptyOrSound)
 

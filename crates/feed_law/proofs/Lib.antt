@@ -1,0 +1,10 @@
+pub mod Leads
+pub mod Words
+pub mod Rows
+pub mod SchemaLines
+pub mod Within
+pub mod Based
+pub mod Scripts
+pub mod Stores
+pub mod Feeds
+pub mod Runs
