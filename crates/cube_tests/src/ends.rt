@@ -8,7 +8,7 @@ use line_cutter::{InputStop, take_input};
 use std::alloc::{AllocError, Global};
 
 /// Words of no command.
-const NO_COMMANDS: [&[&str]; 23] = [
+const NO_COMMANDS: [&[&str]; 28] = [
     &["run"],
     &["init"],
     &["init", "s", "t"],
@@ -25,6 +25,11 @@ const NO_COMMANDS: [&[&str]; 23] = [
     &["drill"],
     &["drill", "1", "1"],
     &["run", ""],
+    &["lead"],
+    &["lead", ""],
+    &["follow"],
+    &["follow", ""],
+    &["follow", "s", "t"],
     &["ask"],
     &["ask", "s"],
     &["ask", "", "count"],
@@ -50,13 +55,13 @@ fn words_of_no_command(rt: HostRuntime) {
 }
 
 /// Each end, its status, and the line on standard error; no line is written where it is empty.
-const ENDS: [(Ending, u8, &str); 14] = [
+const ENDS: [(Ending, u8, &str); 19] = [
     (Ending::Finished { refused: 0 }, 0, ""),
     (Ending::Finished { refused: 2 }, 1, ""),
     (
         Ending::Usage,
         2,
-        "cube: usage: cube try, init NAME, run NAME, check NAME, import NAME, export NAME, drill N, ask NAME WORD.., schema NAME, rows NAME, rebuild NAME",
+        "cube: usage: cube try, init NAME, run NAME, check NAME, import NAME, export NAME, drill N, lead NAME, follow NAME, ask NAME WORD.., schema NAME, rows NAME, rebuild NAME",
     ),
     (
         Ending::Schema {
@@ -107,6 +112,26 @@ const ENDS: [(Ending, u8, &str); 14] = [
         12,
         "cube: import would make 3145728 rows",
     ),
+    (
+        Ending::BadFeed {
+            line: 7,
+            code: Code::Order,
+        },
+        13,
+        "cube: feed line 7: order",
+    ),
+    (
+        Ending::Order { want: 2, got: 3 },
+        14,
+        "cube: batch 3 where 2 is next",
+    ),
+    (Ending::Base { place: Some(1) }, 15, "cube: base differs"),
+    (Ending::Base { place: None }, 15, "cube: base differs"),
+    (
+        Ending::Differs { number: 3, line: 9 },
+        16,
+        "cube: batch 3 differs at line 9",
+    ),
 ];
 
 /// The end that ends so.
@@ -125,6 +150,10 @@ fn end_of(ending: Ending) -> End {
         Ending::TooLong { done } => End::TooLong { done },
         Ending::BadRecord { index, code } => End::BadRecord(BadRecord { index, code }),
         Ending::ImportRows { would } => End::ImportRows { would },
+        Ending::BadFeed { line, code } => End::BadFeed { line, code },
+        Ending::Order { want, got } => End::Order { want, got },
+        Ending::Base { place } => End::Base { place },
+        Ending::Differs { number, line } => End::Differs { number, line },
     }
 }
 

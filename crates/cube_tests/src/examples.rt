@@ -17,7 +17,7 @@ const REPAIRS_FILE: &str =
     "id,Place,Auto,Repair\n1,Austin,Camry,100\n2,Austin,Camry,300\n3,Dallas,Camry,50\n4,TX,Camry,600\n";
 
 /// The schema of repairs under the policy that weighs each cell alike.
-const REPAIRS_EVENLY: &str =
+pub const REPAIRS_EVENLY: &str =
     "cube\t1\npolicy\tuniform\nnumber\tRepair\ndimension\tPlace\nnode\t0\tAll\nnode\t1\tTX\nnode\t2\tAustin\nnode\t2\tDallas\nnode\t2\tHouston\nnode\t1\tCA\nnode\t2\tLA\nnode\t2\tSF\ndimension\tAuto\nnode\t0\tAll\nnode\t1\tSedan\nnode\t2\tCamry\nnode\t2\tCivic\nnode\t1\tTruck\nnode\t2\tF150\nnode\t2\tSierra\nview\tstate\t1\t1\nend\n";
 
 /// What the same lines are answered then.

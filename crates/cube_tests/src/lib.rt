@@ -4,8 +4,6 @@
 #[cfg(test)]
 mod asked;
 #[cfg(test)]
-mod calls;
-#[cfg(test)]
 mod cubes;
 #[cfg(test)]
 mod distributions;
@@ -35,16 +33,14 @@ mod rebuilt;
 mod replies;
 #[cfg(test)]
 mod rounds;
-#[cfg(test)]
-mod runs;
+pub mod runs;
 #[cfg(test)]
 mod schemas;
 #[cfg(test)]
 mod steps;
 #[cfg(test)]
 mod store_faults;
-#[cfg(test)]
-mod stored;
+pub mod stored;
 #[cfg(test)]
 mod stores;
 #[cfg(test)]

@@ -74,6 +74,45 @@ fn most_cells_that_are_shared(rt: HostRuntime) {
     assert!(rt; has_limits(rt.alloc(), SHARED, SHARED_REPLIES, 5) == Ok(true));
 }
 
+/// The first of the facts in a row, and the first id behind them.
+const IN_ROW: (u64, u64) = (100, 1124);
+
+/// Behind them all cells that may be shared are; then one more is, and it is again as before.
+const BEHIND_ROW: &str =
+    "iterate\t1\tl1\ts1\nwithdraw\t100\ninsert\t100\tl1\tR\ncomponent\t1\ncomponent\t9\niterate\t1\tl1\ts1\nwithdraw\t100\ninsert\t100\tl1\tS\niterate\t32\tL\tR\n";
+
+const BEHIND_ROW_REPLIES: &str =
+    "iterate\t1075838976\nok\t0\nok\t1\nerror\tmany\nerror\tmany\nerror\tmany\nok\t0\nok\t1\niterate\t1075838976\n";
+
+/// A fact of 2^20 cells, and 2^10 facts of 2^10 cells, all with the cell in which one fact is known to be.
+fn shared_in_row(alloc: Global) -> Result<String, AllocError> {
+    let mut script = String::from_str(alloc, "insert\t9\tl1\ts1\ninsert\t1\tL\tS\n")?;
+    for id in IN_ROW.0..IN_ROW.1 {
+        write!(script, "insert\t{id}\tl1\tS\n")?;
+    }
+    script.push_str(BEHIND_ROW)?;
+    Ok(script)
+}
+
+/// Their replies.
+fn replies_in_row(alloc: Global) -> Result<String, AllocError> {
+    let mut replies = String::from_str(alloc, "ok\t1\nok\t1\n")?;
+    for _ in IN_ROW.0..IN_ROW.1 {
+        replies.push_str("ok\t1\n")?;
+    }
+    replies.push_str(BEHIND_ROW_REPLIES)?;
+    Ok(replies)
+}
+
+fn has_one_above(alloc: Global) -> Result<bool, AllocError> {
+    has_limits(alloc, &shared_in_row(alloc)?, &replies_in_row(alloc)?, 3)
+}
+
+#[test]
+fn one_cell_more_than_are_shared(rt: HostRuntime) {
+    assert!(rt; has_one_above(rt.alloc()) == Ok(true));
+}
+
 /// The number of leaves under a root, what is written of a script about them, and the end.
 const WIDTHS: [(u32, &str, Ending); 2] = [
     (
@@ -113,21 +152,40 @@ fn most_nodes(rt: HostRuntime) {
     assert!(rt; are_wide(rt.alloc(), &WIDTHS));
 }
 
-/// How many dimensions there are, how many leaves each has under its root, and how a schema of them ends.
-const PRODUCTS: [(u32, u32, Ending); 5] = [
-    (6, 1, Ending::Finished { refused: 0 }),
+/// A table of all leaves of six dimensions, which are a product of more than 2^60 regions. One has facts.
+const LARGE_TABLE: &str =
+    "insert\t1\tn7\tn7\tn7\tn7\tn7\tn7\ncounts\t1\t1\t1\t1\t1\t1\tAll\tAll\tAll\tAll\tAll\tAll\n";
+
+const LARGE_TABLE_REPLIES: &str =
+    "ok\t1\ncounts\t1\tn7\tn7\tn7\tn7\tn7\tn7\t1.000000000\t1.000000000\t1\n";
+
+/// How many dimensions there are, how many leaves each has under its root, a script behind the schema, its replies, and how the run ends.
+type Product = (u32, u32, &'static str, &'static str, Ending);
+
+const PRODUCTS: [Product; 5] = [
+    (6, 1, "", "", Ending::Finished { refused: 0 }),
     (
         7,
         1,
+        "",
+        "",
         Ending::Schema {
             line: 21,
             code: Code::Limit,
         },
     ),
-    (6, 1289, Ending::Finished { refused: 0 }),
+    (
+        6,
+        1289,
+        LARGE_TABLE,
+        LARGE_TABLE_REPLIES,
+        Ending::Finished { refused: 0 },
+    ),
     (
         6,
         1290,
+        "",
+        "",
         Ending::Schema {
             line: 7755,
             code: Code::Nodes,
@@ -136,6 +194,8 @@ const PRODUCTS: [(u32, u32, Ending); 5] = [
     (
         6,
         1291,
+        "",
+        "",
         Ending::Schema {
             line: 7761,
             code: Code::Cells,
@@ -143,20 +203,21 @@ const PRODUCTS: [(u32, u32, Ending); 5] = [
     ),
 ];
 
-/// Whether a schema of such dimensions ends so.
-fn is_product(alloc: Global, row: &(u32, u32, Ending)) -> Result<bool, AllocError> {
-    let (dims, leaves, end) = *row;
+/// Whether a script over a schema of such dimensions is answered so.
+fn is_product(alloc: Global, row: &Product) -> Result<bool, AllocError> {
+    let (dims, leaves, script, replies, end) = *row;
     let mut input = String::from_str(alloc, "cube\t1\npolicy\tuniform\n")?;
     for dim in 0..dims {
         write!(input, "dimension\td{dim}\nnode\t0\tAll\n")?;
         push_nodes(&mut input, 1, 'n', leaves)?;
     }
     input.push_str("end\n")?;
+    input.push_str(script)?;
     let ran = run(alloc, &["try"], input.as_bytes(), &WHOLE)?;
-    Ok(ran.is(end, ""))
+    Ok(ran.is(end, replies))
 }
 
-fn are_products(alloc: Global, rows: &[(u32, u32, Ending)]) -> bool {
+fn are_products(alloc: Global, rows: &[Product]) -> bool {
     rows.iter().all(|row| is_product(alloc, row) == Ok(true))
 }
 

@@ -354,10 +354,11 @@ fn refused_questions(rt: HostRuntime) {
     assert!(rt; are_refused(rt.alloc(), &REFUSED_QUESTIONS));
 }
 
+/// A line whose middle is one byte many times: what stands before it, the byte, what stands behind it, and why the line
 /// is refused where it has as many bytes as a line may have.
 type Filled = (&'static [u8], u8, &'static [u8], Code);
 
-const FILLED: [Filled; 33] = [
+const FILLED: [Filled; 39] = [
     (b"insert\t1\tAustin\tCamry\t", b'1', b"", Code::Value),
     (b"insert\t", b'1', b"\tAustin\tCamry\t1", Code::Id),
     (b"insert\t1\t", b'a', b"\tCamry\t1", Code::Node),
@@ -391,6 +392,12 @@ const FILLED: [Filled; 33] = [
     (b"pool\tRepair\t", b'a', b"\tCamry", Code::Node),
     (b"worlds\t", b'a', b"\tCamry", Code::Node),
     (b"worlds\tAustin", b'a', b"", Code::Fields),
+    (b"avgs\tRepair\t0\t0\tAustin\t", b'a', b"\x01", Code::Text),
+    (b"Counts\t0\t0\tAustin\t", b'a', b"", Code::Command),
+    (b"pools\tRepair\t0\t0\tAustin", b'a', b"", Code::Fields),
+    (b"counts\t", b'1', b"\t0\tAustin\tCamry", Code::Number),
+    (b"counts\t0\t0\tAustin\t", b'a', b"", Code::Node),
+    (b"sums\t", b'a', b"\t0\t0\tAustin\tCamry", Code::Measure),
 ];
 
 /// The line with so many bytes in all, and an LF behind it.

@@ -1,12 +1,38 @@
 //! Facts that are shared among cells round after round, and those that depend on each other.
-use crate::runs::{Case, Ending, REPAIRS, hold};
+use crate::examples::REPAIRS_EVENLY;
+use crate::limits::push_nodes;
+use crate::runs::{Case, Ending, REPAIRS, WHOLE, hold, run};
+use crate::weights::BY_REPAIRS;
+use std::alloc::{AllocError, Global};
+use std::fmt::Write;
 
-const CASES: [Case; 7] = [
+const CASES: [Case; 10] = [
     // A round by what is known.
     (
         REPAIRS,
         "insert\t1\tAustin\tCamry\t100\ninsert\t2\tAustin\tCamry\t300\ninsert\t3\tDallas\tCamry\t50\ninsert\t4\tTX\tCamry\t600\niterate\t1\tAustin\tCamry\ncomponent\t4\ncomponent\t1\n",
         "ok\t1\nok\t1\nok\t1\nok\t1\niterate\t2796202\t838860400\ncomponent\t1\t4\ncomponent\t1\t1\n",
+        Ending::Finished { refused: 0 },
+    ),
+    // The policy plays no part: by counts,
+    (
+        REPAIRS,
+        "insert\t1\tAustin\tCamry\t100\ninsert\t2\tAustin\tCamry\t300\ninsert\t3\tDallas\tCamry\t50\ninsert\t4\tTX\tCamry\t600\niterate\t1\tAustin\tCamry\nwithdraw\t3\niterate\t1\tAustin\tCamry\ncomponent\t4\n",
+        "ok\t1\nok\t1\nok\t1\nok\t1\niterate\t2796202\t838860400\nok\t1\niterate\t3145728\t1048576000\ncomponent\t1\t4\n",
+        Ending::Finished { refused: 0 },
+    ),
+    // evenly,
+    (
+        REPAIRS_EVENLY,
+        "insert\t1\tAustin\tCamry\t100\ninsert\t2\tAustin\tCamry\t300\ninsert\t3\tDallas\tCamry\t50\ninsert\t4\tTX\tCamry\t600\niterate\t1\tAustin\tCamry\nwithdraw\t3\niterate\t1\tAustin\tCamry\ncomponent\t4\n",
+        "ok\t1\nok\t1\nok\t1\nok\t1\niterate\t2796202\t838860400\nok\t0\niterate\t3145728\t1048576000\ncomponent\t1\t4\n",
+        Ending::Finished { refused: 0 },
+    ),
+    // and by sums.
+    (
+        BY_REPAIRS,
+        "insert\t1\tAustin\tCamry\t100\ninsert\t2\tAustin\tCamry\t300\ninsert\t3\tDallas\tCamry\t50\ninsert\t4\tTX\tCamry\t600\niterate\t1\tAustin\tCamry\nwithdraw\t3\niterate\t1\tAustin\tCamry\ncomponent\t4\n",
+        "ok\t1\nok\t1\nok\t1\nok\t1\niterate\t2796202\t838860400\nok\t1\niterate\t3145728\t1048576000\ncomponent\t1\t4\n",
         Ending::Finished { refused: 0 },
     ),
     // Rounds in which facts draw on each other.
@@ -56,4 +82,51 @@ const CASES: [Case; 7] = [
 #[test]
 fn rounds_and_components(rt: HostRuntime) {
     assert!(rt; hold(rt.alloc(), &CASES));
+}
+
+/// The leaves of each of two dimensions. A row and a column are known of each.
+const SIDE: u32 = 1_000;
+
+/// Rows and columns by turns, each of which crosses the next, and then questions.
+fn crossing_input(alloc: Global) -> Result<String, AllocError> {
+    let mut text = String::from_str(
+        alloc,
+        "cube\t1\npolicy\tuniform\ndimension\tX\nnode\t0\tL\n",
+    )?;
+    push_nodes(&mut text, 1, 'l', SIDE)?;
+    text.push_str("dimension\tY\nnode\t0\tR\n")?;
+    push_nodes(&mut text, 1, 's', SIDE)?;
+    text.push_str("end\n")?;
+    for k in 1..=SIDE {
+        let id = u64::from(k) * 2;
+        write!(text, "insert\t{id}\tl{k}\tR\n")?;
+        let next = id + 1;
+        write!(text, "insert\t{next}\tL\ts{k}\n")?;
+    }
+    text.push_str("component\t2000\niterate\t1\tL\tR\niterate\t32\tl1\tR\n")?;
+    Ok(text)
+}
+
+/// All facts are of one component, and each is shared evenly, as all cells stand alike.
+fn crossing_replies(alloc: Global) -> Result<String, AllocError> {
+    let mut text = String::new(alloc);
+    for _ in 0..2 * SIDE {
+        text.push_str("ok\t1\n")?;
+    }
+    text.push_str("component\t2000")?;
+    for id in 2..2 * SIDE + 2 {
+        write!(text, "\t{id}")?;
+    }
+    text.push_str("\niterate\t2096000000\niterate\t2096000\n")?;
+    Ok(text)
+}
+
+fn is_one_component(alloc: Global) -> Result<bool, AllocError> {
+    let ran = run(alloc, &["try"], crossing_input(alloc)?.as_bytes(), &WHOLE)?;
+    Ok(ran.is(Ending::Finished { refused: 0 }, &crossing_replies(alloc)?))
+}
+
+#[test]
+fn chain_of_2000_regions(rt: HostRuntime) {
+    assert!(rt; is_one_component(rt.alloc()) == Ok(true));
 }

@@ -44,6 +44,10 @@ pub enum Ending {
     TooLong { done: u64 },
     BadRecord { index: u64, code: Code },
     ImportRows { would: u64 },
+    BadFeed { line: u64, code: Code },
+    Order { want: u64, got: u64 },
+    Base { place: Option<u64> },
+    Differs { number: u64, line: u64 },
 }
 
 /// How a run ends that ends so.
@@ -68,6 +72,19 @@ pub fn ending_of(end: &End) -> Ending {
             code: bad.code,
         },
         End::ImportRows { would } => Ending::ImportRows { would: *would },
+        End::BadFeed { line, code } => Ending::BadFeed {
+            line: *line,
+            code: *code,
+        },
+        End::Order { want, got } => Ending::Order {
+            want: *want,
+            got: *got,
+        },
+        End::Base { place } => Ending::Base { place: *place },
+        End::Differs { number, line } => Ending::Differs {
+            number: *number,
+            line: *line,
+        },
     }
 }
 

@@ -102,6 +102,19 @@ const AUDITS: [Fault; 3] = [
     (0, ALL, 1, Ending::WriteFault { done: 0 }, "", 0, &[]),
 ];
 
+/// The second write is that of the fourth byte on.
+const SCHEMAS: [Fault; 3] = [
+    (1, ALL, 0, Ending::KeepFault { done: 0 }, "", 0, &[]),
+    (0, ALL, 1, Ending::WriteFault { done: 0 }, "", 0, &[]),
+    (0, 3, 2, Ending::WriteFault { done: 0 }, "cub", 0, &[]),
+];
+
+const ROWS: [Fault; 3] = [
+    (1, ALL, 0, Ending::KeepFault { done: 0 }, "", 0, &[]),
+    (0, ALL, 1, Ending::WriteFault { done: 0 }, "", 0, &[]),
+    (0, 3, 2, Ending::WriteFault { done: 0 }, "id,", 0, &[]),
+];
+
 /// Whether a store has so many batches, and facts of these ids.
 pub fn has_kept(keeper: &MemKeeper, batches: usize, ids: &[u64]) -> bool {
     keeper.journal().len() == batches
@@ -159,4 +172,14 @@ fn faults_where_a_store_is_made(rt: HostRuntime) {
 #[test]
 fn faults_of_an_audit(rt: HostRuntime) {
     assert!(rt; end_so(rt.alloc(), "check", CITIES, "", &AUDITS));
+}
+
+#[test]
+fn faults_where_a_schema_is_told(rt: HostRuntime) {
+    assert!(rt; end_so(rt.alloc(), "schema", CITIES, "", &SCHEMAS));
+}
+
+#[test]
+fn faults_where_rows_are_told(rt: HostRuntime) {
+    assert!(rt; end_so(rt.alloc(), "rows", CITIES, "", &ROWS));
 }

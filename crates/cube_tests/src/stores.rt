@@ -83,7 +83,7 @@ type Refusal = (
     bool,
 );
 
-const REFUSALS: [Refusal; 19] = [
+const REFUSALS: [Refusal; 25] = [
     ("init", CITIES, &[], &[], CITIES, Ending::HasCube, true),
     ("init", "x", &[], &[], CITIES, Ending::HasCube, true),
     ("init", "", &FACTS, &[], CITIES, Ending::HasCube, true),
@@ -92,6 +92,8 @@ const REFUSALS: [Refusal; 19] = [
     ("check", "", &[], &[], CITIES, Ending::NoCube, true),
     ("import", "", &[], &[], CITIES, Ending::NoCube, true),
     ("export", "", &[], &[], CITIES, Ending::NoCube, true),
+    ("schema", "", &[], &[], CITIES, Ending::NoCube, true),
+    ("rows", "", &[], &[], CITIES, Ending::NoCube, true),
     ("run", "x\n", &[], &[], CITIES, Ending::BadStore, true),
     ("run", CITIES, &FACTS, &[], CITIES, Ending::BadStore, true),
     ("import", "x\n", &[], &[], CITIES, Ending::BadStore, true),
@@ -114,6 +116,18 @@ const REFUSALS: [Refusal; 19] = [
         Ending::BadStore,
         true,
     ),
+    ("schema", "x\n", &[], &[], CITIES, Ending::BadStore, true),
+    (
+        "schema",
+        CITIES,
+        &FACTS,
+        &[],
+        CITIES,
+        Ending::BadStore,
+        true,
+    ),
+    ("rows", "x\n", &[], &[], CITIES, Ending::BadStore, true),
+    ("rows", CITIES, &FACTS, &[], CITIES, Ending::BadStore, true),
     (
         "init",
         REPAIRS,

@@ -37,7 +37,7 @@ const REFUSED: &str =
 
 /// What is told where the words name no command.
 const USAGE: &str =
-    "cube: usage: cube try, init NAME, run NAME, check NAME, import NAME, export NAME, drill N, ask NAME WORD.., schema NAME, rows NAME, rebuild NAME\n";
+    "cube: usage: cube try, init NAME, run NAME, check NAME, import NAME, export NAME, drill N, lead NAME, follow NAME, ask NAME WORD.., schema NAME, rows NAME, rebuild NAME\n";
 
 /// The words, the input, the read and the write that fail, what is written, what is told of the end, and the status.
 type Call = (
