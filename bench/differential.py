@@ -26,6 +26,7 @@ WRONG_WORDS = [
     *([], [""], ["Try"], ["try", ""], ["try", "x"], ["try\n"], ["\udcff"]),
     *(["help"], ["--help"], ["run"], ["drill", "0"]),
     *(["ask"], ["ask", "s"], ["ask", "", "count"], ["Ask", "s", "count"], ["schema"], ["schema", "s", "t"], ["rows"], ["rows", "s", ""], ["rebuild"], ["rebuild", ""], ["rebuild", "s", "t"]),
+    *(["lead"], ["lead", ""], ["lead", "s", "t"], ["follow"], ["follow", ""], ["follow", "s", "t"], ["Lead", "s"], ["feed", "s"]),
 ]
 MOST_NODES = {1: 12, 2: 8, 3: 6, 4: 4, 6: 2, 7: 1}  # of a dimension, by how many there are; 7 are too many
 
@@ -141,7 +142,7 @@ class Made:
         self.views = random.sample(NAMES, random.choices([0, 1, 2, 4, 5], [20, 20, 10, 5, 1])[0])
         self.names = random.sample(NAMES, len(self.trees))
         self.schema = self.schema_lines()
-        self.script = [self.script_line() for _ in range(random.choice([0, 10, 20, 40]))]
+        self.script = [line for _ in range(random.choice([0, 10, 20, 40])) for line in self.script_lines()]
 
     def schema_lines(self):
         has_numbers = self.random.random() < 0.3
@@ -163,6 +164,14 @@ class Made:
             self.measures[[m.name for m in self.measures].index(numbers[0])].is_weight = True
             return b"weight\t" + numbers[0]
         return self.random.choice([b"uniform", b"count", b"weight\t" + self.random.choice(NAMES)] + [b"count"] * 20)
+
+    def script_lines(self):
+        """A line. Some that ask for rounds come for each number of them."""
+        line = self.script_line()
+        fields = line.split(b"\t")
+        if fields[0] != b"iterate" or self.random.random() < 0.8:
+            return [line]
+        return [b"\t".join([fields[0], b"%d" % rounds, *fields[2:]]) for rounds in range(1, 33)]
 
     def script_line(self):
         """A line, one of some eight of which has a wrong field, or a field too many or too few."""
@@ -388,7 +397,7 @@ def is_alike(program, name, words, text, wanted):
 
 
 def compare_examples(program):
-    examples = plain_model_rows.examples() + plain_model_rows.slow_examples()
+    examples = plain_model_rows.examples() + plain_model_rows.slow_examples() + plain_model_rows.large_examples()
     return all(is_alike(program, f"example {e.name}", ["try"], e.text, e.ends) for e in examples)
 
 

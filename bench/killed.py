@@ -1,8 +1,12 @@
 #!/usr/bin/env python3
-"""Kills runs over a store at random moments, and looks at what they leave: killed.py PROGRAM RUNS SEED
+"""Kills runs over a store at random moments, and looks at what they leave: killed.py PROGRAM RUNS SEED [follow]
 
 Each run does a long script of edits and growths over a fresh store and is killed without warning. Then `check` must say that the store is
 sound, and its facts and nodes must be those of a prefix of the script that holds all lines which were answered.
+
+With `follow` it is a follower that is killed, over nothing, while it takes the feed of such a script. It may have taken one batch more than
+it answered. Over what it left the feed is refused, since the base is another one; behind the base of the store as it is, the rest of the
+feed leads to what the leader holds.
 """
 import shutil
 import signal
@@ -15,6 +19,8 @@ from random import Random
 
 sys.dont_write_bytecode = True
 
+import feeds
+import plain_model
 import stores
 
 LINES = 4000
@@ -53,36 +59,92 @@ def script(random):
     return "".join(lines).encode(), states
 
 
-def killed_run(program, folder, number, random):
-    path = str(Path(folder) / f"{number}.cube")
-    stores.must(stores.call(program, ["init", path], schema())[:2], (b"ok\t0\n", 0), "init")
-    text, states = script(random)
-    (Path(folder) / "script").write_bytes(text)
-    out = Path(folder) / "replies"
-    with open(Path(folder) / "script", "rb") as source, open(out, "wb") as sink:
-        run = subprocess.Popen([program, "run", path], stdin=source, stdout=sink, stderr=subprocess.DEVNULL)
-        time.sleep(random.random() * 1.5)
+def killed(program, words, folder, text, seconds):
+    """How many lines a run wrote over a text before it was killed."""
+    (Path(folder) / "input").write_bytes(text)
+    out = Path(folder) / "output"
+    with open(Path(folder) / "input", "rb") as source, open(out, "wb") as sink:
+        run = subprocess.Popen([program, *words], stdin=source, stdout=sink, stderr=subprocess.DEVNULL)
+        time.sleep(seconds)
         run.send_signal(signal.SIGKILL)
         run.wait()
-    answered = out.read_bytes().count(b"\n")
+    return out.read_bytes().count(b"\n")
+
+
+def done_at(program, path, states, answered):
+    """After how many lines the store is as it is, which must be sound."""
     written, status, said = stores.call(program, ["check", path])
     stores.must((status, said), (0, b""), f"check after {answered} replies")
     text, facts, _ = stores.tables(path)
     found = {i: (nodes[0], cols[0]) for i, nodes, cols in facts}, text.count(b"\nnode\t")
     done = next((n for n in range(answered, len(states)) if states[n] == found), None)
     if done is None:
-        raise stores.Wrong(f"run {number}: facts and nodes are those of no prefix that holds the {answered} lines answered")
+        raise stores.Wrong(f"facts and nodes are those of no prefix that holds the {answered} lines answered")
+    return done
+
+
+def killed_run(program, folder, number, random):
+    path = str(Path(folder) / f"{number}.cube")
+    stores.must(stores.call(program, ["init", path], schema())[:2], (b"ok\t0\n", 0), "init")
+    text, states = script(random)
+    answered = killed(program, ["run", path], folder, text, random.random() * 1.5)
+    return answered, done_at(program, path, states, answered)
+
+
+class Leader:
+    """A store that wrote a feed, and how long that takes to follow."""
+
+    def __init__(self, program, folder, random):
+        path, second = str(Path(folder) / "leader.cube"), str(Path(folder) / "whole.cube")
+        for left in Path(folder).glob("*.cube*"):
+            left.unlink()
+        text, self.states = script(random)
+        stores.must(stores.call(program, ["init", path], schema())[:2], (b"ok\t0\n", 0), "init")
+        self.feed, status, said = stores.call(program, ["lead", path], text)
+        stores.must((status, said), (0, b""), "lead")
+        self.tables = stores.tables(path)
+        start = time.time()
+        self.must_follow(program, second, self.feed, LINES)
+        self.seconds = time.time() - start
+
+    def must_follow(self, program, path, feed, count):
+        """Behind this feed of so many batches a store holds what the leader holds."""
+        applied = b"".join(b"applied\t%d\n" % number for number in range(1, count + 1))
+        stores.must(stores.call(program, ["follow", path], feed), (applied, 0, b""), "follow")
+        stores.must(stores.tables(path), self.tables, "tables of a follower")
+
+
+def killed_follower(program, folder, number, random, leader):
+    path = str(Path(folder) / f"{number}.cube")
+    answered = killed(program, ["follow", path], folder, leader.feed, random.random() * leader.seconds)
+    if stores.call(program, ["check", path]) == (b"", 4, b"cube: no cube\n"):
+        stores.must(answered, 0, "answers before the base was kept")
+        leader.must_follow(program, path, leader.feed, LINES)
+        return 0, 0
+    done = done_at(program, path, leader.states, answered)
+    stores.must(done - answered in (0, 1), True, f"batch {done} taken and {answered} answered")
+    if leader.states[done] != leader.states[0]:
+        stores.must(stores.call(program, ["follow", path], leader.feed), (b"", 15, b"cube: base differs\n"), "the feed again")
+    base, status, said = stores.call(program, ["lead", path])
+    stores.must((status, said), (0, b""), "lead of what is left")
+    rest = feeds.text_of(feeds.rest_of(plain_model.lines_of(leader.feed), done))
+    leader.must_follow(program, path, base + rest, LINES - done)
     return answered, done
 
 
+FOLLOWERS_EACH = 20  # of one leader
+
+
 def main():
-    program, runs, seed = sys.argv[1], int(sys.argv[2]), int(sys.argv[3])
+    program, runs, seed, follow = sys.argv[1], int(sys.argv[2]), int(sys.argv[3]), sys.argv[4:] == ["follow"]
     random = Random(f"killed {seed}")
     ends = []
     folder = tempfile.mkdtemp()
     try:
         for number in range(runs):
-            ends.append(killed_run(program, folder, number, random))
+            if follow and number % FOLLOWERS_EACH == 0:
+                leader = Leader(program, folder, random)
+            ends.append(killed_follower(program, folder, number, random, leader) if follow else killed_run(program, folder, number, random))
             for left in Path(folder).glob(f"{number}.cube*"):
                 left.unlink()
     except stores.Wrong as wrong:
@@ -91,7 +153,9 @@ def main():
     finally:
         shutil.rmtree(folder)
     whole = sum(done == LINES for _, done in ends)
-    print(f"{runs} runs killed, {whole} of them at their end; up to {max(d - a for a, d in ends)} lines were kept beyond the answered ones; all stores sound")
+    what = "followers" if follow else "runs"
+    beyond = max(done - answered for answered, done in ends)
+    print(f"{runs} {what} killed, {whole} of them at their end; up to {beyond} lines were kept beyond the answered ones; all stores sound")
     return 0
 
 

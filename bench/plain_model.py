@@ -5,7 +5,7 @@ It is the definitions made literal: lists, filters and sums over whole numbers o
 every fact allocated anew at each line. It shares nothing with the program, is slow, and is meant to be read.
 
 Left out are faults of the streams, want of memory, and the limit on the bytes of the input. Lines, names and schemas stand in
-plain_schema.py. Words of schemas and scripts that the program does not have yet are refused here as any unknown word is.
+plain_schema.py, feeds in plain_feed.py. Words of schemas and scripts that the program does not have yet are refused here as any unknown word is.
 """
 import csv
 import io
@@ -23,6 +23,7 @@ from plain_schema import (
     MAX_LINE,
     MAX_NODES,
     MAX_PRODUCT,
+    MAX_VALUE,
     Dimension,
     Refused,
     Schema,
@@ -59,7 +60,7 @@ FEW_WORLDS = 4096  # of which the least and the greatest sum are looked for one 
 # Statuses.
 FINISHED, FINISHED_WITH_REFUSALS, USAGE, SCHEMA_REFUSED = range(4)
 
-USAGE_TEXT = "usage: cube try, init NAME, run NAME, check NAME, import NAME, export NAME, drill N, ask NAME WORD.., schema NAME, rows NAME, rebuild NAME"
+USAGE_TEXT = "usage: cube try, init NAME, run NAME, check NAME, import NAME, export NAME, drill N, lead NAME, follow NAME, ask NAME WORD.., schema NAME, rows NAME, rebuild NAME"
 
 
 # Facts, and how they lie.

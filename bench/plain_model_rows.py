@@ -3,13 +3,14 @@
 
 With `slow` those are run too that list millions of cells or have a thousand facts, in less than a minute and 500 MB. The status is 1 where the
 model says anything else than an example. `|` stands for a TAB. Those of tables stand in plain_table_rows.py,
-and those of worlds and rounds in plain_world_rows.py.
+those of worlds and rounds in plain_world_rows.py, and those of feeds in plain_feed_rows.py.
 """
 import sys
 from unittest.mock import patch
 
 sys.dont_write_bytecode = True
 
+import plain_feed_rows
 import plain_model
 import plain_table_rows
 import plain_world_rows
@@ -559,6 +560,17 @@ def slow_examples():
     return [script_example(*row) for row in SLOW_SCRIPTS]
 
 
+def large_examples():
+    return [script_example(*row) for row in plain_world_rows.LARGE_SCRIPTS]
+
+
+def shares_the_most():
+    """Whether the model shares as many cells as it may, and no more, where these are few."""
+    side = plain_world_rows.SMALL_SIDE
+    with patch.object(plain_model, "MAX_SHARED", 2 * side * side):
+        return holds(script_example(*plain_world_rows.most_shared(side)))
+
+
 def limited_examples():
     return [script_example(*row) for row in LIMITED_SCRIPTS]
 
@@ -586,8 +598,10 @@ def main():
     held = [holds(example) for example in chosen]
     with patch.multiple(plain_model, **SMALL_LIMITS):
         held += [holds(example) for example in limited_examples()]
+        held += plain_feed_rows.limited()
+    held.append(shares_the_most())
     held += [keeps_text(*row) for row in KEPT_TEXTS]
-    held += plain_table_rows.held()
+    held += plain_table_rows.held() + plain_feed_rows.held()
     print(f"{len(held)} examples, {held.count(False)} wrong")
     return 0 if all(held) else 1
 

@@ -1,5 +1,5 @@
 """Examples of the least and the greatest over possible worlds, and of facts that are shared in rounds, worked out by hand:
-plain_model_rows.py runs them"""
+plain_model_rows.py runs them, and differential.py the large ones too"""
 from plain_row_schemas import BY_REPAIRS, CARS, QUALITY, REPAIRS
 
 # Facts 1 and 2 are in Austin, with 100 and 300, fact 3 is in Dallas with 50, and fact 4 may be in either, with 600.
@@ -10,6 +10,69 @@ def put_with(value):
     """The same facts, where fact 4 has another value."""
     return [*PUT[:3], (f"insert|4|TX|Camry|{value}", "ok|1")]
 
+
+def rounds_under(policy):
+    """Rounds take no notice of the policy, also where a withdrawal spreads facts anew under some policies."""
+    return f"rounds under {policy}", [line.replace("policy|count", policy) for line in CARS], [
+        *PUT,
+        ("iterate|1|Austin|Camry", "iterate|2796202|838860400"),
+        ("component|4", "component|1|4"),
+        ("withdraw|3", "ok|0" if policy == "policy|uniform" else "ok|1"),
+        ("iterate|1|Austin|Camry", "iterate|3145728|1048576000"),
+    ]
+
+
+def square(side, policy, behind=()):
+    """Two dimensions of a root with so many leaves, and further nodes of the second."""
+    dims = (["dimension|X", "node|0|L"], "node|1|l"), (["dimension|Y", "node|0|R", "node|1|S"], "node|2|s")
+    leaves = [line for start, leaf in dims for line in [*start, *(f"{leaf}{k}" for k in range(1, side + 1))]]
+    return ["cube|1", policy, *leaves, *behind, "end"]
+
+
+def crossing(side):
+    """A chain of so many rows and columns, each of which crosses the next. All cells stand alike, so each fact is shared evenly."""
+    share = 2**20 // side
+    lines = [line for k in range(1, side + 1) for line in (f"insert|{2 * k - 1}|l{k}|S", f"insert|{2 * k}|L|s{k}")]
+    ids = "|".join(str(id) for id in range(1, 2 * side + 1))
+    return f"a chain of {2 * side} regions", square(side, "policy|uniform"), [
+        *((line, "ok|1") for line in lines),
+        (f"component|{2 * side}", f"component|{2 * side}|{ids}"),
+        ("component|1", f"component|{2 * side}|{ids}"),
+        ("iterate|1|L|R", f"iterate|{share * side * 2 * side}"),
+        ("iterate|32|l1|R", f"iterate|{share * 2 * side}"),
+        # Without a row its columns still cross the others.
+        ("withdraw|3", "ok|0"),
+        (f"component|{2 * side}", f"component|{2 * side - 1}|1|2|" + "|".join(str(id) for id in range(4, 2 * side + 1))),
+    ]
+
+
+def most_shared(side):
+    """Imprecise facts of twice the square of the side in cells, all drawn to one cell, and then of one cell more."""
+    ids = range(100, 100 + side)
+    return f"{2 * side * side} cells that are shared, and one more", square(side, "policy|count", ["node|1|t"]), [
+        ("insert|9|l1|s1", "ok|1"),
+        ("insert|1|L|S", "ok|1"),
+        *((f"insert|{id}|l1|S", "ok|1") for id in ids),
+        ("component|1", "|".join(str(field) for field in ("component", side + 1, 1, *ids))),
+        ("component|9", "component|1|9"),
+        ("iterate|1|l1|s1", f"iterate|{(side + 2) * 2**20}"),
+        ("iterate|32|L|R", f"iterate|{(side + 2) * 2**20}"),
+        ("withdraw|100", "ok|0"),
+        ("insert|100|l1|R", "ok|1"),
+        ("component|1", "error|many"),
+        ("component|9", "error|many"),
+        ("component|7", "error|missing"),
+        ("iterate|1|l1|s1", "error|many"),
+        ("iterate|33|l1|s1", "error|number"),
+        ("withdraw|100", "ok|0"),
+        ("component|9", "component|1|9"),
+    ]
+
+
+# The side of the square of which the plain model shares the most cells, where its limit is set to these.
+SMALL_SIDE = 3
+# Too large for the plain model. 2^21 is twice the square of 1,024.
+LARGE_SCRIPTS = [crossing(1000), most_shared(1024)]
 
 # Scripts: a name, a schema, and each line with its reply.
 SCRIPTS = [
@@ -90,6 +153,10 @@ SCRIPTS = [
         ("component|4", "component|1|4"),
         ("component|1", "component|1|1"),
     ]),
+    rounds_under("policy|count"),
+    rounds_under("policy|uniform"),
+    rounds_under("policy|weight|Repair"),
+    crossing(5),
     ("rounds in which facts draw on each other", CARS, [
         ("insert|1|Austin|Camry|0", "ok|1"),
         ("insert|2|CA|Camry|0", "ok|1"),

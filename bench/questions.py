@@ -3,20 +3,28 @@
 
 Of each line are printed the milliseconds of a processor, as the difference of a script with the line some times and one without, the megabytes
 that the script with it took more, and how many times another line's milliseconds these are. With a WORD only the jobs of this name are done:
-`mixed`, `component` or `sides`. The last are over stores that are made by `import`, and run beside a script without lines over the same store,
-so that what it takes to open the store is in no figure.
+`mixed`, `component`, `sides` or `rows`. Those of `sides` are over stores that are made by `import`, and run beside a script without lines over the
+same store, so that what it takes to open the store is in no figure. `rows` writes the most rows that a store may have, beside `check` of it. Where
+a line says `beside the cube`, its megabytes are told by a run that waits before the line: the most that it held during the line, less what it
+held before.
 """
 import os
 import statistics
+import subprocess
 import sys
 import tempfile
+import time
 
 sys.dont_write_bytecode = True
 
-from engine import Bench, Tree, line, mixed, run, schema
+from engine import Bench, Tree, line, mixed, peak_of, run, schema
 
 WHOLE = ("All", "All", "All")
 FACTS = 2**20
+MOST_SHARED = 2**21  # cells of the regions of imprecise facts
+# Freed blocks go back to the system at once, so that no line is served by what another left.
+GIVEN_BACK = {"MALLOC_MMAP_THRESHOLD_": "65536", "MALLOC_TRIM_THRESHOLD_": "0"}
+SECONDS = 300
 
 
 def of_mixed(*asked):
@@ -40,6 +48,55 @@ def one_component(*asked):
     return make
 
 
+def pairs_in_one_component(*asked):
+    """The same number of cells in as many regions as there may be: facts known to two cells of a row each, one for each row, and one for a
+    column, which joins the rows."""
+
+    def make():
+        dims = Tree("Place", 1024, 0), Tree("Time", 512, 2)
+        yield schema("count", [], dims, [])
+        places, pairs, first = dims[0].nodes[1], dims[1].nodes[1], dims[1].nodes[2][0]
+        long = [*((place, "All") for place in places), ("All", first)]
+        short = [(place, pair) for place in places for pair in pairs][: (MOST_SHARED - 1024 * len(long)) // 2]
+        precise = FACTS - len(long) - len(short)
+        for i in range(precise):
+            yield line("insert", i + 1, places[i % 1024], first)
+        for i, region in enumerate(short + long):
+            yield line("insert", precise + i + 1, *region)
+        yield from asked
+
+    return make
+
+
+def memory_beside(words, lines, asked, sink):
+    """The megabytes that a line takes beside the cube of the lines before it."""
+    with open(sink, "wb") as taken, subprocess.Popen(words, stdin=subprocess.PIPE, stdout=taken, env={**os.environ, **GIVEN_BACK}) as child:
+        replies = 0
+        for text in lines:
+            child.stdin.write(text.encode())
+            replies += not text.startswith("cube")
+        child.stdin.flush()
+        wait_for(replies, sink)
+        with open(f"/proc/{child.pid}/clear_refs", "w") as peak:
+            peak.write("5")
+        held = peak_of(child.pid)
+        child.stdin.write(asked.encode())
+        child.stdin.flush()
+        wait_for(replies + 1, sink)
+        return peak_of(child.pid) - held
+
+
+def wait_for(replies, sink):
+    """Waits until so many replies are written."""
+    there, end = 0, time.monotonic() + SECONDS
+    with open(sink, "rb") as text:
+        while there < replies:
+            if time.monotonic() > end:
+                sys.exit(f"questions: {there} of {replies} replies came within {SECONDS} seconds")
+            there += text.read().count(b"\n")
+            time.sleep(0.01)
+
+
 def on_both_sides(program, folder, regions):
     """A store of 2^20 imported facts in so many regions, each of which has one cell in p0.0 and one in p0.1."""
     dims = Tree("Place", 1, 2), Tree("Time", regions, 0)
@@ -61,6 +118,17 @@ class Questions(Bench):
         each = (with_lines[0] - without[0]) / times * 1000
         return self.tell_line(name, times, without, with_lines, f"   {each / beside:5.1f} times" if beside else "")
 
+    def is_answered(self, reply):
+        """Ends the run where the last reply is another one."""
+        with open(os.path.join(self.folder, "printed"), encoding="utf-8") as text:
+            last = text.read().rsplit("\n", 2)[-2]
+        if last + "\n" != reply:
+            sys.exit(f"questions: the reply is {last[:80]}")
+
+    def tell_memory(self, name, words, lines, asked):
+        size = memory_beside([self.programs[0], *words], lines, asked, os.path.join(self.folder, "printed"))
+        print(f"{name + ', beside the cube':56} {size:7.1f} MB", flush=True)
+
     def ask_stored(self, name, store, asked, times):
         """The same over a store, and the megabytes of a reply."""
         without, with_lines = self.measure_stored(store, []), self.measure_stored(store, [asked] * times)
@@ -72,7 +140,10 @@ class Questions(Bench):
         script, sink = os.path.join(self.folder, "script"), os.path.join(self.folder, "printed")
         with open(script, "w") as text:
             text.writelines(lines)
-        taken = [run([self.programs[0], "run", store], script, sink) for _ in range(self.runs)]
+        return self.typical([run([self.programs[0], "run", store], script, sink) for _ in range(self.runs)])
+
+    def typical(self, taken):
+        """The median seconds and the most megabytes of runs."""
         return statistics.median(s for s, _ in taken), max(m for _, m in taken)
 
     def tell_line(self, name, times, without, with_lines, more=""):
@@ -91,11 +162,19 @@ def mixed_jobs(bench):
     bench.ask("mixed: rangecount of it", of_mixed, line("rangecount", *region), 20_000, part)
     found = bench.ask("mixed: component", of_mixed, line("component", 100_000), 100)
     bench.ask("mixed: 32 rounds of a small component", of_mixed, line("iterate", 32, "p1.2", "t1.2", "k1"), 100, found)
+    # Its components have 2,355 of the 199,680 cells.
+    bench.ask("mixed: 32 rounds of 1.2 % of the cells", of_mixed, line("iterate", 32, "p1.2", "t1.2", "All"), 100, found)
 
 
 def component_jobs(bench):
-    bench.ask("2^21 cells in one component: component", one_component, line("component", FACTS), 3)
-    bench.ask("2^21 cells in one component: 32 rounds", one_component, line("iterate", 32, "p3", "All"), 3)
+    """Facts that all depend on each other, in few regions and in many."""
+    for what, cube, imprecise in ("2,048 regions", one_component, 2048), ("half a million", pairs_in_one_component, 524_801):
+        component, rounds = line("component", FACTS), line("iterate", 32, "p3", "All")
+        bench.ask(f"2^21 cells of {what}: component", cube, component, 3)
+        bench.is_answered(line("component", imprecise, *range(FACTS - imprecise + 1, FACTS + 1)))
+        bench.ask(f"2^21 cells of {what}: 32 rounds", cube, rounds, 3)
+        bench.tell_memory(f"2^21 cells of {what}: component", ["try"], cube()(), component)
+        bench.tell_memory(f"2^21 cells of {what}: 32 rounds", ["try"], cube()(), rounds)
 
 
 def sides_jobs(bench):
@@ -105,11 +184,25 @@ def sides_jobs(bench):
         store = on_both_sides(bench.programs[0], bench.folder, regions)
         bench.ask_stored(f"both sides, in {regions} regions: range", store, line("range", "Amount", *region), 20)
         bench.ask_stored(f"both sides, in {regions} regions: rangecount", store, line("rangecount", *region), 20)
-        bench.ask_stored(f"both sides, in {regions} regions: least", store, line("least", "Amount", *region), 4)
+        least = line("least", "Amount", *region)
+        bench.ask_stored(f"both sides, in {regions} regions: least", store, least, 4)
+        bench.tell_memory(f"both sides, in {regions} regions: least", ["run", store], [line("count", *region)], least)
         os.remove(store)
 
 
-JOBS = {"mixed": mixed_jobs, "component": component_jobs, "sides": sides_jobs}
+def rows_jobs(bench):
+    """The file of 2^21 rows, of two facts of 2^20 cells each."""
+    store, file = os.path.join(bench.folder, "rows.cube"), os.path.join(bench.folder, "printed")
+    text = os.path.join(bench.folder, "text")
+    for word, lines in ("init", [schema("uniform", [], (Tree("Place", 1024, 0), Tree("Time", 1024, 0)), [])]), ("run", [line("insert", i, "All", "All") for i in (1, 2)]):
+        with open(text, "w") as given:
+            given.writelines(lines)
+        run([bench.programs[0], word, store], text, os.devnull)
+    check, rows = ([run([bench.programs[0], word, store], os.devnull, file) for _ in range(bench.runs)] for word in ("check", "rows"))
+    bench.tell_line("2^21 rows written", 1, bench.typical(check), bench.typical(rows), f"   a file of {os.path.getsize(file) / 2**20:.1f} MB")
+
+
+JOBS = {"mixed": mixed_jobs, "component": component_jobs, "sides": sides_jobs, "rows": rows_jobs}
 
 
 def main(program, runs=3, word=None):

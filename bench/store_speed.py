@@ -6,6 +6,9 @@ inserts over a store, beside the same script without one, and beside the same ro
 times in turn, the script beside the same batches through the `sqlite` crate of the kit alone: `sqlite_alone`, which is proved and built first,
 in some three minutes where that was never done. Before that one fact of 2^20 rows, the most that a fact may have: it is put into a store, whose
 blob of 16 MiB is then read again. The stores are made in FOLDER, the current one where none is named.
+
+Three times in turn the same script by `run` and by `lead`, and its feed by `follow`; and such a fact of 2^20 rows led and followed, with the
+memory of both.
 """
 import os
 import resource
@@ -90,12 +93,17 @@ def built_alone(name, libraries, words, text, folder):
     return crate / "out" / name
 
 
-def largest_blob(program, folder):
-    """One fact of 2^20 cells, put and read again; and the length of the blob of its rows."""
+def large_schema():
+    """Of 2^20 cells."""
     leaves = ["".join(f"node\t1\t{letter}{k}\n" for k in range(1024)) for letter in "pq"]
     dims = "".join(f"dimension\t{name}\nnode\t0\tAll\n{nodes}" for name, nodes in zip(("Place", "Time"), leaves))
+    return f"cube\t1\npolicy\tcount\n{dims}end\n".encode()
+
+
+def largest_blob(program, folder):
+    """One fact of 2^20 cells, put and read again; and the length of the blob of its rows."""
     path = f"{folder}/blob.cube"
-    stores.must(stores.call(program, ["init", path], f"cube\t1\npolicy\tcount\n{dims}end\n".encode())[:2], (b"ok\t0\n", 0), "init")
+    stores.must(stores.call(program, ["init", path], large_schema())[:2], (b"ok\t0\n", 0), "init")
     seconds, clock, memory, said, status = timed(["ask", path, "insert", "1", "All", "All"], b"", program)
     stores.must((said, status), (b"ok\t1\n", 0), "insert")
     print(f"one fact of 2^20 rows put: {seconds:.2f} s of a processor, {clock:.2f} s on the clock, {memory:.0f} MB")
@@ -106,6 +114,37 @@ def largest_blob(program, folder):
     print(f"and read again by check: {seconds:.2f} s of a processor, {clock:.2f} s on the clock, {memory:.0f} MB")
 
 
+def against_feeds(program, folder, script):
+    """The script by `run`, by `lead`, and by `follow` of the feed that `lead` writes. All three leave the same rows."""
+    for name in ("run", "lead"):
+        stores.must(stores.call(program, ["init", f"{folder}/{name}.cube"], schema())[:2], (b"ok\t0\n", 0), "init")
+    by_run, clock_run, _, said, status = timed(["run", f"{folder}/run.cube"], script, program)
+    stores.must((said, status), (b"ok\t1\n" * EDITS, 0), "run")
+    by_lead, clock_lead, _, feed, status = timed(["lead", f"{folder}/lead.cube"], script, program)
+    stores.must(status, 0, "lead")
+    by_follow, clock_follow, _, said, status = timed(["follow", f"{folder}/follow.cube"], feed, program)
+    stores.must((said.count(b"\n"), status), (EDITS, 0), "follow")
+    for name in ("lead", "follow"):
+        stores.must(content(f"{folder}/{name}.cube"), content(f"{folder}/run.cube"), f"rows of {name}")
+    print(
+        f"{EDITS} inserts by run: {by_run:.2f} s of a processor, {clock_run:.2f} s on the clock; by lead {by_lead:.2f} and {clock_lead:.2f}, "
+        f"{by_lead / by_run:.2f} times; by follow {by_follow:.2f} and {clock_follow:.2f}, {by_follow / by_run:.2f} times"
+    )
+
+
+def largest_batch(program, folder):
+    """One fact of 2^20 cells, led and followed."""
+    first, second = f"{folder}/first.cube", f"{folder}/second.cube"
+    stores.must(stores.call(program, ["init", first], large_schema())[:2], (b"ok\t0\n", 0), "init")
+    seconds, clock, memory, feed, status = timed(["lead", first], b"insert\t1\tAll\tAll\n", program)
+    stores.must((feed.count(b"\nrow\t"), status), (2**20, 0), "lead")
+    print(f"a batch of 2^20 rows, {len(feed) / 2**20:.0f} MiB, led: {seconds:.2f} s of a processor, {clock:.2f} s on the clock, {memory:.0f} MB")
+    seconds, clock, memory, said, status = timed(["follow", second], feed, program)
+    stores.must((said, status), (b"applied\t1\n", 0), "follow")
+    stores.must(content(second), content(first), "rows of a follower")
+    print(f"and followed: {seconds:.2f} s of a processor, {clock:.2f} s on the clock, {memory:.0f} MB")
+
+
 def content(path):
     base = sqlite3.connect(f"file:{path}?mode=ro", uri=True)
     kept = [base.execute(f"SELECT * FROM {table} ORDER BY id").fetchall() for table in ("fact", "alloc")]
@@ -114,12 +153,12 @@ def content(path):
 
 
 def against_alone(program, alone, folder, script):
-    """The script beside its batches through the `sqlite` crate alone, plain and with the tables that are missing made in each batch."""
+    """The script beside its batches through the `sqlite` crate alone, plain, with the tables that are missing made in each batch, and so with two syncs for each."""
     stores.must(stores.call(program, ["init", f"{folder}/cube.cube"], schema())[:2], (b"ok\t0\n", 0), "init")
     seconds, clock, _, said, status = timed(["run", f"{folder}/cube.cube"], script, program)
     stores.must((said, status), (b"ok\t1\n" * EDITS, 0), "run")
     text = f"run of {EDITS} inserts: {seconds:.2f} s of a processor, {clock:.2f} s on the clock"
-    for what, words in ("the sqlite crate alone", []), ("with its tables made in each batch", ["tables"]):
+    for what, words in ("the sqlite crate alone", []), ("with its tables made in each batch", ["tables"]), ("the same, each batch synced twice (Wary)", ["wary"]):
         path = f"{folder}/alone.cube"
         by_alone, clock, _, said, status = timed([path, str(EDITS), *words], b"", alone)
         stores.must((said, status), (f"{EDITS}\n".encode(), 0), "sqlite_alone")
@@ -149,6 +188,10 @@ def main():
         print(f"try of the same: {seconds:.2f} s of a processor, {clock:.2f} s on the clock, {memory:.0f} MB")
         seconds, clock = put_by_sqlite(f"{folder}/python.cube")
         print(f"the same rows by stock SQLite from Python: {seconds:.2f} s of a processor, {clock:.2f} s on the clock")
+        for _ in range(RUNS):
+            with tempfile.TemporaryDirectory(dir=place) as run:
+                against_feeds(program, run, script)
+        largest_batch(program, folder)
         largest_blob(program, folder)
         alone = built_alone("sqlite_alone", "anyhow sqlite", [f"{folder}/tried.cube", "1"], b"", project)
         for _ in range(RUNS):

@@ -6,10 +6,13 @@ or written are refused. Then random scripts are done over a store in pieces, eac
 and compared with the plain model: the replies, the status, and after each piece the answer of `check` and what another reader finds in the
 tables, the text of the schema too. The status is 1 at the first difference.
 
-In these, `ask` does some of the lines, and `schema` and `rows` write what the store holds.
+In these, `ask` does some of the lines, and `schema` and `rows` write what the store holds. Each reason of a fault that the system lets be
+made is told in its words, no command that is refused or reads alone makes a file, and a store is exchanged under an open `run` in seven ways.
 """
+import errno
 import os
 import re
+import shutil
 import sqlite3
 import struct
 import subprocess
@@ -23,7 +26,9 @@ sys.dont_write_bytecode = True
 
 import differential
 import plain_model
+import plain_store
 import plain_table_rows
+from plain_store import TABLES, numbers, packed
 
 SECONDS = 60
 FAILED = 8  # the status where a store fails
@@ -37,6 +42,17 @@ def call(program, words, text=b""):
         reason, said = said.split(b"\n", 1)
         must(reason.startswith(b"cube: %b: " % words[1].encode()), True, f"reason in {reason!r}")
     return done.stdout, done.returncode, said
+
+
+def told(program, words, text=b"", **settings):
+    """What the program writes, its status, and all that it says on standard error."""
+    done = subprocess.run([program, *words], input=text, capture_output=True, timeout=SECONDS, env=os.environ | settings)
+    return done.stdout, done.returncode, done.stderr
+
+
+def fault_of(path, reason, line=0):
+    """What is said on standard error where a store fails."""
+    return b"cube: %b: %b\ncube: store fault after line %d\n" % (path.encode(), reason, line)
 
 
 def table_calls(path):
@@ -56,10 +72,6 @@ def must(found, wanted, what):
 # Tables by another reader.
 
 
-def numbers(blob, item):
-    return [value for (value,) in struct.iter_unpack(item, blob)]
-
-
 def tables(path):
     """The schema's text, the facts and the rows of a file, by its tables, which must be whole."""
     base = sqlite3.connect(f"file:{path}?mode=ro", uri=True)
@@ -74,20 +86,9 @@ def tables(path):
     return text, facts, rows
 
 
-def numbers_of(schema, region):
-    """The numbers of a region's nodes, which the model knows by their places."""
-    return [dim.numbers[node] for dim, node in zip(schema.dimensions, region)]
-
-
 def wanted_tables(schema, facts):
     """The text, the facts and the rows that a store is to hold."""
-    facts = sorted(facts, key=lambda fact: fact.id)
-    kept = [(f.id, numbers_of(schema, f.region), [value for values in f.values for value in values]) for f in facts]
-    rows = [
-        (fact.id, lies.denominator, sorted((plain_model.cell_code(schema, cell), weight) for cell, weight in lies.rows))
-        for fact, lies in plain_model.extended(schema, facts)
-    ]
-    return plain_model.schema_text(schema), kept, rows
+    return tuple(plain_store.content_of(schema, facts))
 
 
 NOT_READ = b"withdraw\t1\n"  # the input of a command that reads none
@@ -174,15 +175,6 @@ SCHEMA = b"cube\t1\npolicy\tcount\nnumber\tRepair\ndimension\tPlace\nnode\t0\tAl
 FACTS = [(1, [2], [100]), (2, [2], [300]), (3, [3], [50]), (4, [1], [600])]
 ROWS = [(1, 1, [(0, 1)]), (2, 1, [(0, 1)]), (3, 1, [(1, 1)]), (4, 3, [(0, 2), (1, 1)])]
 ROWS_FILE = b"id,Place,weight,of,Repair\n1,Austin,1,1,100\n2,Austin,1,1,300\n3,Dallas,1,1,50\n4,Austin,2,3,600\n4,Dallas,1,3,600\n"
-TABLES = [
-    "CREATE TABLE cube (k INTEGER PRIMARY KEY, body BLOB NOT NULL)",
-    "CREATE TABLE fact (id INTEGER PRIMARY KEY, nodes BLOB NOT NULL, cols BLOB NOT NULL)",
-    "CREATE TABLE alloc (id INTEGER PRIMARY KEY, den INTEGER NOT NULL, body BLOB NOT NULL)",
-]
-
-
-def packed(item, values):
-    return b"".join(struct.pack(item, value) for value in values)
 
 
 def hand_made(path, schema=SCHEMA, facts=FACTS, rows=ROWS, tables=TABLES, more=()):
@@ -429,6 +421,145 @@ def compare_damaged(program, folder):
     print(f"{done + 1} damaged stores refused")
 
 
+IN_USE = b"in use by another process: wait until it has ended"
+NO_PERMISSION = b"no permission to read and write it, or its disk is read-only"
+DISK_FULL = b"the disk is full"
+LOG_ALONE = b"a log with content stands beside no store: put the store back beside it, or remove the log"
+EXCHANGED = b"it was exchanged, or changed by another, while it was open"
+UNREADABLE = b"it holds what cannot be read here, or rows that break its own schema"
+DAMAGED_PAGE = b"a page of it or of its log is damaged"
+
+
+def table_reason(name):
+    return b"its table %b is not laid out as a store's" % name
+
+
+# What is done to a store by hand, and the reason that is told then.
+ALTERED = [
+    ("a constraint that checks", TABLES[:1] + [TABLES[1].replace("cols BLOB NOT NULL", "cols BLOB NOT NULL CHECK (id < 9)")] + TABLES[2:], [], table_reason(b"fact")),
+    ("unique values", TABLES[:1] + [TABLES[1].replace("cols BLOB NOT NULL", "cols BLOB NOT NULL UNIQUE")] + TABLES[2:], [], table_reason(b"fact")),
+    ("a reference", TABLES[:2] + [TABLES[2].replace("id INTEGER PRIMARY KEY", "id INTEGER PRIMARY KEY REFERENCES fact (id)")], [], table_reason(b"alloc")),
+    ("a default", TABLES[:2] + [TABLES[2].replace("den INTEGER NOT NULL", "den INTEGER NOT NULL DEFAULT 1")], [], table_reason(b"alloc")),
+    ("a rule for conflicts", TABLES[:2] + [TABLES[2].replace("den INTEGER NOT NULL", "den INTEGER NOT NULL ON CONFLICT IGNORE")], [], table_reason(b"alloc")),
+    ("a negative id", TABLES, ["UPDATE fact SET id = -3 WHERE id = 3"], b"a row of its tables holds what no edit writes"),
+    ("a virtual table", TABLES, ["CREATE VIRTUAL TABLE other USING fts5(a)"], UNREADABLE),
+    ("a trigger on a table of the store", TABLES, ["CREATE TRIGGER t AFTER INSERT ON fact BEGIN SELECT 1; END"], UNREADABLE),
+    ("an index with an expression", TABLES, ["CREATE INDEX i ON fact (id + 1)"], UNREADABLE),
+    ("a partial index", TABLES, ["CREATE INDEX i ON fact (nodes) WHERE id > 1"], UNREADABLE),
+    ("auto-vacuum", ["PRAGMA auto_vacuum = FULL", *TABLES], [], DAMAGED_PAGE),
+    ("UTF-16", ["PRAGMA encoding = 'UTF-16le'", *TABLES], [], DAMAGED_PAGE),
+]
+
+
+def compare_reasons(program, folder):
+    """The reasons of faults, each in its words, and what stays as it was."""
+    done = 0
+
+    def fails(path, reason, what):
+        nonlocal done
+        commands = [[word, path] for word in ("init", "run", "import", "export", "check", "rebuild")] + table_calls(path)
+        for words in commands:
+            must(told(program, words, SCHEMA if words[0] == "init" else NOT_READ), (b"", FAILED, fault_of(path, reason)), f"{words[0]} of {what}")
+        done += 1
+
+    for name, tables, lines, reason in ALTERED:
+        path = str(Path(folder) / f"reason {name}.cube")
+        hand_made(path, tables=tables, more=lines)
+        fails(path, reason, name)
+    for name, content in (("no", None), ("an empty", b""), ("a one-byte", b"S")):
+        path = Path(folder) / f"reason {name}.cube"
+        Path(f"{path}-wal").write_bytes(b"a log")
+        if content is not None:
+            path.write_bytes(content)
+        fails(str(path), LOG_ALONE, f"a log beside {name} file")
+        left = path.read_bytes() if path.exists() else None
+        must((left, Path(f"{path}-wal").read_bytes()), (content, b"a log"), f"{name} file and its log")
+    path = str(Path(folder) / "reason used.cube")
+    hand_made(path)
+    base = sqlite3.connect(path, isolation_level=None)
+    base.execute("BEGIN EXCLUSIVE")
+    fails(path, IN_USE, "a store in use")
+    base.execute("ROLLBACK")
+    base.close()
+    print(f"{done} reasons told")
+
+
+def compare_no_files(program, folder):
+    """Commands that are refused or read alone, where nothing was kept: no file is made."""
+    place = Path(folder) / "nothing"
+    place.mkdir()
+    path = str(place / "s.cube")
+    reading = [[word, path] for word in ("run", "import", "export", "check", "rebuild")] + table_calls(path)
+    for words in reading:
+        must(told(program, words, b"id\n"), (b"", 4, b"cube: no cube\n"), f"{words[0]} where nothing was kept")
+    must(told(program, ["init", path], b"cube\t3\n")[1], 3, "a refused init")
+    for words in (["--help"], ["--version"], [path], ["check"], ["init"], ["rebuild", path, path]):
+        must(told(program, words)[1], 2, f"words {words}")
+    must(list(place.iterdir()), [], "files that were made")
+    print(f"{len(reading) + 7} commands that make no file")
+
+
+def emptied(path):
+    os.truncate(path, 0)
+
+
+def copied_over(path):
+    """Another file's bytes in the place of those of this one."""
+    Path(path).write_bytes(Path(f"{path} other").read_bytes() + bytes(4096))
+
+
+WAYS = {
+    "a file moved over it": lambda path: os.replace(f"{path} other", path),
+    "removed": os.remove,
+    "moved away": lambda path: os.rename(path, f"{path} away"),
+    "emptied": emptied,
+    "copied over": copied_over,
+    "its log removed": lambda path: os.remove(f"{path}-wal"),
+    "its log emptied": lambda path: emptied(f"{path}-wal"),
+}
+
+
+def exchanged(program, path, way):
+    """What a run that is answered one edit writes and says, where the store is exchanged before the next one."""
+    run = subprocess.Popen([program, "run", path], stdin=subprocess.PIPE, stdout=subprocess.PIPE, stderr=subprocess.PIPE)
+    run.stdin.write(b"withdraw\t1\n")
+    run.stdin.flush()
+    first = run.stdout.readline()
+    WAYS[way](path)
+    written, said = run.communicate(b"withdraw\t2\n", timeout=SECONDS)
+    return first + written, run.returncode, said
+
+
+def compare_exchanged(program, folder):
+    """Stores that are exchanged under an open run: the next edit is refused."""
+    for way in WAYS:
+        path = str(Path(folder) / f"exchanged {way}.cube")
+        hand_made(path)
+        hand_made(f"{path} other")
+        must(exchanged(program, path, way), (b"ok\t1\n", FAILED, fault_of(path, EXCHANGED, 1)), f"a store {way}")
+    print(f"{len(WAYS)} ways to exchange a store under a run")
+
+
+IO_ERROR = b"the system reported an I/O error"
+
+
+def compare_failing(program, folder):
+    """A disk that fails as a batch is synced: the batch may be there or not, and the store is sound."""
+    if shutil.which("cc") is None:
+        print("no C compiler (cc): a failing disk was not tried")
+        return
+    library = str(Path(folder) / "fail_sync.so")
+    subprocess.run(["cc", "-O1", "-shared", "-fPIC", "-o", library, Path(__file__).with_name("fail_sync.c")], check=True)
+    for error, reason in ((errno.EIO, IO_ERROR), (errno.ENOSPC, DISK_FULL)):
+        path = str(Path(folder) / f"failing {error}.cube")
+        hand_made(path)
+        found = told(program, ["run", path], b"withdraw\t1\n", LD_PRELOAD=library, FAIL=str(error))
+        must(found, (b"", FAILED, fault_of(path, reason)), f"run where a sync fails with {errno.errorcode[error]}")
+        written, status, _ = told(program, ["check", path])
+        must((written in (b"sound\t4\t5\n", b"sound\t3\t4\n"), status), (True, 0), f"check after {errno.errorcode[error]}")
+    print("a disk that fails, and one that is full, at a sync")
+
+
 def mounted(*words):
     """Whether the system lets this be mounted, which asks for a superuser."""
     return subprocess.run(["mount", *words], capture_output=True).returncode == 0
@@ -445,15 +576,15 @@ def compare_full(program, folder):
         path = str(disk / "s.cube")
         must(call(program, ["init", path], SCHEMA)[:2], (b"ok\t0\n", 0), "init on a small disk")
         script = b"".join(b"insert\t%d\tAustin\t%d\n" % (i, i) for i in range(1, 5001))
-        written, status, said = call(program, ["run", path], script)
+        written, status, said = told(program, ["run", path], script)
         answered = written.count(b"\n")
-        must((status, said, written), (8, b"cube: store fault after line %d\n" % answered, b"ok\t1\n" * answered), "run on a disk that becomes full")
+        must((status, said, written), (FAILED, fault_of(path, DISK_FULL, answered), b"ok\t1\n" * answered), "run on a disk that becomes full")
         must(mounted("-o", "remount,size=20m", str(disk)), True, "larger disk")
         written, status, said = call(program, ["check", path])
         must((written in (b"sound\t%d\t%d\n" % (n, n) for n in (answered, answered + 1)), status), (True, 0), "check on the larger disk")
         must(mounted("-o", "remount,ro", str(disk)), True, "disk that may not be written")
         for word in ("check", "run"):
-            must(call(program, [word, path], b"withdraw\t1\n"), (b"", 8, STORE_FAULT), f"{word} where nothing may be written")
+            must(told(program, [word, path], b"withdraw\t1\n"), (b"", FAILED, fault_of(path, NO_PERMISSION)), f"{word} where nothing may be written")
         must(mounted("-o", "remount,rw", str(disk)), True, "disk that may be written again")
         must(call(program, ["check", path])[1], 0, "check afterwards")
         print(f"a disk that was full after {answered} edits, and one that may not be written")
@@ -471,6 +602,10 @@ def main():
             compare_grown(program, folder)
             compare_table_rows(program, folder)
             compare_damaged(program, folder)
+            compare_reasons(program, folder)
+            compare_no_files(program, folder)
+            compare_exchanged(program, folder)
+            compare_failing(program, folder)
             compare_full(program, folder)
             compare_cases(program, folder, cases, seed)
         except Wrong as wrong:

@@ -5,19 +5,27 @@ First comes a session: a line is written only when the reply to the one before h
 bytes of comments, and one of a byte more, in bounded memory; and a million lines that are refused. Then so many random
 inputs, each written in random pieces, which must be answered as the plain model answers the whole. At the first
 difference the status is 1.
+
+Feeds too: an edit that a leader does goes to a follower, which answers it, before the next is written, 200 times; and feeds of random
+leaders, whole and damaged, are followed in random pieces.
 """
 import subprocess
 import sys
+import tempfile
 import threading
+from pathlib import Path
 from random import Random
 
 sys.dont_write_bytecode = True
 
 import differential
+import feeds
+import plain_feed
 import plain_model
 
 SCHEMA = b"cube\t1\npolicy\tuniform\ndimension\tPlace\nnode\t0\tTX\nnode\t1\tAustin\nnode\t1\tDallas\nend\n"
 TURNS = 1000
+FEED_TURNS = 200
 LIMIT = 2**30
 MEGABYTES = 5  # that a run may have, however long its input is
 
@@ -48,9 +56,37 @@ def read_line(answers):
     return line
 
 
-def measured(program, pieces):
+def passed_on(source, sink, last):
+    """Gives lines on, up to and with this one, and tells whether it came."""
+    while line := read_line(source):
+        sink.write(line)
+        if line == last:
+            return True
+    return False
+
+
+def feed_session(program):
+    """Each edit is led, followed and answered before the next is written."""
+    with tempfile.TemporaryDirectory() as folder:
+        leader, second = f"{folder}/leader.cube", f"{folder}/second.cube"
+        subprocess.run([program, "init", leader], input=SCHEMA, stdout=subprocess.DEVNULL, check=True)
+        pipes = {"stdin": subprocess.PIPE, "stdout": subprocess.PIPE, "bufsize": 0}
+        children = [subprocess.Popen([program, word, path], **pipes) for word, path in (("lead", leader), ("follow", second))]
+        first, last = children
+        good = passed_on(first.stdout, last.stdin, b"based\n")
+        for turn in range(1, FEED_TURNS + 1):
+            first.stdin.write(b"insert\t%d\t%s\n" % (turn, b"TX" if turn % 3 == 0 else b"Austin"))
+            good = good and passed_on(first.stdout, last.stdin, b"done\n") and read_line(last.stdout) == b"applied\t%d\n" % turn
+        for child in children:
+            child.stdin.close()
+        ends = [child.wait() for child in children]
+        files = [subprocess.run([program, "rows", path], capture_output=True).stdout for path in (leader, second)]
+    return good and ends == [0, 0] and files[0] == files[1]
+
+
+def measured(program, pieces, words=("try",)):
     """What a run over these pieces writes, its status, and its peak in megabytes, as far as it was seen while it read."""
-    child = subprocess.Popen([program, "try"], stdin=subprocess.PIPE, stdout=subprocess.PIPE, stderr=subprocess.PIPE)
+    child = subprocess.Popen([program, *words], stdin=subprocess.PIPE, stdout=subprocess.PIPE, stderr=subprocess.PIPE)
     peaks = [0.0]
     writer = threading.Thread(target=write_all, args=(child, pieces, peaks))
     writer.start()
@@ -146,13 +182,37 @@ def compare_cuttings(program, cases, seed):
     return True
 
 
+def compare_feed_cuttings(program, cases, seed):
+    for number in range(1, cases + 1):
+        random = Random(f"feed {seed} {number}")
+        made, before = feeds.made_leader(random)
+        schema, _ = plain_model.read_schema(made.schema)
+        *_, schema, facts = plain_model.do_lines(schema, [], plain_model.lines_of(before))
+        feed, *_ = plain_feed.lead(schema, facts, plain_model.lines_of(feeds.made_script(random, made, feeds.LENGTHS)))
+        text = feeds.damaged(random, feed) if random.random() < 0.5 else plain_feed.text_of(feed)
+        *wanted, _ = plain_feed.follow(None, plain_model.lines_of(text))
+        with tempfile.TemporaryDirectory() as folder:
+            words = ["follow", str(Path(folder) / "s.cube")]
+            found, _ = measured(program, cut(random, text), words)
+        if found != tuple(wanted):
+            differential.tell(f"feed of seed {seed} case {number}", words, text, found, wanted)
+            return False
+    print(f"{cases} feeds of seed {seed} in random pieces are alike")
+    return True
+
+
 def main():
     program, cases, seed = sys.argv[1], int(sys.argv[2]), int(sys.argv[3])
     if not session(program):
         print("a line was not answered before the next")
         return 1
     print(f"{TURNS} lines are answered one by one")
-    done = long_inputs(program) and refused_lines(program) and compare_cuttings(program, cases, seed)
+    if not feed_session(program):
+        print("an edit was not led, followed and answered before the next")
+        return 1
+    print(f"{FEED_TURNS} edits are led and followed one by one")
+    done = long_inputs(program) and refused_lines(program)
+    done = done and compare_cuttings(program, cases, seed) and compare_feed_cuttings(program, cases, seed)
     return 0 if done else 1
 
 
