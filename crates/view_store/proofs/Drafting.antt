@@ -1,5 +1,5 @@
 -- Drafts of entries: copies of terms, and the shares of rows that are added to them.
-use Rattle.std.proofs.Common.{◌≡◌, ℕ, zero, suc, ◌+◌, ◌*◌, ◌-◌, ◌<◌, ◌≤◌, Bool, true, false, List, [], ◌∷◌, ◌++◌, filter, length, get_or, refl, ap, sym, ◌∙◌, inl, inr, arith, ℤ, pos, nat_abs, subst, take, drop, Option, Some, None, is_some, unwrap_or, add-one}
+use Rattle.std.proofs.Common.{◌≡◌, ℕ, zero, suc, ◌+◌, ◌*◌, ◌-◌, ◌<◌, ◌≤◌, Bool, true, false, List, [], ◌∷◌, ◌++◌, filter, length, get_or, refl, ap, sym, ◌∙◌, inl, inr, arith, pos, nat_abs, subst, take, drop, Option, Some, None, is_some, unwrap_or, add-one}
 use Rattle.std.specs.Prelude.{All, Err, Ok, OnOk, Result, if◌then◌else◌, ◌==◌, ◌&&◌, nat_le}
 use Rattle.std.specs.List.{list_all, sum_by}
 use Rattle.std.proofs.lemmas.Bool.{cases_eq}
@@ -22,8 +22,8 @@ use Rattle.staged_map.specs.Staged.{Places, value_at}
 use Rattle.view_store.specs.declared.change.ViewChange.{ViewChange}
 use Rattle.view_store.specs.Changes.{IsChange, IsWithin}
 use Rattle.view_store.specs.Cuts.{HoldsCells, IsCodeOver}
-use Rattle.view_store.specs.Drafts.{AddsChange, AreOver, KeepsToView, draft_at, weight_at}
-use Rattle.view_store.specs.Views.{held_at, is_in_view, no_terms, region_at}
+use Rattle.view_store.specs.Drafts.{AddsChange, AddsRow, AreOver, KeepsToView, draft_at, weight_at}
+use Rattle.view_store.specs.Views.{AreEntries, held_at, is_in_view, no_terms, region_at}
 use Rattle.view_store.proofs.Merges.{AreRegular}
 use Rattle.view_store.proofs.Shares.{AddsUnits-more, AddsUnits-none, FitsUnits-part}
 
@@ -116,25 +116,15 @@ pub record HasRows (dims : List Dimension) (depths : List ℕ) (columns : ℕ) (
       change.cols
   pub keys : KeepsToView dims depths old now
   pub over : AreOver columns now
+  pub whole : AreEntries columns old → AreEntries columns now
 
 pub HasRows-none : (dims : List Dimension) (depths : List ℕ) (columns : ℕ) (entries : Places TermList) (change : ViewChange) (now : Places TermList) → AreOver columns now → HasRows dims depths columns entries change [] now now
 HasRows-none dims depths columns entries change now over = record {
   shares = λ code in_view. AddsUnits-none change.den (0 * change.facts) change.cols (draft_at columns entries now code) (omega arith);
   keys = λ code there. grind (arith, there);
   over = over;
+  whole = λ are. are;
 }
-
--- what begins a draft and adds a share to it
-pub record Begins (columns : ℕ) (entries : Places TermList) (code : ℕ) (old new : Places TermList) : Type 0 where
-  pub same : (k : ℕ) → draft_at columns entries new k ≡ draft_at columns entries old k
-  pub others : (k : ℕ) → (code == k) ≡ false → value_at new k ≡ value_at old k
-  pub there : is_some (value_at new code) ≡ true
-
-pub record Shares (columns : ℕ) (code : ℕ) (change : ViewChange) (weight : ℕ) (old new : Places TermList) : Type 0 where
-  pub share : AddsUnits (held_at columns old code) (held_at columns new code) change.den (weight * change.facts) weight change.cols
-  pub others : (k : ℕ) → (code == k) ≡ false → value_at new k ≡ value_at old k
-  pub stays : is_some (value_at new code) ≡ true
-  pub over : AreOver columns new
 
 -- where something is held, the draft is that
 pub draft-held : (columns : ℕ) (entries drafts : Places TermList) (code : ℕ) → is_some (value_at drafts code) ≡ true → draft_at columns entries drafts code ≡ held_at columns drafts code
@@ -144,23 +134,22 @@ draft-held columns entries drafts code there = by (value_at drafts code) there
     by None some = absurd (grind (arith, some))
     by (Some list) some = refl
 
-module _ (dims : List Dimension) (depths : List ℕ) (columns : ℕ) (entries : Places TermList) (change : ViewChange) (rows : List (ℕ × ℕ)) (old now mid : Places TermList)
-    (j code : ℕ) (within : j < length rows) (before : HasRows dims depths columns entries change (take j rows) old now) (over : IsCodeOver dims depths (get_or rows j (0, 0)).0 code) (begins : Begins columns entries code now mid) where
+module _ (dims : List Dimension) (depths : List ℕ) (columns : ℕ) (entries : Places TermList) (change : ViewChange) (rows : List (ℕ × ℕ)) (old now : Places TermList)
+    (j code : ℕ) (within : j < length rows) (before : HasRows dims depths columns entries change (take j rows) old now) (over : IsCodeOver dims depths (get_or rows j (0, 0)).0 code) where
   -- the share of the next row fits where that of the change does
   pub row-fits : length change.cols + 1 ≡ columns → IsWithin columns (draft_at columns entries old code).terms
       → FitsUnits (draft_at columns entries old code).terms change.den (weight_of_rows (cells_of dims (region_at dims code)) rows * change.facts) (weight_of_rows (cells_of dims (region_at dims code)) rows) change.cols
-      → FitsUnits (held_at columns mid code).terms change.den ((get_or rows j (0, 0)).1 * change.facts) (get_or rows j (0, 0)).1 change.cols
+      → FitsUnits (draft_at columns entries now code).terms change.den ((get_or rows j (0, 0)).1 * change.facts) (get_or rows j (0, 0)).1 change.cols
   row-fits width held fits =
       let cells = cells_of dims (region_at dims code) in
-      let same : draft_at columns entries now code ≡ held_at columns mid code = sym (begins.same code) ∙ draft-held columns entries mid code begins.there in
       let inside : is_among cells (get_or rows j (0, 0)).0 ≡ true = over.only code over.in_view ∙ grind (arith, nat_tests) in
       let next = weight-next cells rows j within in
       let le : weight_of_rows cells (take j rows) + (get_or rows j (0, 0)).1 ≤ weight_of_rows cells rows = omega (arith, rw inside at next, weight-most cells rows (j + 1)) in
-      rw (← same) (FitsUnits-part columns change.den change.facts change.cols (draft_at columns entries old code) (draft_at columns entries now code) (weight_of_rows cells (take j rows)) (get_or rows j (0, 0)).1 (weight_of_rows cells rows) width le held fits (before.shares code over.in_view))
+      FitsUnits-part columns change.den change.facts change.cols (draft_at columns entries old code) (draft_at columns entries now code) (weight_of_rows cells (take j rows)) (get_or rows j (0, 0)).1 (weight_of_rows cells rows) width le held fits (before.shares code over.in_view)
 
   -- and once it is added, the shares of one row more are
-  pub HasRows-next : (new : Places TermList) → Shares columns code change (get_or rows j (0, 0)).1 mid new → HasRows dims depths columns entries change (take (j + 1) rows) old new
-  HasRows-next new adds = record {
+  pub HasRows-next : (new : Places TermList) → AddsRow columns entries change code (get_or rows j (0, 0)).1 now new → (AreEntries columns now → AreEntries columns new) → HasRows dims depths columns entries change (take (j + 1) rows) old new
+  HasRows-next new adds whole = record {
     shares = λ k in_view.
         let cells = cells_of dims (region_at dims k) in
         let among : is_among cells (get_or rows j (0, 0)).0 ≡ (k == code) = over.only k in_view in
@@ -169,17 +158,15 @@ module _ (dims : List Dimension) (depths : List ℕ) (columns : ℕ) (entries : 
           | inl same ↦
               let test : (k == code) ≡ true = grind (arith, nat_tests) in
               let inside : is_among cells (get_or rows j (0, 0)).0 ≡ true = among ∙ test in
-              let from : draft_at columns entries now k ≡ held_at columns mid k = sym (begins.same k) ∙ draft-held columns entries mid k (ap (λ c. is_some (value_at mid c)) same ∙ begins.there) in
-              let to : draft_at columns entries new k ≡ held_at columns new k = draft-held columns entries new k (ap (λ c. is_some (value_at new c)) same ∙ adds.stays) in
-              let share : AddsUnits (held_at columns mid k) (held_at columns new k) change.den ((get_or rows j (0, 0)).1 * change.facts) (get_or rows j (0, 0)).1 change.cols = rw same adds.share in
-              let both = AddsUnits-more columns change.den change.facts change.cols (draft_at columns entries old k) (draft_at columns entries now k) (draft_at columns entries new k) (weight_of_rows cells (take j rows)) (get_or rows j (0, 0)).1 (before.shares k in_view) (rw (from, to) share) in
+              let share : AddsUnits (draft_at columns entries now k) (draft_at columns entries new k) change.den ((get_or rows j (0, 0)).1 * change.facts) (get_or rows j (0, 0)).1 change.cols = rw same adds.share in
+              let both = AddsUnits-more columns change.den change.facts change.cols (draft_at columns entries old k) (draft_at columns entries now k) (draft_at columns entries new k) (weight_of_rows cells (take j rows)) (get_or rows j (0, 0)).1 (before.shares k in_view) share in
               let sum : weight_of_rows cells (take j rows) + (get_or rows j (0, 0)).1 ≡ weight_of_rows cells (take (j + 1) rows) = sym (rw inside at next) in
               rw sum at both
           | inr other ↦
               let test : (k == code) ≡ false = grind (arith, nat_tests) in
               let apart : (code == k) ≡ false = grind (arith, nat_tests) in
               let outside : is_among cells (get_or rows j (0, 0)).0 ≡ false = among ∙ test in
-              let stays : draft_at columns entries new k ≡ draft_at columns entries now k = ap (λ o. unwrap_or o (held_at columns entries k)) (adds.others k apart ∙ begins.others k apart) in
+              let stays : draft_at columns entries new k ≡ draft_at columns entries now k = ap (λ o. unwrap_or o (held_at columns entries k)) (adds.others k apart) in
               let none : weight_of_rows cells (take (j + 1) rows) ≡ weight_of_rows cells (take j rows) = omega (arith, rw outside at next) in
               rw (stays, none) (before.shares k in_view)
         ];
@@ -189,9 +176,10 @@ module _ (dims : List Dimension) (depths : List ℕ) (columns : ℕ) (entries : 
           rw view (grind (arith, view))
       | inr other ↦
           let apart : (code == k) ≡ false = grind (arith, nat_tests) in
-          before.keys k (sym (ap is_some (adds.others k apart ∙ begins.others k apart)) ∙ there)
+          before.keys k (sym (ap is_some (adds.others k apart)) ∙ there)
     ];
     over = adds.over;
+    whole = λ are. whole (before.whole are);
   }
 
 -- rows whose cells are all among these, and rows of which none is
@@ -208,10 +196,10 @@ weight-no cells (row ∷ rows) each =
     let here : is_among cells row.0 ≡ false = All-head (λ (r : ℕ × ℕ). is_among cells r.0 ≡ false) row rows each in
     rw here (weight-no cells rows (All-tail (λ (r : ℕ × ℕ). is_among cells r.0 ≡ false) row rows each))
 
--- The whole of a change was added to the draft of a code.
-pub record AddsWhole (columns : ℕ) (entries : Places TermList) (change : ViewChange) (code : ℕ) (old new : Places TermList) : Type 0 where
-  pub share : AddsUnits (draft_at columns entries old code) (draft_at columns entries new code) change.den (change.den * change.facts) change.den change.cols
-  pub others : (k : ℕ) → (code == k) ≡ false → value_at new k ≡ value_at old k
+-- what follows where a call ended well
+on-ok : {P Q : Type 0} → (P → Q) → (result : Result (Unit {0}) Memory) → OnOk result P → OnOk result Q
+on-ok f (Ok u) is = f is
+on-ok f (Err e) is = tt
 
 -- a change whose region is held by one region of the product of the cuts
 module _ (dims : List Dimension) (depths : List ℕ) (columns : ℕ) (entries : Places TermList) (change : ViewChange) (is : IsChange dims columns change) (code : ℕ) (holds : HoldsCells dims depths change.region code) where
@@ -232,7 +220,7 @@ module _ (dims : List Dimension) (depths : List ℕ) (columns : ℕ) (entries : 
   pub whole-fits : (draft : TermList) → FitsUnits draft.terms change.den (weight_at dims change code * change.facts) (weight_at dims change code) change.cols → FitsUnits draft.terms change.den (change.den * change.facts) change.den change.cols
   whole-fits draft fits = subst (λ (n : ℕ). FitsUnits draft.terms change.den (n * change.facts) n change.cols) weight-whole fits
 
-  module _ (old new : Places TermList) (adds : AddsWhole columns entries change code old new) where
+  module _ (old new : Places TermList) (adds : AddsRow columns entries change code change.den old new) where
     -- and once it was added, its shares in all regions were
     whole-shares : (k : ℕ) → is_in_view dims depths k ≡ true → AddsChange dims change k (draft_at columns entries old k) (draft_at columns entries new k)
     whole-shares k in_view = elim (cases_eq k code) [
@@ -260,29 +248,12 @@ module _ (dims : List Dimension) (depths : List ℕ) (columns : ℕ) (entries : 
     ]
 
   -- so where adding it ended well
-  module _ (old new : Places TermList) (result : Result (Unit {0}) Memory)
-      (share : OnOk result (AddsUnits (draft_at columns entries old code) (draft_at columns entries new code) change.den (change.den * change.facts) change.den change.cols))
-      (others : OnOk result ((k : ℕ) → (code == k) ≡ false → value_at new k ≡ value_at old k)) where
+  module _ (old new : Places TermList) (result : Result (Unit {0}) Memory) (adds : OnOk result (AddsRow columns entries change code change.den old new)) where
     pub shares-whole : OnOk result ((k : ℕ) → is_in_view dims depths k ≡ true → AddsChange dims change k (draft_at columns entries old k) (draft_at columns entries new k))
-    shares-whole = by result share others
-      where
-        by : (r : Result (Unit {0}) Memory) → OnOk r (AddsUnits (draft_at columns entries old code) (draft_at columns entries new code) change.den (change.den * change.facts) change.den change.cols)
-            → OnOk r ((k : ℕ) → (code == k) ≡ false → value_at new k ≡ value_at old k)
-            → OnOk r ((k : ℕ) → is_in_view dims depths k ≡ true → AddsChange dims change k (draft_at columns entries old k) (draft_at columns entries new k))
-        by (Ok u) one all = whole-shares old new (record { share = one; others = all })
-        by (Err e) one all = tt
+    shares-whole = on-ok (whole-shares old new) result adds
 
     pub keys-whole : OnOk result (KeepsToView dims depths old new)
-    keys-whole = by result share others
-      where
-        by : (r : Result (Unit {0}) Memory) → OnOk r (AddsUnits (draft_at columns entries old code) (draft_at columns entries new code) change.den (change.den * change.facts) change.den change.cols)
-            → OnOk r ((k : ℕ) → (code == k) ≡ false → value_at new k ≡ value_at old k) → OnOk r (KeepsToView dims depths old new)
-        by (Ok u) one all = whole-keys old new (record { share = one; others = all })
-        by (Err e) one all = tt
+    keys-whole = on-ok (whole-keys old new) result adds
 
--- a share fits what is held of a draft that was begun, where it fits the draft
-pub begun-fits : (columns : ℕ) (entries : Places TermList) (code den units weight : ℕ) (values : List ℤ) (old mid : Places TermList) → ((k : ℕ) → draft_at columns entries mid k ≡ draft_at columns entries old k) → is_some (value_at mid code) ≡ true
-    → FitsUnits (draft_at columns entries old code).terms den units weight values → FitsUnits (held_at columns mid code).terms den units weight values
-begun-fits columns entries code den units weight values old mid same there fits =
-    let held : draft_at columns entries old code ≡ held_at columns mid code = sym (same code) ∙ draft-held columns entries mid code there in
-    subst (λ (list : TermList). FitsUnits list.terms den units weight values) held fits
+    pub over-whole : OnOk result (AreOver columns new)
+    over-whole = on-ok (λ (one : AddsRow columns entries change code change.den old new). one.over) result adds

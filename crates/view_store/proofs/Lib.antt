@@ -19,6 +19,7 @@ pub mod AllViews
 pub mod Turns
 pub mod Serving
 pub mod RollingUp
+pub mod Putting
 pub mod OfFacts
 pub mod CutsOver
 pub mod CutOrder

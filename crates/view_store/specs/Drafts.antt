@@ -1,5 +1,5 @@
 -- Drafts: terms by region code, made from entries by shares.
-use Rattle.std.specs.Prelude.{◌≡◌, ℕ, ◌+◌, ◌*◌, ◌<◌, ◌≤◌, Bool, true, List, [], IfSome, length, map, filter, nat_abs, not, ◌||◌, ◌==◌, ◌+ℤ◌, is_some, unwrap_or, take, Option, Some, None, if◌then◌else◌}
+use Rattle.std.specs.Prelude.{◌≡◌, ℕ, ◌+◌, ◌*◌, ◌<◌, ◌≤◌, Bool, true, false, List, [], IfSome, length, map, filter, nat_abs, not, ◌||◌, ◌==◌, ◌+ℤ◌, is_some, unwrap_or, take, Option, Some, None, if◌then◌else◌}
 use Rattle.std.specs.List.{flat_map}
 use Rattle.cube_model.specs.Allocation.{ExtendedFact}
 use Rattle.cube_model.specs.Answer.{count_at, count_of, numerator_of, sum_at, weight_inside}
@@ -33,6 +33,19 @@ pub record FitsChange (columns : ℕ) (dims : List Dimension) (change : ViewChan
 -- the share of a change was added to the draft of a code
 abbrev pub AddsChange : List Dimension → ViewChange → ℕ → TermList → TermList → Type 0
 AddsChange dims change code old new = AddsUnits old new change.den (weight_at dims change code * change.facts) (weight_at dims change code) change.cols
+
+-- a code has got a draft: these terms, with the share of a row of a change
+pub record Begins (columns : ℕ) (terms : TermList) (change : ViewChange) (code weight : ℕ) (old new : Places TermList) : Type 0 where
+  pub share : AddsUnits terms (held_at columns new code) change.den (weight * change.facts) weight change.cols
+  pub there : IfSome (value_at new code) (IsOver columns)
+  pub some : is_some (value_at new code) ≡ true
+  pub others : (k : ℕ) → (code == k) ≡ false → value_at new k ≡ value_at old k
+
+-- the share of a row of a change was added to the draft of a code, and no other has changed
+pub record AddsRow (columns : ℕ) (entries : Places TermList) (change : ViewChange) (code weight : ℕ) (old new : Places TermList) : Type 0 where
+  pub share : AddsUnits (draft_at columns entries old code) (draft_at columns entries new code) change.den (weight * change.facts) weight change.cols
+  pub others : (k : ℕ) → (code == k) ≡ false → value_at new k ≡ value_at old k
+  pub over : AreOver columns new
 
 -- a change puts, or takes away
 abbrev pub is_of_kind : Bool → ViewChange → Bool

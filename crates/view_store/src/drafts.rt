@@ -1,14 +1,14 @@
 //! Drafts of entries: terms by region code, to which the shares of facts are added.
-ghost use Rattle.std.specs.Prelude.{[], ◌≡◌, ◌≤◌, ◌+◌, ◌*◌, ◌==◌, ℕ, true, false, IfOk, IfSome, OnOk, All, Some, is_some, length, unwrap_or};
+ghost use Rattle.std.specs.Prelude.{[], ◌≡◌, ◌≤◌, ◌+◌, ◌*◌, ◌==◌, ℕ, true, false, IfOk, IfSome, OnOk, OnErr, All, Some, is_some, length, unwrap_or};
 ghost use Rattle.std.specs.Map.{keys_of};
 ghost use Rattle.std.specs.Option.{option_copied};
 ghost use Rattle.cube_model.specs.Limits.{MAX_COLS};
 ghost use Rattle.group_sum.specs.Merge.{FitsDifference, HasDifference, IsDifference};
 ghost use Rattle.group_sum.specs.Terms.{AddsUnits, AreTerms, FitsUnits};
-ghost use Rattle.staged_map.specs.Staged.{AreKeys, AreOfDifferentKeys, Reserves, value_at};
+ghost use Rattle.staged_map.specs.Staged.{AreKeys, AreOfDifferentKeys, Reserves, Sets, value_at};
 ghost use Rattle.view_store.specs.Changes.{AreWhole, FitsView, IsChange, IsMadeFor, taken};
 ghost use Rattle.view_store.specs.Views.{AreEntries, held_at, is_in_view, IsOver, no_terms};
-ghost use Rattle.view_store.specs.Drafts.{AddsChange, AreLeftOver, AreOver, AreRemade, AreWithout, CanTake, FitsChange, FitsShares, HasShares, KeepsToView, draft_at, facts_of_kind, kept, kept_of};
+ghost use Rattle.view_store.specs.Drafts.{AddsChange, AddsRow, AreLeftOver, AreOver, AreRemade, AreWithout, Begins, CanTake, FitsChange, FitsShares, HasShares, KeepsToView, draft_at, facts_of_kind, kept, kept_of};
 
 use crate::ViewChange;
 use crate::cut::{code_over, cut_code};
@@ -42,33 +42,49 @@ fn copy_or_none(alloc: Global, columns: u32, terms: Option<&Terms>) -> Result<Te
     }
 }
 
-/// Gives a code a draft, if it has none: it is the entry there.
+/// Adds the share of a change's row to terms. An error leaves them as they were.
+fn raise(terms: &mut Terms, change: &ViewChange, weight: u64) -> Result<(), Memory>
+    requires facts { 1 ≤ change.now.facts }
+    requires den { 1 ≤ change.now.den }
+    requires width { length change.now.cols + 1 ≡ terms.old.columns }
+    requires within { FitsUnits terms.old.terms change.now.den (weight * change.now.facts) weight change.now.cols }
+    ensures ok { OnOk result (AddsUnits terms.old terms.new change.now.den (weight * change.now.facts) weight change.now.cols) }
+    ensures err { OnErr result (terms.new ≡ terms.old) }
+    ensures terms { AreTerms terms.new }
+{
+    terms.add_units(change.den, change.units(weight), weight, change.cols)
+}
+
+/// Begins the draft of a code that has none: it is the entry there, with the share of a change's row. An error leaves the drafts
+/// as they were.
 fn begin(
     alloc: Global,
     columns: u32,
     entries: &Staged<Terms>,
     drafts: &mut Staged<Terms>,
     code: u64,
+    change: &ViewChange,
+    weight: u64,
 ) -> Result<(), Memory>
     requires some { 1 ≤ columns }
     requires most { columns ≤ MAX_COLS + 1 }
+    requires facts { 1 ≤ change.now.facts }
+    requires den { 1 ≤ change.now.den }
+    requires width { length change.now.cols + 1 ≡ columns }
     requires entries { AreOver columns entries.now }
-    requires drafts { AreOver columns drafts.old }
-    ensures same { OnOk result ((k : ℕ) → draft_at columns entries.now drafts.new k ≡ draft_at columns entries.now drafts.old k) }
-    ensures others { OnOk result ((k : ℕ) → (code == k) ≡ false → value_at drafts.new k ≡ value_at drafts.old k) }
-    ensures there { OnOk result (is_some (value_at drafts.new code) ≡ true) }
-    ensures over { OnOk result (AreOver columns drafts.new) }
+    requires within { FitsUnits (held_at columns entries.now code).terms change.now.den (weight * change.now.facts) weight change.now.cols }
+    ensures begins { OnOk result (Begins columns (held_at columns entries.now code) change.now code weight drafts.old drafts.new) }
+    ensures same { OnErr result ((k : ℕ) → value_at drafts.new k ≡ value_at drafts.old k) }
 {
-    if drafts.get(code).is_none() {
-        let copy = copy_or_none(alloc, columns, entries.get(code))?;
-        drafts.reserve(&[code])?;
-        let _ = drafts.set(code, copy);
-    }
+    let mut terms = copy_or_none(alloc, columns, entries.get(code))?;
+    raise(&mut terms, change, weight)?;
+    drafts.reserve(&[code])?;
+    let _ = drafts.set(code, terms);
     Ok(())
 }
 
-/// Adds the share of a change's row to the draft of a code.
-fn add_share(
+/// Adds the share of a change's row to the draft of a code that has one. An error leaves it as it was.
+fn raise_held(
     alloc: Global,
     columns: u32,
     drafts: &mut Staged<Terms>,
@@ -81,28 +97,30 @@ fn add_share(
     requires facts { 1 ≤ change.now.facts }
     requires den { 1 ≤ change.now.den }
     requires width { length change.now.cols + 1 ≡ columns }
-    requires there { is_some (value_at drafts.old code) ≡ true }
+    requires held { is_some (value_at drafts.old code) ≡ true }
     requires drafts { AreOver columns drafts.old }
     requires within { FitsUnits (held_at columns drafts.old code).terms change.now.den (weight * change.now.facts) weight change.now.cols }
-    ensures share { OnOk result (AddsUnits (held_at columns drafts.old code) (held_at columns drafts.new code) change.now.den (weight * change.now.facts) weight change.now.cols) }
-    ensures others { OnOk result ((k : ℕ) → (code == k) ≡ false → value_at drafts.new k ≡ value_at drafts.old k) }
-    ensures stays { OnOk result (is_some (value_at drafts.new code) ≡ true) }
-    ensures over { OnOk result (AreOver columns drafts.new) }
+    ensures sets { Sets drafts.old drafts.new code (held_at columns drafts.new code) }
+    ensures ok { OnOk result (AddsUnits (held_at columns drafts.old code) (held_at columns drafts.new code) change.now.den (weight * change.now.facts) weight change.now.cols) }
+    ensures err { OnErr result (held_at columns drafts.new code ≡ held_at columns drafts.old code) }
+    ensures terms { AreTerms (held_at columns drafts.new code) }
 {
     let mut terms = drafts.set(code, Terms::empty(alloc, columns)).unwrap();
-    terms.add_units(change.den, change.units(weight), weight, change.cols)?;
+    let raised = raise(&mut terms, change, weight);
     let _ = drafts.set(code, terms);
-    Ok(())
+    raised
 }
 
-/// Adds the whole of a change, all of whose rows lie in the region of a code, to the draft there.
-fn add_whole(
+/// Adds the share of a change's row to the draft of a code: where there is none yet, that is the entry there. An error leaves all
+/// entries whole, and so does a row without weight.
+fn add_share(
     alloc: Global,
     columns: u32,
     entries: &Staged<Terms>,
     drafts: &mut Staged<Terms>,
     code: u64,
     change: &ViewChange,
+    weight: u64,
 ) -> Result<(), Memory>
     requires some { 1 ≤ columns }
     requires most { columns ≤ MAX_COLS + 1 }
@@ -111,13 +129,18 @@ fn add_whole(
     requires width { length change.now.cols + 1 ≡ columns }
     requires entries { AreOver columns entries.now }
     requires drafts { AreOver columns drafts.old }
-    requires within { FitsUnits (draft_at columns entries.now drafts.old code).terms change.now.den (change.now.den * change.now.facts) change.now.den change.now.cols }
-    ensures share { OnOk result (AddsUnits (draft_at columns entries.now drafts.old code) (draft_at columns entries.now drafts.new code) change.now.den (change.now.den * change.now.facts) change.now.den change.now.cols) }
-    ensures others { OnOk result ((k : ℕ) → (code == k) ≡ false → value_at drafts.new k ≡ value_at drafts.old k) }
-    ensures over { OnOk result (AreOver columns drafts.new) }
+    requires within { FitsUnits (draft_at columns entries.now drafts.old code).terms change.now.den (weight * change.now.facts) weight change.now.cols }
+    ensures adds { OnOk result (AddsRow columns entries.now change.now code weight drafts.old drafts.new) }
+    ensures whole { AreEntries columns drafts.old → AreEntries columns drafts.new }
 {
-    begin(alloc, columns, entries, drafts, code)?;
-    add_share(alloc, columns, drafts, code, change, change.den)
+    if weight == 0 {
+        return Ok(());
+    }
+    if drafts.get(code).is_some() {
+        raise_held(alloc, columns, drafts, code, change, weight)
+    } else {
+        begin(alloc, columns, entries, drafts, code, change, weight)
+    }
 }
 
 /// Adds the shares of a change, row by row, to the drafts of the regions of the product of the cuts.
@@ -141,17 +164,17 @@ fn add_rows(
         → AddsChange space.now change.now code (draft_at columns entries.now drafts.old code) (draft_at columns entries.now drafts.new code)) }
     ensures keys { OnOk result (KeepsToView space.now depths.now drafts.old drafts.new) }
     ensures over { OnOk result (AreOver columns drafts.new) }
+    ensures whole { AreEntries columns drafts.old → AreEntries columns drafts.new }
 {
     for (cell, weight) in change.rows.as_slice() {
         let code = cut_code(space, depths, *cell);
-        begin(alloc, columns, entries, drafts, code)?;
-        add_share(alloc, columns, drafts, code, change, *weight)?;
+        add_share(alloc, columns, entries, drafts, code, change, *weight)?;
     }
     Ok(())
 }
 
-/// Adds the shares of a change to the drafts of the regions of the product of the cuts.
-fn add_change(
+/// Adds the shares of a change to the drafts of the regions of the product of the cuts. An error leaves all entries whole.
+pub fn add_change(
     alloc: Global,
     space: &Space,
     depths: &[u8],
@@ -171,10 +194,11 @@ fn add_change(
         → AddsChange space.now change.now code (draft_at columns entries.now drafts.old code) (draft_at columns entries.now drafts.new code)) }
     ensures keys { OnOk result (KeepsToView space.now depths.now drafts.old drafts.new) }
     ensures over { OnOk result (AreOver columns drafts.new) }
+    ensures whole { AreEntries columns drafts.old → AreEntries columns drafts.new }
 {
     // Where one region of the product holds all rows, their weights need not be added up.
     match code_over(space, depths, change.region) {
-        Some(code) => add_whole(alloc, columns, entries, drafts, code, change),
+        Some(code) => add_share(alloc, columns, entries, drafts, code, change, change.den),
         None => add_rows(alloc, space, depths, columns, entries, drafts, change),
     }
 }

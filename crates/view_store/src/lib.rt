@@ -14,5 +14,5 @@ pub use laws::{
     worked_changes, worked_views,
 };
 pub use region_algebra::{Depths, ViewDef, ViewDefs};
-pub use view::ViewList;
+pub use view::{View, ViewList};
 pub use views::Views;

@@ -1,5 +1,5 @@
 //! One view: its entries by region code.
-ghost use Rattle.std.specs.Prelude.{◌≡◌, ◌≤◌, ◌<◌, ◌+◌, ◌-◌, [], All, IfOk, IfSome, OnOk, length, map};
+ghost use Rattle.std.specs.Prelude.{◌≡◌, ◌≤◌, ◌<◌, ◌+◌, ◌-◌, true, [], ◌∷◌, All, IfOk, IfSome, OnOk, length, map};
 ghost use Rattle.std.specs.Option.{option_copied};
 ghost use Rattle.cube_model.specs.Answer.{merge_all};
 ghost use Rattle.cube_model.specs.Limits.{MAX_COLS};
@@ -8,11 +8,12 @@ ghost use Rattle.group_sum.specs.Terms.{TermList};
 ghost use Rattle.region_algebra.specs.Space.{IsRegion, region_total};
 ghost use Rattle.staged_map.specs.Staged.{PutsAll, value_at};
 ghost use Rattle.view_store.specs.Changes.{FitsView, HasRoomFor, IsMadeFor, IsSameView};
+ghost use Rattle.view_store.specs.Facts.{AddsFacts};
 ghost use Rattle.view_store.specs.Rolling.{AreCodes, FitsBelow, FitsUnder, has_depths, is_below, listed_under, rolled_up, serves, terms_below};
 ghost use Rattle.view_store.specs.Views.{AreEntries, IsEntry, IsViewOf, listed, without_entries};
 
 use crate::ViewChange;
-use crate::drafts::{copy_of, make_entries};
+use crate::drafts::{add_change, copy_of, make_entries};
 use cube_base::{Memory, PlainList};
 use cube_model::Region;
 use group_sum::Terms;
@@ -72,6 +73,27 @@ impl View {
         ensures whole { IfSome result (λ terms. IsEntry self.now.columns terms.now) }
     {
         self.entries.get(code)
+    }
+
+    /// Adds the facts that a change puts to those whose shares the entries are. On an error some of their shares may have been added.
+    ///
+    /// No numerator passes 2^120 with them.
+    pub fn put(&mut self, space: &Space, change: &ViewChange) -> Result<(), Memory>
+        requires view { IsViewOf space.now self.old }
+        requires puts { change.now.put ≡ true }
+        requires fits { FitsView space.now (change.now ∷ []) self.old }
+        ensures { OnOk result (AddsFacts space.now change.now self.old self.new) }
+    {
+        let none = Staged::new(self.alloc);
+        add_change(
+            self.alloc,
+            space,
+            self.depths.as_slice(),
+            self.columns,
+            &none,
+            &mut self.entries,
+            change,
+        )
     }
 
     /// Makes the entries that changes change anew, and gives their codes places. The content stays.

@@ -8,11 +8,10 @@ loop-cell-init c = HasRows-none _ _ _ _ _ _ c.requires.drafts
 pub add_share-requires-clause-within : goal.add_share-requires-clause-within
 add_share-requires-clause-within c =
     let fits = c.requires.within c.cut_code-code.result c.cut_code-code.ensures.in_view in
-    row-fits c.args.space.now c.args.depths.now c.args.columns c.args.entries.now c.args.change.now c.as_slice-cell-items.result.now c.args.drafts.now c.loop-cell.drafts c.begin.new.drafts c.loop-cell.cell-index c.cut_code-code.result c.loop-cell-test.true
-    c.loop-cell.invariant c.cut_code-code.ensures (record { same = c.in_ok-begin.ensures.same; others = c.in_ok-begin.ensures.others; there = c.in_ok-begin.ensures.there }) c.requires.change.width fits.held (rw c.as_slice-cell-items.ensures fits.share)
+    row-fits c.args.space.now c.args.depths.now c.args.columns c.args.entries.now c.args.change.now c.as_slice-cell-items.result.now c.args.drafts.now c.loop-cell.drafts c.loop-cell.cell-index c.cut_code-code.result c.loop-cell-test.true
+    c.loop-cell.invariant c.cut_code-code.ensures c.requires.change.width fits.held (rw c.as_slice-cell-items.ensures fits.share)
 
 pub loop-cell-preserved : goal.loop-cell-preserved
 loop-cell-preserved c =
-    HasRows-next c.args.space.now c.args.depths.now c.args.columns c.args.entries.now c.args.change.now c.as_slice-cell-items.result.now c.args.drafts.now c.loop-cell.drafts c.begin.new.drafts c.loop-cell.cell-index c.cut_code-code.result c.loop-cell-test.true
-    c.loop-cell.invariant c.cut_code-code.ensures (record { same = c.in_ok-begin.ensures.same; others = c.in_ok-begin.ensures.others; there = c.in_ok-begin.ensures.there }) c.add_share.new.drafts
-    (record { share = c.in_ok-add_share.ensures.share; others = c.in_ok-add_share.ensures.others; stays = c.in_ok-add_share.ensures.stays; over = c.in_ok-add_share.ensures.over })
+    HasRows-next c.args.space.now c.args.depths.now c.args.columns c.args.entries.now c.args.change.now c.as_slice-cell-items.result.now c.args.drafts.now c.loop-cell.drafts c.loop-cell.cell-index c.cut_code-code.result c.loop-cell-test.true
+    c.loop-cell.invariant c.cut_code-code.ensures c.add_share.new.drafts c.in_ok-add_share.ensures.adds c.in_ok-add_share.ensures.whole
