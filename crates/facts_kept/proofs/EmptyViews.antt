@@ -18,7 +18,7 @@ use Rattle.facts_kept.proofs.SameViews.{AreViewsOfFacts-same, cuts-same}
 use Rattle.facts_kept.proofs.ViewsKept.{AreViewsOfFacts-after, cuts-after}
 
 -- a view without entries is that of no facts
-view-none : (dims : List Dimension) (view : ViewMap) → view.entries ≡ [] → IsViewOfFacts dims [] view
+pub view-none : (dims : List Dimension) (view : ViewMap) → view.entries ≡ [] → IsViewOfFacts dims [] view
 unfolding answer
 view-none dims view none = record {
   columns = λ code. ap (λ (entries : Places TermList). (held_at view.columns entries code).columns) none;

@@ -11,6 +11,7 @@ pub mod HeldGroups
 pub mod HeldRows
 pub mod Modest
 pub mod Placed
+pub mod OneView
 pub mod PutGroups
 pub mod SameViews
 pub mod SmallGroups

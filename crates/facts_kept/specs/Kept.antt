@@ -12,7 +12,7 @@ use Rattle.fact_records.specs.Valid.{AreValid}
 use Rattle.region_index.specs.Indexed.{Indexes}
 use Rattle.fact_groups.specs.Groups.{Group, group_at}
 use Rattle.view_store.specs.Facts.{IsViewOfFacts}
-use Rattle.view_store.specs.Views.{AreViewsOf, ViewMaps}
+use Rattle.view_store.specs.Views.{AreViewsOf, IsViewOf, ViewMap, ViewMaps}
 
 -- What is kept beside the facts, so that an edit looks at few of them: how many more facts there is room for, the statistics
 -- of cells, the ids of imprecise facts and the groups of facts by the code of their region, the views, and the number of rows.
@@ -31,6 +31,13 @@ pub record AreViewsOfFacts (dims : List Dimension) (cuts : List (List ℕ)) (col
   pub cuts_are : map (λ view. view.depths) maps.views ≡ cuts
   pub over : AreViewsOf dims maps
   pub answers : All (IsViewOfFacts dims facts) maps.views
+
+-- One view of these cuts, over columns of which one is the count, that is one of facts.
+pub record IsCutView (dims : List Dimension) (cuts : List ℕ) (columns : ℕ) (facts : List ExtendedFact) (view : ViewMap) : Type 0 where
+  pub columns_are : view.columns ≡ columns
+  pub cuts_are : view.depths ≡ cuts
+  pub over : IsViewOf dims view
+  pub answers : IsViewOfFacts dims facts view
 
 -- What a state keeps is what its facts make it: the facts are such as a cube may have; the statistics are those of the precise
 -- facts, the index has the imprecise ones, there is a group for each region that a fact has, and the views are those of the facts;
