@@ -1,9 +1,8 @@
 -- Of the groups near a region the facts answer as all facts do in each region under it.
-use Rattle.std.proofs.Common.{◌≡◌, ℕ, ◌≤◌, Bool, true, false, List, [], ◌∷◌, refl, ap, sym, subst, ◌∙◌, true≢false, arith, pos}
-use Rattle.std.specs.Prelude.{All, IfSome, filter, is_some, not, if◌then◌else◌, Option, Some, None, slice_get, ◌==◌}
+use Rattle.std.proofs.Common.{◌≡◌, ℕ, ◌≤◌, Bool, true, false, List, [], ◌∷◌, refl, ap, sym, ◌∙◌, true≢false, arith, pos}
+use Rattle.std.specs.Prelude.{All, filter, is_some, not, if◌then◌else◌, Option, Some, None, slice_get}
 use Rattle.std.specs.List.{cons_option, flat_map, list_any, range_with_len, sum_by}
 use Rattle.std.specs.Option.{option_map_or}
-use Rattle.std.proofs.lemmas.Bool.Decides.{nat_tests}
 use Rattle.std.proofs.lemmas.Int.{ints}
 use Rattle.std.proofs.lemmas.List.Sums.{sum_by-cons}
 use Rattle.cube_model.specs.declared.edit.Fact.{Fact}
@@ -16,13 +15,12 @@ use Rattle.cube_model.specs.Tree.{Dimension, IsTree}
 use Rattle.cube_model.proofs.Ascending.{ascends_places}
 use Rattle.fact_groups.specs.Groups.{Group, count_in, group_at, group_facts, groups_at, sum_in}
 use Rattle.fact_groups.proofs.AsFacts.{count-as_facts, some-facts, sum-as_facts}
-use Rattle.fact_groups.proofs.Ascending.{ascends-from_increasing}
 use Rattle.fact_records.specs.Shape.{ShapeValue, policy_over, width_of_all}
 use Rattle.fact_records.specs.Valid.{AreValid}
 use Rattle.group_sum.specs.Shares.{product_at, units_at}
 use Rattle.region_algebra.specs.Space.{IsRegion, all_regions, region_total}
 use Rattle.region_index.specs.Touching.{codes_touching}
-use Rattle.staged_map.specs.Staged.{AreKeys, Places}
+use Rattle.staged_map.specs.Staged.{Places}
 use Rattle.view_store.proofs.CutRegions.{inside-inside}
 use Rattle.view_store.proofs.LeafTuples.{is_among-inside}
 use Rattle.view_store.proofs.OfFacts.{answers-alike}
@@ -30,38 +28,17 @@ use Rattle.facts_kept.specs.Anew.{AreGroupsOf}
 use Rattle.facts_kept.proofs.SplitGroups.{counts-split, others_of, sums-split}
 use Rattle.facts_kept.proofs.ValidFacts.{valid-regions}
 use Rattle.cube_state.specs.Answering.{shares_of}
-use Rattle.cube_state.specs.State.{StateValue}
 use Rattle.cube_state.specs.Tables.{HoldTouching}
 use Rattle.cube_state.proofs.GroupShares.{products-are, units-are}
 use Rattle.cube_state.proofs.TouchingShares.{group-outside}
 
--- the codes of the regions that have a cell in common do, and so do those of all groups
-touching-held : (dims : List Dimension) (groups : Places Group) (region codes : List ℕ) → codes ≡ codes_touching dims region → HoldTouching dims groups region codes
+-- the codes of the regions that have a cell in common are such
+pub touching-held : (dims : List Dimension) (groups : Places Group) (region codes : List ℕ) → codes ≡ codes_touching dims region → HoldTouching dims groups region codes
 unfolding codes_touching
 touching-held dims groups region codes are = record {
   ascending = ap (ascends_from (λ x. x) 0) are ∙ ascends_places (λ other. list_any (is_among (cells_of dims other)) (cells_of dims region)) 0 (all_regions dims);
   each = λ code some touches. ap (λ cs. is_among cs code) are ∙ touches;
 }
-
-keys-held : (dims : List Dimension) (groups : Places Group) (region codes : List ℕ) → AreKeys groups codes → HoldTouching dims groups region codes
-keys-held dims groups region codes keys = record {
-  ascending = ascends-from_increasing codes keys.ascending;
-  each = λ code some touches. sym (turned codes code) ∙ keys.among code ∙ some;
-}
-  where
-    turned : (xs : List ℕ) (c : ℕ) → list_any (λ x. c == x) xs ≡ is_among xs c
-    turned [] c = refl
-    turned (x ∷ xs) c = grind (arith, nat_tests, turned xs c)
-
--- as the state is seen
-module _ {P : Type 0} (state seen : StateValue P) (same : seen ≡ state) (region : List ℕ) where
-  pub touching-seen : (codes : List ℕ) (found : Option (List ℕ)) → found ≡ Some codes → IfSome found (λ list. list ≡ codes_touching seen.dims region) → HoldTouching state.dims state.kept.groups region codes
-  touching-seen codes found at are =
-      subst (λ (s : StateValue P). HoldTouching s.dims s.kept.groups region codes) same
-      (touching-held seen.dims seen.kept.groups region codes (subst (λ (o : Option (List ℕ)). IfSome o (λ list. list ≡ codes_touching seen.dims region)) at are))
-
-  pub keys-seen : (codes : List ℕ) → AreKeys seen.kept.groups codes → HoldTouching state.dims state.kept.groups region codes
-  keys-seen codes keys = subst (λ (s : StateValue P). HoldTouching s.dims s.kept.groups region codes) same (keys-held seen.dims seen.kept.groups region codes keys)
 
 -- what lies in a region lies in each region over it
 module _ (dims : List Dimension) (region low : List ℕ) (trees : All IsTree dims) (named : IsRegion dims region) (named_low : IsRegion dims low) (under : is_inside dims region low ≡ true) where

@@ -1,16 +1,17 @@
 -- The lists of the views from which a table is made.
-use Rattle.std.proofs.Common.{◌≡◌, ℕ, List, refl, true, ap, sym, ◌∙◌, subst, Ok, Err, Result}
+use Rattle.std.proofs.Common.{◌≡◌, ℕ, ◌+◌, List, refl, true, ap, sym, ◌∙◌, subst, Ok, Err, Result}
 use Rattle.std.specs.Prelude.{All, Contains, IfOk, IfSome, OnOk, Option, Some, None, slice_get}
 use Rattle.std.specs.Option.{option_map}
 use Rattle.std.proofs.lemmas.List.Elements.{All-contains, All-contains_itself}
 use Rattle.std.proofs.lemmas.Slice.Eq.{bytes_eq-Decides}
 use Rattle.cube_model.specs.declared.statistic.CellStat.{CellStat}
+use Rattle.fact_records.specs.Shape.{width_of_all}
 use Rattle.group_sum.specs.Terms.{TermList}
 use Rattle.view_store.specs.Facts.{IsViewOfFacts}
 use Rattle.view_store.specs.Rolling.{has_depths, listed_under, view_with}
 use Rattle.view_store.specs.Views.{IsViewOf, ViewMap, ViewMaps, listed}
 use Rattle.view_store.proofs.CutListing.{HasTerms}
-use Rattle.facts_kept.specs.Kept.{IsState}
+use Rattle.facts_kept.specs.Kept.{IsCutView, IsState}
 use Rattle.cube_state.specs.State.{StateValue, policy_in, rows_in}
 use Rattle.cube_state.specs.Tables.{IsListUnder, IsOneViewUnder, IsViewUnder}
 use Rattle.cube_state.proofs.ViewAnswers.{find-all}
@@ -31,6 +32,14 @@ module _ {P : Type 0} (weigh : P → CellStat → ℕ) (state seen : StateValue 
       let at : slice_get maps.views 0 ≡ Some is.view = ap (λ (views : List ViewMap). slice_get views 0) is.only in
       let under = subst (λ (s : StateValue P). IsViewUnder weigh s cuts region is.view) (sym same) is.under in
       subst (IsListUnder weigh state cuts region) (sym (rw at at told)) (list-under is.view under (rw at at whole))
+
+  -- of a view of all facts
+  pub list-full : {E : Type 0} (view : ViewMap) → IsCutView seen.dims cuts (width_of_all seen.shape.measures + 1) (rows_in weigh seen) view → (result : Result (List (List ℕ × TermList)) E)
+      → IfOk result (λ list. list ≡ listed_under seen.dims view region) → OnOk result (All HasTerms (listed seen.dims view)) → IfOk result (IsListUnder weigh state cuts region)
+  list-full view is (Err e) told whole = tt
+  list-full view is (Ok list) told whole =
+      subst (IsListUnder weigh state cuts region) (sym told)
+      (list-under view (record { some = rows_in weigh seen; columns = is.columns_are; depths = is.cuts_are; over = is.over; of = is.answers; alike = λ low named under. refl }) whole)
 
   module _ (kept : IsState (policy_in weigh seen) seen.shape seen.dims seen.cuts seen.facts seen.kept)
       (columns : ℕ) (columns_are : columns ≡ seen.kept.views.columns) (each : All (λ view. view.columns ≡ columns) seen.kept.views.views) where

@@ -4,15 +4,16 @@ ghost use Rattle.cube_model.specs.Answer.{merge_all};
 ghost use Rattle.fact_records.specs.Shape.{width_of_all};
 ghost use Rattle.region_algebra.specs.Examples.{small_space};
 ghost use Rattle.region_algebra.specs.Space.{IsRegion};
+ghost use Rattle.region_index.specs.Touching.{codes_touching};
 ghost use Rattle.cube_state.specs.State.{terms_in};
-ghost use Rattle.cube_state.specs.Tables.{HoldTouching, IsListUnder, IsOneViewUnder, depth_under, depths_under, table_at, table_regions};
+ghost use Rattle.cube_state.specs.Tables.{IsListUnder, IsOneViewUnder, depth_under, depths_under, table_at, table_regions};
 
 use crate::State;
 use cell_weight::WeightPolicy;
-use cube_base::{Ids, Memory};
+use cube_base::Memory;
 use cube_model::Region;
 use dim_tree::Dim;
-use facts_kept::puts_at;
+use facts_kept::{puts_at, view_of};
 use region_algebra::Space;
 use region_index::codes_touching;
 use std::alloc::Global;
@@ -58,27 +59,42 @@ impl<P: WeightPolicy + Drop> State<P> {
         self.views.list_with(&self.space, cuts, r)
     }
 
-    /// What a view of these cuts that is made for it lists under `r`.
+    /// What a view of these cuts that is made for it lists under `r`: a view of the facts whose regions have a cell in common with `r`,
+    /// where these regions are few beside the groups, and else of all facts.
     fn list_made(&self, cuts: Depths, r: Region) -> Result<ViewList, Memory>
         requires depths { length cuts ≡ length self.now.dims }
         requires region { IsRegion self.now.dims r }
         ensures { IfOk result (IsListUnder P.weigh self.now cuts r) }
     {
-        let view = self.view_under(cuts, r)?;
+        let few = self.groups.count() as u64 / 4;
+        match codes_touching(self.alloc, &self.space, r, few)? {
+            Some(codes) => self.list_near(cuts, r, codes.as_slice()),
+            None => self.list_of_all(cuts, r),
+        }
+    }
+
+    /// The same of the groups at the codes of the regions that have a cell in common with `r`: no other has a share.
+    fn list_near(&self, cuts: Depths, r: Region, codes: &[u64]) -> Result<ViewList, Memory>
+        requires depths { length cuts ≡ length self.now.dims }
+        requires region { IsRegion self.now.dims r }
+        requires codes { codes.now ≡ codes_touching self.now.dims r }
+        ensures { IfOk result (IsListUnder P.weigh self.now cuts r) }
+    {
+        let view = self.view_near(cuts, r, codes)?;
         view.list_under(&self.space, 0, r)
     }
 
-    /// A view of these cuts that has, under `r`, what the facts add up to. It is made from the groups near `r`.
-    fn view_under(&self, cuts: Depths, r: Region) -> Result<Views, Memory>
+    /// A view of these cuts that has, under `r`, what the facts add up to. It is made from the groups at these codes.
+    fn view_near(&self, cuts: Depths, r: Region, codes: &[u64]) -> Result<Views, Memory>
         requires depths { length cuts ≡ length self.now.dims }
         requires region { IsRegion self.now.dims r }
+        requires codes { codes.now ≡ codes_touching self.now.dims r }
         ensures { IfOk result (IsOneViewUnder P.weigh self.now cuts r) }
     {
         // What a space says of its dimensions.
         let _ = self.space.dims();
         let columns = self.shape.columns();
-        let codes = self.codes_near(r)?;
-        let changes = puts_at(self.alloc, &self.space, &self.groups, codes.as_slice())?;
+        let changes = puts_at(self.alloc, &self.space, &self.groups, codes)?;
         let mut view = Views::of_cuts(self.alloc, cuts, columns)?;
         let stage = view.stage(&self.space, &changes)?;
         view.install(stage);
@@ -87,17 +103,22 @@ impl<P: WeightPolicy + Drop> State<P> {
         Ok(view)
     }
 
-    /// Ascending codes, among which are those of the groups of regions that have a cell in common with `r`: the codes of these regions
-    /// where they are few beside the groups, and else those of all groups.
-    fn codes_near(&self, r: Region) -> Result<Ids, Memory>
-        requires { IsRegion self.now.dims r }
-        ensures { IfOk result (HoldTouching self.now.dims self.now.kept.groups r) }
+    /// The same as `list_near` of all groups.
+    fn list_of_all(&self, cuts: Depths, r: Region) -> Result<ViewList, Memory>
+        requires depths { length cuts ≡ length self.now.dims }
+        requires region { IsRegion self.now.dims r }
+        ensures { IfOk result (IsListUnder P.weigh self.now cuts r) }
     {
-        let few = self.groups.count() as u64 / 4;
-        match codes_touching(self.alloc, &self.space, r, few)? {
-            Some(codes) => Ok(codes),
-            None => self.groups.keys(),
-        }
+        let view = view_of(
+            self.alloc,
+            &self.space,
+            &self.shape,
+            &self.policy,
+            &self.facts,
+            &self.groups,
+            cuts,
+        )?;
+        view.list_under(&self.space, r)
     }
 }
 
