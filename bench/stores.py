@@ -435,6 +435,10 @@ def table_reason(name):
 
 
 # What is done to a store by hand, and the reason that is told then.
+def bound_reason(name):
+    return b"its table %b has a trigger, or an index with an expression or a WHERE" % name
+
+
 ALTERED = [
     ("a constraint that checks", TABLES[:1] + [TABLES[1].replace("cols BLOB NOT NULL", "cols BLOB NOT NULL CHECK (id < 9)")] + TABLES[2:], [], table_reason(b"fact")),
     ("unique values", TABLES[:1] + [TABLES[1].replace("cols BLOB NOT NULL", "cols BLOB NOT NULL UNIQUE")] + TABLES[2:], [], table_reason(b"fact")),
@@ -443,9 +447,9 @@ ALTERED = [
     ("a rule for conflicts", TABLES[:2] + [TABLES[2].replace("den INTEGER NOT NULL", "den INTEGER NOT NULL ON CONFLICT IGNORE")], [], table_reason(b"alloc")),
     ("a negative id", TABLES, ["UPDATE fact SET id = -3 WHERE id = 3"], b"a row of its tables holds what no edit writes"),
     ("a virtual table", TABLES, ["CREATE VIRTUAL TABLE other USING fts5(a)"], UNREADABLE),
-    ("a trigger on a table of the store", TABLES, ["CREATE TRIGGER t AFTER INSERT ON fact BEGIN SELECT 1; END"], UNREADABLE),
-    ("an index with an expression", TABLES, ["CREATE INDEX i ON fact (id + 1)"], UNREADABLE),
-    ("a partial index", TABLES, ["CREATE INDEX i ON fact (nodes) WHERE id > 1"], UNREADABLE),
+    ("a trigger on a table of the store", TABLES, ["CREATE TRIGGER t AFTER INSERT ON fact BEGIN SELECT 1; END"], bound_reason(b"fact")),
+    ("an index with an expression", TABLES, ["CREATE INDEX i ON cube (k + 1)"], bound_reason(b"cube")),
+    ("a partial index", TABLES, ["CREATE INDEX i ON alloc (den) WHERE id > 1"], bound_reason(b"alloc")),
     ("auto-vacuum", ["PRAGMA auto_vacuum = FULL", *TABLES], [], DAMAGED_PAGE),
     ("UTF-16", ["PRAGMA encoding = 'UTF-16le'", *TABLES], [], DAMAGED_PAGE),
 ]

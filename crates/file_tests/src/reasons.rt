@@ -26,8 +26,9 @@ enum Made {
 /// What stands there, the name that is loaded, why it is not to be had, and what that is called.
 type Row = (Made, &'static str, Reason, &'static str);
 
-/// The byte of the damaged page says of which kind it is. The other one stands in the text of a rule, at the end of the first page.
-const ROWS: [Row; 16] = [
+/// The byte of the damaged page says of which kind it is. The others stand in the text of a rule, at the end of the first page, and in that of an
+/// index, which has an expression then.
+const ROWS: [Row; 17] = [
     (Made::Nothing, "", Reason::BadName, "not a name for a store"),
     (
         Made::Nothing,
@@ -100,6 +101,17 @@ const ROWS: [Row; 16] = [
         "ruled.cube",
         Reason::Table("fact"),
         "its table fact is not laid out as a store's",
+    ),
+    (
+        Made::Byte(
+            "bound.cube",
+            "CREATE TABLE alloc (id INTEGER PRIMARY KEY, den INTEGER NOT NULL, body BLOB NOT NULL); CREATE INDEX i ON alloc (den)",
+            3982,
+            b'-',
+        ),
+        "bound.cube",
+        Reason::Bound("alloc"),
+        "its table alloc has a trigger, or an index with an expression or a WHERE",
     ),
     (
         Made::Nothing,

@@ -108,20 +108,31 @@ fn read_table<T: Entry, S: Alter>(
     query: &str,
 ) -> Result<Vec<T>, Fault> {
     if has_table(alloc, conn, name, columns)? {
-        read_rows(alloc, conn, query)
+        read_rows(alloc, conn, name, query)
     } else {
         Ok(Vec::new(alloc))
     }
 }
 
-/// What the rows of an answer to a query say.
+/// What the rows of an answer to a query of a table say.
 fn read_rows<T: Entry, S: Alter>(
     alloc: Global,
     conn: &mut Connection<S>,
+    name: &'static str,
     query: &str,
 ) -> Result<Vec<T>, Fault> {
-    let mut rows = conn.query(query, &[])?;
-    entries_of(alloc, &mut rows)
+    match conn.query(query, &[]) {
+        Ok(mut rows) => entries_of(alloc, &mut rows),
+        Err(error) => Err(unread(name, error.into())),
+    }
+}
+
+/// Why a table is not read that is laid out as a store's. Its own text is understood, so it is what else stands on it.
+fn unread(name: &'static str, fault: Fault) -> Fault {
+    match fault {
+        Fault::Outside(Reason::Unreadable) => Fault::Outside(Reason::Bound(name)),
+        other => other,
+    }
 }
 
 /// What the rows of an answer say, from the next one on.

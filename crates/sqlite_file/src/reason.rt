@@ -24,6 +24,8 @@ pub enum Reason {
     NotSqlite,
     /// The table, or what has its name, is not laid out as a store's.
     Table(&'static str),
+    /// Something stands on the table that keeps it from being read: a trigger, or an index by an expression or with a condition.
+    Bound(&'static str),
     /// A row of a table holds what no batch writes.
     Row,
     /// There is no file, or an empty one, and a log with content beside it.
@@ -48,6 +50,10 @@ impl fmt::Display for Reason {
     fn fmt<W: fmt::Write>(&self, f: &mut fmt::Formatter<W>) -> fmt::Result {
         match self {
             Reason::Table(name) => write!(f, "its table {name} is not laid out as a store's"),
+            Reason::Bound(name) => write!(
+                f,
+                "its table {name} has a trigger, or an index with an expression or a WHERE"
+            ),
             other => f.write_str(text_of(*other)),
         }
     }
@@ -66,6 +72,7 @@ fn text_of(reason: Reason) -> &'static str {
         Reason::DiskFull => "the disk is full",
         Reason::NotSqlite => "not an SQLite file",
         Reason::Table(_) => "a table is not laid out as a store's",
+        Reason::Bound(_) => "a table has a trigger, or an index with an expression or a WHERE",
         Reason::Row => "a row of its tables holds what no edit writes",
         Reason::LogAlone => {
             "a log with content stands beside no store: put the store back beside it, or remove the log"
