@@ -7,7 +7,8 @@ and compared with the plain model: the replies, the status, and after each piece
 tables, the text of the schema too. The status is 1 at the first difference.
 
 In these, `ask` does some of the lines, and `schema` and `rows` write what the store holds. Each reason of a fault that the system lets be
-made is told in its words, no command that is refused or reads alone makes a file, and a store is exchanged under an open `run` in seven ways.
+made is told in its words, no command that is refused or reads alone leaves a file, and a store is exchanged under an open `run` in several ways:
+between two edits, also where it was opened by a symbolic link, and while a batch is synced.
 """
 import errno
 import os
@@ -434,11 +435,11 @@ def table_reason(name):
     return b"its table %b is not laid out as a store's" % name
 
 
-# What is done to a store by hand, and the reason that is told then.
 def bound_reason(name):
     return b"its table %b has a trigger, or an index with an expression or a WHERE" % name
 
 
+# What is done to a store by hand, and the reason that is told then.
 ALTERED = [
     ("a constraint that checks", TABLES[:1] + [TABLES[1].replace("cols BLOB NOT NULL", "cols BLOB NOT NULL CHECK (id < 9)")] + TABLES[2:], [], table_reason(b"fact")),
     ("unique values", TABLES[:1] + [TABLES[1].replace("cols BLOB NOT NULL", "cols BLOB NOT NULL UNIQUE")] + TABLES[2:], [], table_reason(b"fact")),
@@ -478,6 +479,15 @@ def compare_reasons(program, folder):
         fails(str(path), LOG_ALONE, f"a log beside {name} file")
         left = path.read_bytes() if path.exists() else None
         must((left, Path(f"{path}-wal").read_bytes()), (content, b"a log"), f"{name} file and its log")
+    for name, content in (("no", None), ("an empty", b""), ("a one-byte", b"S")):
+        target = Path(folder) / f"target {name}.cube"
+        Path(f"{target}-wal").write_bytes(b"a log")
+        if content is not None:
+            target.write_bytes(content)
+        path = Path(folder) / f"link {name}.cube"
+        path.symlink_to(target)
+        fails(str(path), b"not a plain file" if content is None else LOG_ALONE, f"a link to {name} file beside a log")
+        must(Path(f"{target}-wal").read_bytes(), b"a log", f"the log beside {name} file of a link")
     path = str(Path(folder) / "reason used.cube")
     hand_made(path)
     base = sqlite3.connect(path, isolation_level=None)
@@ -500,7 +510,12 @@ def compare_no_files(program, folder):
     for words in (["--help"], ["--version"], [path], ["check"], ["init"], ["rebuild", path, path]):
         must(told(program, words)[1], 2, f"words {words}")
     must(list(place.iterdir()), [], "files that were made")
-    print(f"{len(reading) + 7} commands that make no file")
+    hand_made(path)
+    questions = [[word, path] for word in ("run", "export", "check", "rebuild", "schema", "rows")] + [["ask", path, "count", "All"]]
+    for words in questions:
+        must(told(program, words, b"count\tAll\nwithdraw\t9\n")[1], words[0] == "run", f"{words[0]} over a store")
+        must(list(place.iterdir()), [Path(path)], f"files beside a store after {words[0]}")
+    print(f"{len(reading) + 7 + len(questions)} commands that make no file")
 
 
 def emptied(path):
@@ -523,37 +538,50 @@ WAYS = {
 }
 
 
-def exchanged(program, path, way):
-    """What a run that is answered one edit writes and says, where the store is exchanged before the next one."""
-    run = subprocess.Popen([program, "run", path], stdin=subprocess.PIPE, stdout=subprocess.PIPE, stderr=subprocess.PIPE)
+def exchanged(program, name, exchange, **settings):
+    """What a run over a name that is answered one edit writes and says, where the store is exchanged before the next one."""
+    run = subprocess.Popen([program, "run", name], stdin=subprocess.PIPE, stdout=subprocess.PIPE, stderr=subprocess.PIPE, env=os.environ | settings)
     run.stdin.write(b"withdraw\t1\n")
     run.stdin.flush()
     first = run.stdout.readline()
-    WAYS[way](path)
+    exchange()
     written, said = run.communicate(b"withdraw\t2\n", timeout=SECONDS)
     return first + written, run.returncode, said
 
 
 def compare_exchanged(program, folder):
-    """Stores that are exchanged under an open run: the next edit is refused."""
-    for way in WAYS:
-        path = str(Path(folder) / f"exchanged {way}.cube")
-        hand_made(path)
-        hand_made(f"{path} other")
-        must(exchanged(program, path, way), (b"ok\t1\n", FAILED, fault_of(path, EXCHANGED, 1)), f"a store {way}")
-    print(f"{len(WAYS)} ways to exchange a store under a run")
+    """Stores that are exchanged under an open run, by their names and by links: the next edit is refused."""
+    for number, (way, exchange) in enumerate(WAYS.items()):
+        for kind in ("", " by a link"):
+            path = str(Path(folder) / f"exchanged {number}{kind}.cube")
+            hand_made(path)
+            hand_made(f"{path} other")
+            name = path
+            if kind:
+                name = f"{path} link"
+                os.symlink(path, name)
+            found = exchanged(program, name, lambda: exchange(path))
+            must(found, (b"ok\t1\n", FAILED, fault_of(name, EXCHANGED, 1)), f"a store {way}{kind}")
+    print(f"{2 * len(WAYS)} stores exchanged under a run")
 
 
 IO_ERROR = b"the system reported an I/O error"
 
 
 def compare_failing(program, folder):
-    """A disk that fails as a batch is synced: the batch may be there or not, and the store is sound."""
+    """A store that is exchanged as a batch is synced: it is not answered. A disk that fails then: the batch may be there or not, and the store is
+    sound."""
     if shutil.which("cc") is None:
         print("no C compiler (cc): a failing disk was not tried")
         return
     library = str(Path(folder) / "fail_sync.so")
     subprocess.run(["cc", "-O1", "-shared", "-fPIC", "-o", library, Path(__file__).with_name("fail_sync.c")], check=True)
+    for what in ("", "-wal"):
+        path = str(Path(folder) / f"exchanged at a sync{what}.cube")
+        hand_made(path)
+        # The library moves the other file over it at the first sync behind this.
+        found = exchanged(program, path, lambda: hand_made(f"{path} other"), LD_PRELOAD=library, FROM=f"{path} other", TO=f"{path}{what}")
+        must(found, (b"ok\t1\n", FAILED, fault_of(path, EXCHANGED, 1)), f"run where {path}{what} is exchanged at a sync")
     for error, reason in ((errno.EIO, IO_ERROR), (errno.ENOSPC, DISK_FULL)):
         path = str(Path(folder) / f"failing {error}.cube")
         hand_made(path)
@@ -561,7 +589,7 @@ def compare_failing(program, folder):
         must(found, (b"", FAILED, fault_of(path, reason)), f"run where a sync fails with {errno.errorcode[error]}")
         written, status, _ = told(program, ["check", path])
         must((written in (b"sound\t4\t5\n", b"sound\t3\t4\n"), status), (True, 0), f"check after {errno.errorcode[error]}")
-    print("a disk that fails, and one that is full, at a sync")
+    print("a disk that fails, one that is full, and a store that is exchanged, at a sync")
 
 
 def mounted(*words):

@@ -6,6 +6,7 @@ use fact_keeper::Keeper;
 use sqlite_file::Reason;
 use sqlite_keeper::SqlKeeper;
 use std::fs;
+use std::os::unix::fs::symlink;
 use std::test::Fail;
 
 /// What stands there first.
@@ -21,6 +22,8 @@ enum Made {
     Byte(&'static str, &'static str, usize, u8),
     /// The file of an empty script, and a second link to it.
     Linked(&'static str, &'static str),
+    /// A symbolic link, and the path to which it leads.
+    Link(&'static str, &'static str),
 }
 
 /// What stands there, the name that is loaded, why it is not to be had, and what that is called.
@@ -28,7 +31,7 @@ type Row = (Made, &'static str, Reason, &'static str);
 
 /// The byte of the damaged page says of which kind it is. The others stand in the text of a rule, at the end of the first page, and in that of an
 /// index, which has an expression then.
-const ROWS: [Row; 17] = [
+const ROWS: [Row; 19] = [
     (Made::Nothing, "", Reason::BadName, "not a name for a store"),
     (
         Made::Nothing,
@@ -114,6 +117,18 @@ const ROWS: [Row; 17] = [
         "its table alloc has a trigger, or an index with an expression or a WHERE",
     ),
     (
+        Made::Link("link1.cube", "moved.cube"),
+        "link1.cube",
+        Reason::LogAlone,
+        "a log with content stands beside no store: put the store back beside it, or remove the log",
+    ),
+    (
+        Made::Link("link2.cube", "none.cube"),
+        "link2.cube",
+        Reason::NotAFile,
+        "not a plain file",
+    ),
+    (
         Made::Nothing,
         "/dev/null",
         Reason::NotAFile,
@@ -172,6 +187,7 @@ fn make(rt: &HostRuntime, made: &Made) -> Result<(), Fail> {
             run_script(rt, path, "")?;
             fs::hard_link(rt, *path, *link)?;
         }
+        Made::Link(path, target) => symlink(rt, *target, *path)?,
     }
     Ok(())
 }
@@ -209,10 +225,11 @@ fn are_rows(rt: &HostRuntime, rows: &[Row]) -> Result<bool, Fail> {
     Ok(true)
 }
 
-/// No log beside what is no store, and nothing where there was nothing.
-const NOT_MADE: [&str; 5] = [
+/// No log beside what is no store or a link, and nothing where there was nothing.
+const NOT_MADE: [&str; 6] = [
     "text.cube-wal",
     "short.cube-wal",
+    "link1.cube-wal",
     "crashed.cube",
     "none.cube",
     "none.cube-wal",
@@ -227,6 +244,55 @@ fn each_reason_is_told(rt: HostRuntime) -> Result<(), Fail> {
     let told = are_rows(&rt, &ROWS)?;
     assert!(rt; told && reason_at(&rt, "none.cube").is_none());
     assert!(rt; !NOT_MADE.iter().any(|path| is_made(&rt, path)));
+    Ok(())
+}
+
+/// Files beside which there is no log: one that is read, one of which a table is refused, and one that cannot be opened.
+const BARE: [(Made, &str, &str); 3] = [
+    (
+        Made::Sql("read.cube", "CREATE TABLE other (a TEXT)"),
+        "read.cube",
+        "read.cube-wal",
+    ),
+    (
+        Made::Sql("view.cube", "CREATE VIEW fact AS SELECT 1 AS id"),
+        "view.cube",
+        "view.cube-wal",
+    ),
+    (
+        Made::Byte("worn.cube", "CREATE TABLE other (a TEXT)", 4096, 255),
+        "worn.cube",
+        "worn.cube-wal",
+    ),
+];
+
+/// Whether loads of files beside which there is no log leave none.
+fn leave_no_log(rt: &HostRuntime, rows: &[(Made, &str, &str)]) -> Result<bool, Fail> {
+    for (made, path, log) in rows {
+        make(rt, made)?;
+        fs::remove_file(rt, *log)?;
+        let _ = reason_at(rt, path);
+        if is_made(rt, log) {
+            return Ok(false);
+        }
+    }
+    Ok(true)
+}
+
+/// Whether the first batch is kept in a file beside which there is no log.
+fn is_kept(rt: &HostRuntime, path: &str) -> Result<bool, Memory> {
+    let first = batch_of(rt.alloc(), &FIRST)?;
+    let mut keeper = SqlKeeper::new(rt);
+    let kept = keeper.load(rt.alloc(), path).is_ok() && keeper.commit(&first).is_ok();
+    drop(keeper);
+    Ok(kept)
+}
+
+#[test]
+fn a_load_alone_leaves_no_log(rt: HostRuntime) -> Result<(), Fail> {
+    let left = leave_no_log(&rt, &BARE)?;
+    let kept = is_kept(&rt, "read.cube")?;
+    assert!(rt; left && kept && is_made(&rt, "read.cube-wal"));
     Ok(())
 }
 
@@ -246,11 +312,28 @@ fn are_told(rt: &HostRuntime) -> Result<bool, Memory> {
     Ok(in_use && put && refused && reason == Some(Reason::Exchanged))
 }
 
+/// Commits to a store that is opened by a link, and then to one whose log was removed from beside the file.
+fn is_told_by_link(rt: &HostRuntime) -> Result<bool, Memory> {
+    let first = batch_of(rt.alloc(), &FIRST)?;
+    let second = batch_of(rt.alloc(), &SECOND)?;
+    let mut keeper = SqlKeeper::new(rt);
+    let opened = keeper.load(rt.alloc(), "link.cube").is_ok();
+    let kept = opened && keeper.commit(&first).is_ok();
+    let removed = fs::remove_file(rt, "target.cube-wal").is_ok();
+    let refused = opened && keeper.commit(&second).is_err();
+    let reason = keeper.reason();
+    drop(keeper);
+    Ok(kept && removed && refused && reason == Some(Reason::Exchanged))
+}
+
 #[test]
 fn stores_in_use_and_exchanged_are_told(rt: HostRuntime) -> Result<(), Fail> {
     run_script(&rt, "table.cube", "CREATE TABLE other (a TEXT)")?;
     let told = are_told(&rt)?;
-    assert!(rt; told);
+    run_script(&rt, "target.cube", "CREATE TABLE other (a TEXT)")?;
+    symlink(&rt, "target.cube", "link.cube")?;
+    let told_by_link = is_told_by_link(&rt)?;
+    assert!(rt; told && told_by_link);
     Ok(())
 }
 

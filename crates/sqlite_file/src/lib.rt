@@ -5,6 +5,7 @@ mod blob;
 mod fault;
 mod file;
 mod layout;
+mod left;
 mod place;
 mod reading;
 mod reason;

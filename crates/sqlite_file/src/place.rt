@@ -10,7 +10,7 @@ use std::{fs, io};
 const HEAD: &[u8; 16] = b"SQLite format 3\0";
 
 /// A file is a store from so many bytes on. One that was only just made may have a byte.
-const LEAST: u64 = 2;
+pub(crate) const LEAST: u64 = 2;
 
 /// What stands at the path of a store.
 #[derive(Clone, Copy, Debug, PartialEq, Eq)]
@@ -21,28 +21,7 @@ pub enum Standing {
     Database,
 }
 
-/// A file and its log as they were left.
-#[derive(Clone, Copy, Debug, PartialEq, Eq)]
-pub(crate) struct Left {
-    file: Option<Stamp>,
-    log: Option<Stamp>,
-}
-
-/// No file and no log: no store that is open was left so.
-pub(crate) const NOWHERE: Left = Left {
-    file: None,
-    log: None,
-};
-
-/// Which file it is, and its length.
-#[derive(Clone, Copy, Debug, PartialEq, Eq)]
-struct Stamp {
-    device: u64,
-    node: u64,
-    len: u64,
-}
-
-/// Looks at what stands at a path, and beside it.
+/// Looks at what stands at a path, and beside it. Where symbolic links lead to a file, that is beside the file.
 ///
 /// `Outside` comes where no store can be there: by its name, its folder or its kind of file; where a log with content stands beside no
 /// store, which an open would empty; where a journal does, which an open would pass over; where the file has a second hard link; and
@@ -51,6 +30,12 @@ pub fn look(rt: &HostRuntime, path: &str) -> Result<Standing, Fault> {
     if is_bad_name(path) {
         return Err(Fault::Outside(Reason::BadName));
     }
+    let real = real_path(rt, path)?;
+    look_beside(rt, real.as_str())
+}
+
+/// The same, of a path that no link is in, or at which there is no file.
+fn look_beside(rt: &HostRuntime, path: &str) -> Result<Standing, Fault> {
     if len_beside(rt, path, "-journal")? > 0 {
         return Err(Fault::Outside(Reason::Journal));
     }
@@ -58,10 +43,7 @@ pub fn look(rt: &HostRuntime, path: &str) -> Result<Standing, Fault> {
     match found_at(rt, path)? {
         Some(file) if file.len() >= LEAST => look_at_file(rt, path, &file, log),
         Some(_) => without_store(log),
-        None => {
-            find_folder(rt, path)?;
-            without_store(log)
-        }
+        None => look_at_no_file(rt, path, log),
     }
 }
 
@@ -77,6 +59,16 @@ fn without_store(log: u64) -> Result<Standing, Fault> {
     } else {
         Ok(Standing::Nothing)
     }
+}
+
+/// What stands where there is no file, beside a log of a length.
+fn look_at_no_file(rt: &HostRuntime, path: &str, log: u64) -> Result<Standing, Fault> {
+    find_folder(rt, path)?;
+    // No file is made through a link.
+    if fs::symlink_metadata(rt, path).is_ok() {
+        return Err(Fault::Outside(Reason::NotAFile));
+    }
+    without_store(log)
 }
 
 /// What stands where there is a file, beside a log of a length.
@@ -132,8 +124,19 @@ fn len_beside(rt: &HostRuntime, path: &str, behind: &str) -> Result<u64, Fault> 
     }
 }
 
+/// The path of a file with no link in it, beside which its log lies. Where there is no file it is the path itself.
+pub(crate) fn real_path(rt: &HostRuntime, path: &str) -> Result<String, Fault> {
+    match fs::canonicalize(rt, path) {
+        Ok(real) => Ok(real.into_string()),
+        Err(error) if error.kind() == ErrorKind::NotFound => {
+            Ok(String::from_str(rt.alloc(), path)?)
+        }
+        Err(error) => Err(fault_of(&error)),
+    }
+}
+
 /// A path with something behind it.
-fn path_beside(rt: &HostRuntime, path: &str, behind: &str) -> Result<String, Fault> {
+pub(crate) fn path_beside(rt: &HostRuntime, path: &str, behind: &str) -> Result<String, Fault> {
     let mut beside = String::from_str(rt.alloc(), path)?;
     beside.push_str(behind)?;
     Ok(beside)
@@ -151,30 +154,8 @@ fn find_folder(rt: &HostRuntime, path: &str) -> Result<(), Fault> {
     }
 }
 
-/// The file at a path and its log, as they stand.
-pub(crate) fn left_at(rt: &HostRuntime, path: &str) -> Result<Left, Fault> {
-    let log = path_beside(rt, path, "-wal")?;
-    Ok(Left {
-        file: stamp_at(rt, path)?,
-        log: stamp_at(rt, log.as_str())?,
-    })
-}
-
-/// A file as it stands at a path, if there is one.
-fn stamp_at(rt: &HostRuntime, path: &str) -> Result<Option<Stamp>, Fault> {
-    match fs::metadata(rt, path) {
-        Ok(found) => Ok(Some(Stamp {
-            device: found.dev(),
-            node: found.ino(),
-            len: found.len(),
-        })),
-        Err(error) if error.kind() == ErrorKind::NotFound => Ok(None),
-        Err(error) => Err(fault_of(&error)),
-    }
-}
-
 /// What an error of the system counts as.
-fn fault_of(error: &io::Error) -> Fault {
+pub(crate) fn fault_of(error: &io::Error) -> Fault {
     match error.kind() {
         ErrorKind::OutOfMemory => Fault::Memory,
         ErrorKind::PermissionDenied | ErrorKind::ReadOnlyFilesystem => {

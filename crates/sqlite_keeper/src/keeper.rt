@@ -14,7 +14,7 @@ use std::marker::Model;
 #[derive(Drop)]
 pub struct SqlKeeper<'rt> {
     rt: &'rt HostRuntime,
-    file: Option<StoreFile>,
+    file: Option<StoreFile<'rt>>,
     // Whether nothing was kept at the name when it was loaded, so that no file was opened.
     is_new: bool,
     // It outlives the file, which a load that fails has closed.
@@ -121,7 +121,7 @@ impl<'rt> SqlKeeper<'rt> {
             self.make()?;
         }
         match &mut self.file {
-            Some(file) => file.write(self.rt, batch),
+            Some(file) => file.write(batch),
             // A load that failed has closed the file.
             None => Err(Fault::Outside(Reason::Closed)),
         }
@@ -176,11 +176,11 @@ impl Keeper for SqlKeeper<'_> {
 }
 
 /// Opens the file at a path, and reads its content.
-fn opened_file(
-    rt: &HostRuntime,
+fn opened_file<'rt>(
+    rt: &'rt HostRuntime,
     alloc: Global,
     path: &str,
-) -> Result<(Option<StoreFile>, Stored), Fault>
+) -> Result<(Option<StoreFile<'rt>>, Stored), Fault>
     ensures { IfOk result (λ opened. opened.0 ≡ Some path.now) }
 {
     let mut file = StoreFile::open(rt, path)?;
@@ -189,7 +189,7 @@ fn opened_file(
 }
 
 /// Makes the file at a path, where there must still be nothing.
-fn made_file(rt: &HostRuntime, path: &str) -> Result<StoreFile, Fault>
+fn made_file<'rt>(rt: &'rt HostRuntime, path: &str) -> Result<StoreFile<'rt>, Fault>
     ensures { IfOk result (λ file. file ≡ path.now) }
 {
     if look(rt, path)? != Standing::Nothing {
