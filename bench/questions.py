@@ -153,9 +153,9 @@ class Questions(Bench):
 
 
 def mixed_jobs(bench):
-    whole = bench.ask("mixed: terms of the whole", of_mixed, line("terms", *WHOLE), 20)
-    bench.ask("mixed: a table of 3,328 regions", of_mixed, line("counts", 2, 2, 0, *WHOLE), 20, whole)
-    bench.ask("mixed: a table of 64 regions", of_mixed, line("sums", "Amount", 2, 0, 0, *WHOLE), 20, whole)
+    whole = bench.ask("mixed: terms of the whole", of_mixed, line("terms", *WHOLE), 200)
+    bench.ask("mixed: a table of 3,328 regions", of_mixed, line("counts", 2, 2, 0, *WHOLE), 100, whole)
+    bench.ask("mixed: a table of 64 regions", of_mixed, line("sums", "Amount", 2, 0, 0, *WHOLE), 100, whole)
     region = ("p1", "t1.2", "All")
     part = bench.ask("mixed: terms of a region", of_mixed, line("terms", *region), 20_000)
     bench.ask("mixed: range of it", of_mixed, line("range", "Amount", *region), 20_000, part)

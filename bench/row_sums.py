@@ -24,7 +24,7 @@ from stores import Wrong, call, must
 
 SQLITE = shutil.which("sqlite3")
 LEAVES = b"8"  # no tree is deeper
-DIGITS = 1e-9  # of a float, by which sums of some rows may differ
+DIGITS = 1e-9  # of a float, by which sums of some rows may differ, beside what their amounts without signs add up to
 
 
 # SQLite.
@@ -35,8 +35,12 @@ def quoted(name):
 
 
 def share(value=None):
+    return f"sum({part(value)})"
+
+
+def part(value=None):
     factors = ["1.0", *([] if value is None else [quoted(value)]), "weight"]
-    return f'sum({" * ".join(factors)} / "of")'
+    return f'{" * ".join(factors)} / "of"'
 
 
 def selected(folder, text, query):
@@ -50,12 +54,14 @@ def selected(folder, text, query):
 
 
 def added_up(folder, text, names, values):
-    """For each group of leaves the sums of the weights and of the values; and those over all rows."""
+    """For each group of leaves the sums of the weights and of the values, those over all rows, and the same of amounts without signs over all rows."""
     sums = ", ".join(f"{share(value)} AS sum{k}" for k, value in enumerate([None, *values]))
     columns = ", ".join(f"{quoted(name)} AS leaf{k}" for k, name in enumerate(names))
     groups = selected(folder, text, f"SELECT {columns}, {sums} FROM rows GROUP BY {', '.join(map(quoted, names))}")
     whole = selected(folder, text, f"SELECT {sums} FROM rows")
-    return {tuple(row[: len(names)]): row[len(names) :] for row in groups}, whole[0]
+    amounts = ", ".join(f"sum(abs({part(value)})) AS amount{k}" for k, value in enumerate([None, *values]))
+    most = selected(folder, text, f"SELECT {amounts} FROM rows")
+    return {tuple(row[: len(names)]): row[len(names) :] for row in groups}, whole[0], most[0]
 
 
 # The answers.
@@ -88,10 +94,11 @@ def answers(schema, facts, values):
 # The comparison.
 
 
-def must_agree(found, wanted, what):
+def must_agree(found, wanted, most, what):
     must(len(found), len(wanted), f"numbers of {what}")
-    for number, right in zip(found, wanted):
-        must(math.isclose(number, right, rel_tol=DIGITS, abs_tol=DIGITS), True, f"{number} for {right} in {what}")
+    for number, right, amount in zip(found, wanted, most):
+        within = DIGITS * max(amount, 1)
+        must(math.isclose(number, right, rel_tol=DIGITS, abs_tol=within), True, f"{number} for {right} in {what}")
 
 
 def rows_text(program, folder, number, schema, script):
@@ -121,12 +128,12 @@ def compare_case(program, folder, seed, number):
     header = ["id", *names, "weight", "of", *(m.name.decode() for m in schema.measures)]
     if not facts or len({name.lower() for name in header}) < len(header):
         return False
-    groups, whole = added_up(folder, text, names, [value.decode() for value in values])
+    groups, whole, most = added_up(folder, text, names, [value.decode() for value in values])
     wanted, all_wanted = answers(schema, facts, values)
     must(sorted(groups), sorted(wanted), "regions")
     for region, numbers in wanted.items():
-        must_agree(groups[region], numbers, f"region {region}")
-    must_agree(whole, all_wanted, "the whole")
+        must_agree(groups[region], numbers, most, f"region {region}")
+    must_agree(whole, all_wanted, most, "the whole")
     return True
 
 
@@ -148,7 +155,7 @@ def compare_worked(program, folder):
         found = selected(folder, text, query)
         must([row[:-2] for row in found], [row[:-2] for row in wanted], query)
         for row, right in zip(found, wanted):
-            must_agree(row[-2:], right[-2:], query)
+            must_agree(row[-2:], right[-2:], [0, 0], query)
 
 
 def main():
