@@ -84,12 +84,12 @@ impl<'rt> StoreFile<'rt> {
         let before = self.found()?;
         self.is_log_spare = false;
         let written = write_batch(self.rt.alloc(), &mut self.conn, batch);
-        self.left = self.left_after(&before);
-        written?;
-        match self.left {
-            Some(_) => Ok(()),
-            None => Err(Fault::Outside(Reason::Exchanged)),
-        }
+        let (left, looked) = match self.left_after(&before) {
+            Ok(left) => (Some(left), Ok(())),
+            Err(fault) => (None, Err(fault)),
+        };
+        self.left = left;
+        written.and(looked)
     }
 
     /// The file and its log, where the path still leads to those that are open, and they are as they were left.
@@ -100,11 +100,12 @@ impl<'rt> StoreFile<'rt> {
         }
     }
 
-    /// The file and its log as a write left them, where they are those that it began with. One that cannot be looked at is not.
-    fn left_after(&self, before: &Left) -> Option<Left> {
-        match left_at(self.rt, self.path.as_str(), self.log.as_str()) {
-            Ok(Some(left)) if left.goes_on(before) => Some(left),
-            _ => None,
+    /// The file and its log as a write left them, which are still those that it began with. Where they cannot be looked at, no batch more is
+    /// taken.
+    fn left_after(&self, before: &Left) -> Result<Left, Fault> {
+        match left_at(self.rt, self.path.as_str(), self.log.as_str())? {
+            Some(left) if left.goes_on(before) => Ok(left),
+            _ => Err(Fault::Outside(Reason::Exchanged)),
         }
     }
 }
