@@ -24,6 +24,7 @@ import plain_model
 import stores
 
 LINES = 4000
+FOLLOWED = 1000  # lines behind which a follower's feed ends: it is followed anew after each kill
 NODES = 40
 
 
@@ -38,11 +39,11 @@ def grown(random, names):
     return f"grow\tPlace\t{parent}\t{name}\n", [*names, name]
 
 
-def script(random):
+def script(random, count):
     """Lines, none of which is refused, with what is kept after each: the facts' nodes and values by id, and how many nodes there are."""
     names = ["All", "TX", *(f"city{k}" for k in range(NODES))]
     facts, lines, states = {}, [], [({}, len(names))]
-    for k in range(LINES):
+    for k in range(count):
         kind = random.random()
         if kind < 0.01:
             line, names = grown(random, names)
@@ -86,7 +87,7 @@ def done_at(program, path, states, answered):
 def killed_run(program, folder, number, random):
     path = str(Path(folder) / f"{number}.cube")
     stores.must(stores.call(program, ["init", path], schema())[:2], (b"ok\t0\n", 0), "init")
-    text, states = script(random)
+    text, states = script(random, LINES)
     answered = killed(program, ["run", path], folder, text, random.random() * 1.5)
     return answered, done_at(program, path, states, answered)
 
@@ -98,13 +99,13 @@ class Leader:
         path, second = str(Path(folder) / "leader.cube"), str(Path(folder) / "whole.cube")
         for left in Path(folder).glob("*.cube*"):
             left.unlink()
-        text, self.states = script(random)
+        text, self.states = script(random, FOLLOWED)
         stores.must(stores.call(program, ["init", path], schema())[:2], (b"ok\t0\n", 0), "init")
         self.feed, status, said = stores.call(program, ["lead", path], text)
         stores.must((status, said), (0, b""), "lead")
         self.tables = stores.tables(path)
         start = time.time()
-        self.must_follow(program, second, self.feed, LINES)
+        self.must_follow(program, second, self.feed, FOLLOWED)
         self.seconds = time.time() - start
 
     def must_follow(self, program, path, feed, count):
@@ -119,7 +120,7 @@ def killed_follower(program, folder, number, random, leader):
     answered = killed(program, ["follow", path], folder, leader.feed, random.random() * leader.seconds)
     if stores.call(program, ["check", path]) == (b"", 4, b"cube: no cube\n"):
         stores.must(answered, 0, "answers before the base was kept")
-        leader.must_follow(program, path, leader.feed, LINES)
+        leader.must_follow(program, path, leader.feed, FOLLOWED)
         return 0, 0
     done = done_at(program, path, leader.states, answered)
     stores.must(done - answered in (0, 1), True, f"batch {done} taken and {answered} answered")
@@ -128,7 +129,7 @@ def killed_follower(program, folder, number, random, leader):
     base, status, said = stores.call(program, ["lead", path])
     stores.must((status, said), (0, b""), "lead of what is left")
     rest = feeds.text_of(feeds.rest_of(plain_model.lines_of(leader.feed), done))
-    leader.must_follow(program, path, base + rest, LINES - done)
+    leader.must_follow(program, path, base + rest, FOLLOWED - done)
     return answered, done
 
 
@@ -152,7 +153,7 @@ def main():
         return 1
     finally:
         shutil.rmtree(folder)
-    whole = sum(done == LINES for _, done in ends)
+    whole = sum(done == (FOLLOWED if follow else LINES) for _, done in ends)
     what = "followers" if follow else "runs"
     beyond = max(done - answered for answered, done in ends)
     print(f"{runs} {what} killed, {whole} of them at their end; up to {beyond} lines were kept beyond the answered ones; all stores sound")
