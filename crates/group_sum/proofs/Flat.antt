@@ -1,12 +1,12 @@
 -- Terms that are kept as their denominators and their numerators: where the row of a term stands, and what a write and an
 -- insertion do.
-use Rattle.std.proofs.Common.{◌≡◌, ℕ, zero, suc, ◌+◌, ◌-◌, ◌*◌, ◌<◌, ◌≤◌, true, List, [], ◌∷◌, ◌++◌, length, take, drop, set, get_or, replicate, Result, Ok, Err, ℤ, pos, sym, ap, subst, ◌∙◌, refl, arith, append-nil, append_assoc, zero-add, suc-add}
+use Rattle.std.proofs.Common.{◌≡◌, ℕ, zero, suc, ◌+◌, ◌-◌, ◌*◌, ◌<◌, ◌≤◌, true, List, [], ◌∷◌, ◌++◌, length, take, drop, set, get_or, replicate, reverse, Result, Ok, Err, ℤ, pos, sym, ap, subst, ◌∙◌, refl, arith, append-nil, append_assoc, zero-add, suc-add}
 use Rattle.std.specs.List.{copy_within, insert}
 use borrow.Rule.Slice.PartMut.{put_mid}
 use Rattle.std.proofs.Math.Nat.{suc-mul, zero-mul}
 use Rattle.std.proofs.Math.Seq.{take-append-add, drop-append-add}
 use Rattle.std.proofs.lemmas.Bool.Decides.{nat_tests}
-use Rattle.std.proofs.lemmas.List.{drop-drop, drop_more, length-append, length-map, map-append, map-set, set_split, take_at, drop_at, length-replicate, get_or-set_same, set-get_or, replicate-append-replicate, get_or_default, take_all, drop_all, take_rest, drop-append-le, take-append-le, length-drop}
+use Rattle.std.proofs.lemmas.List.{drop-drop, drop_more, length-append, length-reverse, reverse-append, reverse-reverse, take-append-drop, length-map, map-append, map-set, set_split, take_at, drop_at, length-replicate, get_or-set_same, set-get_or, replicate-append-replicate, get_or_default, take_all, drop_all, take_rest, drop-append-le, take-append-le, length-drop}
 use Rattle.std.proofs.lemmas.List.Concat.{flat_map-append}
 use Rattle.cube_model.specs.declared.term.Term.{Term}
 use Rattle.cube_base.proofs.Search.{Searched}
@@ -133,6 +133,24 @@ turned nums row start columns le len all turn is_all is_turn =
     let front : take start all ≡ take start nums = ap (take start) is_all ∙ take-append-le start nums row le in
     let none : drop (length all - start) (drop start all) ≡ [] = drop_all (length all - start) (drop start all) (omega (arith, length-drop start all)) in
     rw (front, turn_is, none, append-nil) refl
+
+-- reversed as a whole, then each of two parts, the parts have changed places
+pub turned_by_parts : (xs : List ℤ) (by : ℕ) → by ≤ length xs → (front all back : List ℤ)
+    → front ≡ reverse (take by (reverse xs)) → all ≡ front ++ drop by (reverse xs) → back ≡ reverse (take (length all - by) (drop by all))
+    → put_mid by (length all - by) all back ≡ drop (length xs - by) xs ++ take (length xs - by) xs
+turned_by_parts xs by le front all back is_front is_all is_back =
+    let p = take (length xs - by) xs in
+    let q = drop (length xs - by) xs in
+    let many : length (reverse q) ≡ by = omega (arith, length-reverse q, length-drop (length xs - by) xs) in
+    let parts : reverse xs ≡ reverse q ++ reverse p = ap reverse (sym (take-append-drop (length xs - by) xs)) ∙ reverse-append p q in
+    let front_is : front ≡ q = is_front ∙ rw (parts, take_at (reverse q) (reverse p) by many) (reverse-reverse q) in
+    let all_is : all ≡ q ++ reverse p = is_all ∙ rw (front_is, parts, drop_at (reverse q) (reverse p) by many) refl in
+    let long : length q ≡ by = omega (arith, length-drop (length xs - by) xs) in
+    let behind : drop by all ≡ reverse p = ap (drop by) all_is ∙ drop_at q (reverse p) by long in
+    let back_is : back ≡ p = is_back ∙ rw (take_rest all by, behind) (reverse-reverse p) in
+    let before : take by all ≡ q = ap (take by) all_is ∙ take_at q (reverse p) by long in
+    let none : drop (length all - by) (drop by all) ≡ [] = drop_all (length all - by) (drop by all) (omega (arith, length-drop by all)) in
+    rw (before, back_is, none, append-nil) refl
 
 module _ (columns : ℕ) (terms : List Term) (dens : List ℕ) (nums : List ℤ) (flat : IsFlat columns terms dens nums) where
   -- the lists are read as the terms

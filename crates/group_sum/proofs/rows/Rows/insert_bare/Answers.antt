@@ -17,13 +17,13 @@ start-from-requires c =
     let len : length c.resize.new.self.items ≡ length c.self.inside.nums.items + c.self.inside.columns = search rules in
     rw c.deref.ensures.value (omega (arith, gap, len))
 
-pub rotate_right-requires : goal.rotate_right-requires
-rotate_right-requires c =
+pub turn_right-requires : goal.turn_right-requires
+turn_right-requires c =
     rw (take_rest, length-drop) (omega arith)
 
 -- the term is put in between
 put_in : (c : goal.After-self-1) → IsFlat c.self.inside.columns (insert (terms_in c.self.inside.columns c.self.inside.dens.items c.self.inside.nums.items) c.args.at (bare_term c.args.den (c.self.inside.columns - 1)))
-    c.insert.new.self.items (with_items c.resize.new.self (put_mid c.start-from.result (length c.deref_mut.result.now - c.start-from.result) c.deref_mut.result.now c.rotate_right.new.self)).items
+    c.insert.new.self.items (with_items c.resize.new.self (put_mid c.start-from.result (length c.deref_mut.result.now - c.start-from.result) c.deref_mut.result.now c.turn_right.new.items)).items
 put_in c =
     let at = rw (← c.self.view_is) at c.requires in
     let some = c.self.invariant.some in
@@ -32,8 +32,8 @@ put_in c =
     let grown : c.resize.new.self.items ≡ c.self.inside.nums.items ++ replicate c.self.inside.columns (pos 0) =
     c.in_ok-resize.ensures.items ∙ resized c.self.inside.nums.items (vec_len c.self.inside.nums) (c.len-len.result + c.self.inside.columns) c.self.inside.columns (pos 0) (search rules) (search rules) in
     let turn = turned c.self.inside.nums.items (replicate c.self.inside.columns (pos 0)) c.start-from.result c.self.inside.columns start (length-replicate c.self.inside.columns (pos 0))
-    c.deref_mut.result.now c.rotate_right.new.self (c.deref_mut.ensures.value ∙ grown) c.rotate_right.ensures.after in
-    let items = with_items_is c.resize.new.self (put_mid c.start-from.result (length c.deref_mut.result.now - c.start-from.result) c.deref_mut.result.now c.rotate_right.new.self) (search rules) in
+    c.deref_mut.result.now c.turn_right.new.items (c.deref_mut.ensures.value ∙ grown) c.turn_right.ensures in
+    let items = with_items_is c.resize.new.self (put_mid c.start-from.result (length c.deref_mut.result.now - c.start-from.result) c.deref_mut.result.now c.turn_right.new.items) (search rules) in
     let dens : c.insert.new.self.items ≡ insert c.self.inside.dens.items c.args.at c.args.den = search rules in
     let row = row_of-bare c.args.den c.self.inside.columns some in
     let flat = flat-insert _ _ _ _ c.self.invariant c.args.at at (bare_term c.args.den (c.self.inside.columns - 1)) (ap (λ (r : List ℤ). length r) row ∙ length-replicate c.self.inside.columns (pos 0)) in
