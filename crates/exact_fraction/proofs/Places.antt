@@ -1,6 +1,6 @@
 -- The digits of a quotient.
-use Rattle.std.proofs.Common.{◌≡◌, ℕ, ◌+◌, ◌*◌, ◌/◌, ◌%◌, ◌^◌, ◌<◌, ◌≤◌, arith, add-one}
-use Rattle.std.proofs.Math.Nat.{pow-suc, pow-le-pow_right, mul-le-mul, le_of_mul-le-mul_right}
+use Rattle.std.proofs.Common.{◌≡◌, ℕ, ◌+◌, ◌*◌, ◌/◌, ◌%◌, ◌^◌, ◌<◌, ◌≤◌, arith, add-one, ap}
+use Rattle.std.proofs.Math.Nat.{pow-suc, pow-le-pow_right, mul-le-mul, mul-le-mul_right, le_of_mul-le-mul_right}
 use Rattle.exact_fraction.specs.Fraction.{UNIT}
 use Rattle.exact_fraction.specs.Signed.{MOST_WHOLE}
 
@@ -20,3 +20,18 @@ module _ (size den whole rest place : ℕ) (parts : whole * den + rest ≡ size 
     where
       scaled : (power : ℕ) → whole * den + rest ≡ size * power → size * power ≤ MOST_WHOLE * den * UNIT → whole * den ≤ MOST_WHOLE * UNIT * den
       scaled power e le = omega (arith, e, le)
+
+module _ (size den units : ℕ) (some : 0 < den) where
+  -- all digits at once
+  pub units_at_once : (size / den * units + size % den * units / den) * den + size % den * units % den ≡ size * units
+  units_at_once = scaled (size / den) (size % den) (size % den * units / den) (size % den * units % den) (omega (arith, some)) (omega (arith, some))
+    where
+      scaled : (whole rest digits left : ℕ) → whole * den + rest ≡ size → digits * den + left ≡ rest * units → (whole * units + digits) * den + left ≡ size * units
+      scaled whole rest digits left parts now = omega (arith, ap (λ n. n * units) parts, now)
+
+  -- which are as few as the fraction allows
+  pub units_below : (whole left : ℕ) → whole * den + left ≡ size * units → size ≤ MOST_WHOLE * den → whole ≤ MOST_WHOLE * units
+  units_below whole left parts bound = le_of_mul-le-mul_right (scaled (mul-le-mul_right units bound)) some
+    where
+      scaled : size * units ≤ MOST_WHOLE * den * units → whole * den ≤ MOST_WHOLE * units * den
+      scaled le = omega (arith, parts, le)

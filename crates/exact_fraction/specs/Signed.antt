@@ -37,6 +37,10 @@ MOST_WHOLE = 2 ^ 80
 abbrev pub MOST_PART : ℕ
 MOST_PART = 2 ^ 60
 
+-- the largest denominator for which a number below it, in units, has 64 bits
+abbrev pub SMALL_DEN : ℕ
+SMALL_DEN = 18_446_744_073
+
 -- p is the fraction at a place of a column, which is a moderate one
 pub record IsFractionAt (column : ℕ) (terms : List Term) (i : ℕ) (p : SignedFraction) : Type 0 where
   pub next : drop i (column_fractions column terms) ≡ fraction_of p ∷ drop (i + 1) (column_fractions column terms)

@@ -2,12 +2,18 @@
 ghost use Rattle.std.specs.Prelude.{◌≡◌, ◌+◌, ◌*◌, ◌<◌, ◌≤◌};
 ghost use Rattle.cube_model.specs.Limits.{WIDE};
 ghost use Rattle.exact_fraction.specs.Fraction.{UNIT, reduced, floor_of, ceiling_of};
-ghost use Rattle.exact_fraction.specs.Signed.{MOST_WHOLE, fraction_of, signed_lowest, next_above, signed_over, signed};
+ghost use Rattle.exact_fraction.specs.Signed.{MOST_WHOLE, SMALL_DEN, fraction_of, signed_lowest, next_above, signed_over, signed};
 
 use crate::gcd::gcd;
 
 /// The decimal digits of a bound behind the point.
 const PLACES: u32 = 9;
+
+/// How many units are one.
+const UNITS: u64 = 1_000_000_000;
+
+/// The largest denominator for which a number below it, times the units of one, has 64 bits.
+const SMALL_DEN: u128 = 18_446_744_073;
 
 /// A fraction: its size over a denominator, negative or not.
 #[derive(Clone, Copy, Drop)]
@@ -86,8 +92,39 @@ fn next_above(whole: u128, rest: u128) -> u128
     if rest == 0 { whole } else { whole + 1 }
 }
 
-// The whole units of a fraction, digit by digit, and what is left over.
+// The whole units of a fraction, and what is left over.
 fn units(size: u128, den: u128) -> (u128, u128)
+    requires some { 1 ≤ den }
+    requires den { den ≤ WIDE }
+    requires size { size ≤ MOST_WHOLE * den }
+    ensures parts { result.0 * den + result.1 ≡ size * UNIT }
+    ensures rest { result.1 < den }
+    ensures within { result.0 ≤ MOST_WHOLE * UNIT }
+{
+    if den <= SMALL_DEN {
+        units_at_once(size, den as u64)
+    } else {
+        units_by_digits(size, den)
+    }
+}
+
+// The same over a small denominator: what a whole part leaves over is, in units, a number of 64 bits.
+fn units_at_once(size: u128, den: u64) -> (u128, u128)
+    requires some { 1 ≤ den }
+    requires den { den ≤ SMALL_DEN }
+    requires size { size ≤ MOST_WHOLE * den }
+    ensures parts { result.0 * den + result.1 ≡ size * UNIT }
+    ensures rest { result.1 < den }
+    ensures within { result.0 ≤ MOST_WHOLE * UNIT }
+{
+    let wide = u128::from(den);
+    let rest = (size % wide) as u64 * UNITS;
+    let units = size / wide * u128::from(UNITS) + u128::from(rest / den);
+    (units, u128::from(rest % den))
+}
+
+// The same over any denominator, digit by digit.
+fn units_by_digits(size: u128, den: u128) -> (u128, u128)
     requires some { 1 ≤ den }
     requires den { den ≤ WIDE }
     requires size { size ≤ MOST_WHOLE * den }

@@ -8,6 +8,9 @@ use cube_model::WIDE;
 // The largest number of 64 bits.
 const NARROW: u128 = 0xffff_ffff_ffff_ffff;
 
+// The product of two numbers up to this one is within the limit.
+const SHORT: u128 = 0x1000_0000_0000_0000;
+
 /// The greatest common divisor of two numbers.
 pub fn gcd(a: u128, b: u128) -> u128
     requires { 1 ≤ b }
@@ -44,6 +47,9 @@ fn narrow_gcd(a: u64, b: u64) -> u64
 pub fn product_within(x: u128, y: u128) -> Option<u128>
     ensures { result ≡ within (x * y) }
 {
+    if x <= SHORT && y <= SHORT {
+        return Some(x * y);
+    }
     if y == 0 {
         return Some(0);
     }

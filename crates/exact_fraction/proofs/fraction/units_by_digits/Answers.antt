@@ -1,6 +1,6 @@
 use Rattle.std.proofs.Common.{arith}
 use Rattle.exact_fraction.proofs.Places.{digit_next, whole_below}
-use Rattle.exact_fraction.proofs.fraction.units.Goals as goal
+use Rattle.exact_fraction.proofs.fraction.units_by_digits.Goals as goal
 
 pub overflow_mul-whole : goal.overflow_mul-whole
 overflow_mul-whole c =

@@ -1,5 +1,5 @@
 use Rattle.std.proofs.Common.{◌≡◌, ◌+◌, ◌*◌, ◌^◌, ◌<◌}
-use Rattle.exact_fraction.proofs.fraction.units.Given as goal
+use Rattle.exact_fraction.proofs.fraction.units_by_digits.Given as goal
 
 -- the digits so far are those of the fraction
 abbrev pub invariant-loop-place : goal.invariant-loop-place
