@@ -1,11 +1,12 @@
 -- What a write at a key does to a map in which keys have places.
-use Rattle.std.proofs.Common.{◌≡◌, ℕ, true, false, cond, List, [], ◌∷◌, ◌||◌, ◌+◌, ◌<◌, take, drop, get_or, length, Some, None, eqb, ap, sym, ◌∙◌, arith}
+use Rattle.std.proofs.Common.{◌≡◌, ℕ, true, false, cond, List, [], ◌∷◌, ◌||◌, ◌+◌, ◌<◌, take, drop, get_or, length, Option, Some, None, eqb, ap, sym, ◌∙◌, arith}
 use Rattle.std.proofs.lemmas.Bool.{or_left}
 use Rattle.std.proofs.lemmas.Grind.{common_steps}
 use Rattle.std.proofs.lemmas.List.{take-append-drop, take_more}
 use Rattle.std.proofs.lemmas.List.Folds.{list_any-append}
 use Rattle.std.specs.Cmp.{nat_eq_equiv}
 use Rattle.std.specs.List.{All, list_any}
+use Rattle.staged_map.specs.Lends.{Stays}
 use Rattle.staged_map.specs.Staged.{Places, Reserves, ReservesSome, Sets, has_place, place_of}
 
 module _ {V : Type 0} (old new : Places V) (key : ℕ) where
@@ -17,6 +18,12 @@ module _ {V : Type 0} (old new : Places V) (key : ℕ) where
     values = λ k. grind (arith, common_steps, writes k);
     places = λ k. grind (arith, common_steps, there, writes k);
   }
+
+  -- what is written at a key that has a place is its own value again, and all stays
+  pub Stays-written : (value : Option V) → place_of old key ≡ Some value
+      → ((k : ℕ) → place_of new k ≡ cond (eqb key k) (Some value) (place_of old k))
+      → Stays old new
+  Stays-written value there writes k = grind (arith, common_steps, there, writes k)
 
   -- a key that has no place gets one
   pub Reserves-new : has_place old key ≡ false

@@ -2,7 +2,9 @@
 ghost use Rattle.std.specs.Prelude.{◌≡◌, ◌∷◌, ◌++◌, [], ◌<◌, ◌+◌, ◌==◌, ℕ, true, false, length, map, filter, take, slice_get, is_some, nat_eq, option_and_then, option_to_list, All, IfOk, IsOk, OnOk, OnErr};
 ghost use Rattle.std.specs.List.{IsDistinct};
 ghost use Rattle.std.specs.Map.{keys_of, lookup};
-ghost use Rattle.std.specs.Option.{option_copied};
+ghost use Rattle.std.specs.Borrow.{sem};
+ghost use Rattle.std.specs.Option.{option_copied, option_copied_mut};
+ghost use Rattle.staged_map.specs.Lends.{lends_value};
 ghost use Rattle.staged_map.specs.Staged.{AreKeys, AreOfDifferentKeys, PutsAll, Removes, Reserves, ReservesSome, Sets, has_place, have_places, held, held_of, held_copied, value_at};
 
 use cube_base::{Ids, Memory};
@@ -40,6 +42,14 @@ impl<V: Drop> Staged<V> {
         ensures { option_copied result ≡ value_at self.now key }
     {
         self.places.get(&key)?.as_ref()
+    }
+
+    /// The value at a key, to be changed in place. It takes no memory.
+    pub fn get_mut(&mut self, key: u64) -> Option<&mut V>
+        ensures* lends { sem 𝓛 (lends_value V.row self.entry key result) }
+        ensures value { option_copied_mut result ≡ value_at self.old key }
+    {
+        self.places.get_mut(&key)?.as_mut()
     }
 
     /// How many keys have a place, with a value or without. It takes no memory.
