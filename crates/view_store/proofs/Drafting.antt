@@ -1,7 +1,8 @@
 -- Drafts of entries: copies of terms, and the shares of rows that are added to them.
 use Rattle.std.proofs.Common.{◌≡◌, ℕ, zero, suc, ◌+◌, ◌*◌, ◌-◌, ◌<◌, ◌≤◌, Bool, true, false, List, [], ◌∷◌, ◌++◌, filter, length, get_or, refl, ap, sym, ◌∙◌, inl, inr, arith, pos, nat_abs, subst, take, drop, Option, Some, None, is_some, unwrap_or, add-one}
-use Rattle.std.specs.Prelude.{All, Err, Ok, OnOk, Result, if◌then◌else◌, ◌==◌, ◌&&◌, nat_le}
+use Rattle.std.specs.Prelude.{All, Err, IfSome, Ok, OnErr, OnOk, Result, if◌then◌else◌, ◌==◌, ◌&&◌, nat_le}
 use Rattle.std.specs.List.{list_all, sum_by}
+use Rattle.std.proofs.Math.Nat.{mul-le-mul}
 use Rattle.std.proofs.lemmas.Bool.{cases_eq}
 use Rattle.std.proofs.lemmas.Bool.Decides.{nat_tests}
 use Rattle.std.proofs.lemmas.Int.{ints}
@@ -18,12 +19,12 @@ use Rattle.group_sum.specs.Merge.{FitsMerge}
 use Rattle.group_sum.specs.Terms.{AddsUnits, AreTerms, FitsUnits, TermList, are_terms_from}
 use Rattle.group_sum.proofs.Ascending.{first_is}
 use Rattle.group_sum.proofs.MergeLaws.{merge_commutes, merge_nothing}
-use Rattle.staged_map.specs.Staged.{Places, value_at}
+use Rattle.staged_map.specs.Staged.{Places, Sets, value_at}
 use Rattle.view_store.specs.declared.change.ViewChange.{ViewChange}
 use Rattle.view_store.specs.Changes.{IsChange, IsWithin}
 use Rattle.view_store.specs.Cuts.{HoldsCells, IsCodeOver}
 use Rattle.view_store.specs.Drafts.{AddsChange, AddsRow, AreOver, KeepsToView, draft_at, weight_at}
-use Rattle.view_store.specs.Views.{AreEntries, held_at, is_in_view, no_terms, region_at}
+use Rattle.view_store.specs.Views.{AreEntries, IsEntry, IsOver, held_at, is_in_view, no_terms, region_at}
 use Rattle.view_store.proofs.Merges.{AreRegular}
 use Rattle.view_store.proofs.Shares.{AddsUnits-more, AddsUnits-none, FitsUnits-part}
 
@@ -133,6 +134,69 @@ draft-held columns entries drafts code there = by (value_at drafts code) there
     by : (o : Option TermList) → is_some o ≡ true → unwrap_or o (held_at columns entries code) ≡ unwrap_or o (no_terms columns)
     by None some = absurd (grind (arith, some))
     by (Some list) some = refl
+
+-- where terms are held at a code, and others are set there
+module _ (columns : ℕ) (entries : Places TermList) (code : ℕ) (old new : Places TermList) (held raised : TermList) (is : value_at old code ≡ Some held) (sets : Sets old new code raised) where
+  set-there : value_at new code ≡ Some raised
+  set-there =
+      let same : (code == code) ≡ true = grind (arith, nat_tests) in
+      rw same at (sets.values code)
+
+  set-elsewhere : (k : ℕ) → (code == k) ≡ false → value_at new k ≡ value_at old k
+  set-elsewhere k apart = rw apart at (sets.values k)
+
+  -- what holds of these terms and of those held elsewhere holds of all
+  set-each : (P : TermList → Type 0) → P raised → ((k : ℕ) → IfSome (value_at old k) P) → (k : ℕ) → IfSome (value_at new k) P
+  set-each P here each k = elim (cases_eq k code) [
+    | inl same ↦ subst (λ (c : ℕ). IfSome (value_at new c) P) (sym same) (rw set-there here)
+    | inr other ↦
+        let apart : (code == k) ≡ false = grind (arith, nat_tests) in
+        rw (set-elsewhere k apart) (each k)
+  ]
+
+  module _ (change : ViewChange) (weight : ℕ) (over : AreOver columns old) (are : AreTerms raised) where
+    is-over : AddsUnits held raised change.den (weight * change.facts) weight change.cols → IsOver columns raised
+    is-over share =
+        let was : IsOver columns held = rw is at (over code) in
+        record { columns_are = share.columns ∙ was.columns_are; are_terms = are }
+
+    raised-row : AddsUnits held raised change.den (weight * change.facts) weight change.cols → AddsRow columns entries change code weight old new
+    raised-row share = record {
+      share =
+          let before : draft_at columns entries old code ≡ held = ap (λ o. unwrap_or o (held_at columns entries code)) is in
+          let behind : draft_at columns entries new code ≡ raised = ap (λ o. unwrap_or o (held_at columns entries code)) set-there in
+          rw (before, behind) share;
+      others = set-elsewhere;
+      over = set-each (IsOver columns) (is-over share) over;
+    }
+
+    -- a share that was added leaves a term
+    raised-entry : 1 ≤ weight → 1 ≤ change.facts → AddsUnits held raised change.den (weight * change.facts) weight change.cols → IsEntry columns raised
+    raised-entry some facts share = record { over = is-over share; some = by raised.terms refl }
+      where
+        counted : count_of raised.terms change.den ≡ count_of held.terms change.den + weight * change.facts
+        counted =
+            let same : (change.den == change.den) ≡ true = grind (arith, nat_tests) in
+            rw same at (share.counts change.den)
+
+        by : (terms : List Term) → raised.terms ≡ terms → 1 ≤ length raised.terms
+        by [] none =
+            let least : 1 * 1 ≤ weight * change.facts = mul-le-mul some facts in
+            let zero : count_of raised.terms change.den ≡ 0 = ap (λ (ts : List Term). count_of ts change.den) none in
+            absurd (omega (arith, counted, zero, least))
+        by (t ∷ ts) some = rw some (omega arith)
+
+    -- so where the share of a row was added to them, that is done to the drafts
+    pub raised-adds : (result : Result (Unit {0}) Memory) → OnOk result (AddsUnits held raised change.den (weight * change.facts) weight change.cols) → OnOk result (AddsRow columns entries change code weight old new)
+    raised-adds (Ok u) share = raised-row share
+    raised-adds (Err e) share = tt
+
+    pub raised-whole : (result : Result (Unit {0}) Memory) → OnOk result (AddsUnits held raised change.den (weight * change.facts) weight change.cols) → OnErr result (raised ≡ held)
+        → 1 ≤ weight → 1 ≤ change.facts → AreEntries columns old → AreEntries columns new
+    raised-whole (Ok u) share same some facts entries = record { least = entries.least; most = entries.most; each = set-each (IsEntry columns) (raised-entry some facts share) entries.each }
+    raised-whole (Err e) share same some facts entries =
+        let was : IsEntry columns held = rw is at (entries.each code) in
+        record { least = entries.least; most = entries.most; each = set-each (IsEntry columns) (rw same was) entries.each }
 
 module _ (dims : List Dimension) (depths : List ℕ) (columns : ℕ) (entries : Places TermList) (change : ViewChange) (rows : List (ℕ × ℕ)) (old now : Places TermList)
     (j code : ℕ) (within : j < length rows) (before : HasRows dims depths columns entries change (take j rows) old now) (over : IsCodeOver dims depths (get_or rows j (0, 0)).0 code) where

@@ -83,34 +83,6 @@ fn begin(
     Ok(())
 }
 
-/// Adds the share of a change's row to the draft of a code that has one. An error leaves it as it was.
-fn raise_held(
-    alloc: Global,
-    columns: u32,
-    drafts: &mut Staged<Terms>,
-    code: u64,
-    change: &ViewChange,
-    weight: u64,
-) -> Result<(), Memory>
-    requires some { 1 ≤ columns }
-    requires most { columns ≤ MAX_COLS + 1 }
-    requires facts { 1 ≤ change.now.facts }
-    requires den { 1 ≤ change.now.den }
-    requires width { length change.now.cols + 1 ≡ columns }
-    requires held { is_some (value_at drafts.old code) ≡ true }
-    requires drafts { AreOver columns drafts.old }
-    requires within { FitsUnits (held_at columns drafts.old code).terms change.now.den (weight * change.now.facts) weight change.now.cols }
-    ensures sets { Sets drafts.old drafts.new code (held_at columns drafts.new code) }
-    ensures ok { OnOk result (AddsUnits (held_at columns drafts.old code) (held_at columns drafts.new code) change.now.den (weight * change.now.facts) weight change.now.cols) }
-    ensures err { OnErr result (held_at columns drafts.new code ≡ held_at columns drafts.old code) }
-    ensures terms { AreTerms (held_at columns drafts.new code) }
-{
-    let mut terms = drafts.set(code, Terms::empty(alloc, columns)).unwrap();
-    let raised = raise(&mut terms, change, weight);
-    let _ = drafts.set(code, terms);
-    raised
-}
-
 /// Adds the share of a change's row to the draft of a code: where there is none yet, that is the entry there. An error leaves all
 /// entries whole, and so does a row without weight.
 fn add_share(
@@ -136,10 +108,9 @@ fn add_share(
     if weight == 0 {
         return Ok(());
     }
-    if drafts.get(code).is_some() {
-        raise_held(alloc, columns, drafts, code, change, weight)
-    } else {
-        begin(alloc, columns, entries, drafts, code, change, weight)
+    match drafts.get_mut(code) {
+        Some(terms) => raise(terms, change, weight),
+        None => begin(alloc, columns, entries, drafts, code, change, weight),
     }
 }
 
