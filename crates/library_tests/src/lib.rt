@@ -1,6 +1,6 @@
-//! Tests of the public calls of the libraries that the program does not make: with ample memory each that takes some gives its
-//! answer, and running out of memory is none. They stand here and not in the libraries, each of which would be proved once more for a
-//! test of its own; what the program calls is shown by the texts of `cube_tests`.
+//! Tests of the public calls of the libraries that the program does not make: with ample memory each call that allocates gives its
+//! answer, and none runs out of memory. They stand here and not in the libraries, each of which would be proved once more for a test
+//! of its own. The texts of `cube_tests` show what the program calls.
 #![tactic(auto)]
 
 #[cfg(test)]
