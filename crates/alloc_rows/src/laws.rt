@@ -30,10 +30,10 @@ pub fn worked_rows()
     ensures none_inside { weight_inside (cells_of two_dims (4 ∷ 2 ∷ [])) (allocation by_count two_dims four_facts fact_somewhere) ≡ 0 }
 {}
 
-/// Statistics after changes, and what is spread by them. Changes that follow others come to both, the later first. The
-/// changes of a region's cells are all that count there, so that a region without any keeps its allocation. And where the
-/// changes were installed, what was spread by the statistics after them is what is spread by those that are kept: the next
-/// step begins with it.
+/// Statistics after changes, and what is spread by them. Changes applied after others equal both in one list, the later
+/// first. The changes of a region's cells are all that count there, so that a region without any keeps its allocation.
+/// And where the changes were installed, what was spread by the statistics after them is what is spread by those that
+/// are kept: the next step begins with it.
 pub fn steps_compose()
     ensures twice { (stats : ℕ → CellStat) (first second : List Change) (cell : ℕ) → stat_after (stat_after stats first) second cell ≡ stat_after stats (second ++ first) cell }
     ensures inside { (weigh : CellStat → ℕ) (stats : ℕ → CellStat) (changes : List Change) (cells : List ℕ)

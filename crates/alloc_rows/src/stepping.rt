@@ -90,8 +90,8 @@ fn weigh_first<P: WeightPolicy>(policy: &P, stats: &StatIndex, rows: &[(u64, u64
     policy.weight(stats.stat(rows[0].0))
 }
 
-/// Appends those of the rest that come before a cell, and the cell's row by its new weight: none at weight 0. What comes behind
-/// the cell is left.
+/// Appends those of the rest that come before a cell, and the cell's row by its new weight: none at weight 0. What
+/// comes after the cell is left.
 fn pass_cell<'a>(
     rows: &mut Vec<(u64, u64)>,
     rest: &'a [(u64, u64)],

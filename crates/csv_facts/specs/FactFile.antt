@@ -37,7 +37,7 @@ refused_at index refusal = record { facts = []; bad = Some (record { index = ind
 abbrev pub behind : List Fact → FactSeq → FactSeq
 behind facts seq = record { facts = facts ++ seq.facts; bad = seq.bad }
 
--- what the record of an index gives, before what the records behind it do
+-- what the record of an index gives, before what the records after it do
 abbrev pub facts_with : ℕ → Result Fact Code → FactSeq → FactSeq
 facts_with index (Ok fact) later = behind (fact ∷ []) later
 facts_with index (Err refusal) later = refused_at index refusal

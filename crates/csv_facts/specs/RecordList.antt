@@ -13,7 +13,7 @@ use Rattle.csv.specs.declared.reader.Reader.{Reader}
 use Rattle.csv.specs.declared.reader.Trim.TheVariants as trim
 use Rattle.csv.specs.declared.writer.Writer.{Writer}
 
--- the records of a file: those behind a byte order mark, if it begins with one
+-- the records of a file: those after a byte order mark, if it begins with one
 abbrev pub records_of : List ℕ → List (List (List ℕ))
 records_of file = records default_config (strip_bom file)
 
@@ -55,7 +55,7 @@ pub record IsRow (fields : List (List ℕ)) (row : Row) : Type 0 where
   pub fields_are : fields_of row ≡ fields
   pub whole : partial_of row ≡ []
 
--- a row that more fields stand in, behind those of another
+-- a row that more fields stand in, after those of another
 pub record IsLonger (before : Row) (fields : List (List ℕ)) (after : Row) : Type 0 where
   pub fields_are : fields_of after ≡ fields_of before ++ fields
   pub whole : partial_of after ≡ []

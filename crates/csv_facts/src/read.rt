@@ -18,9 +18,9 @@ use std::alloc::Global;
 use std::mem;
 
 /// The facts of a CSV file over a schema, in its order, up to the first record that cannot be read. The records are those
-/// of `csv`'s reader, behind a byte order mark at the very front of the file. The first is the header: `id`, the names of
-/// the dimensions, those of the measures. Where it is another or there is none, `Header` is answered for index 0. Each
-/// later one has the header's fields, and the first of these that holds refuses it: `Fields`, their number is another;
+/// of `csv`'s reader, after a byte order mark at the very front of the file. The first is the header: `id`, the names
+/// of the dimensions, those of the measures. Where it is another or there is none, `Header` is answered for index 0.
+/// Each later one has the header's fields. The first of these that holds refuses it: `Fields`, their number is another;
 /// `Text`, a field is not UTF-8; then `Id`, `Node`, `Value` and `Parts`, as in a line of a script.
 pub fn read_facts(alloc: Global, s: &Schema, file: &[u8]) -> Result<FactSeq, Memory>
     ensures facts { IfOk result (λ seq. seq ≡ facts_in s.now (records_of file.now)) }
@@ -42,7 +42,7 @@ pub fn read_facts(alloc: Global, s: &Schema, file: &[u8]) -> Result<FactSeq, Mem
     }
 }
 
-/// The facts of the records behind the header. The row is room for one.
+/// The facts of the records after the header. The row is room for one.
 fn read_records(
     alloc: Global,
     s: &Schema,

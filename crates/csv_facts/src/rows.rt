@@ -29,7 +29,7 @@ pub fn write_rows_header(alloc: Global, s: &Schema) -> Result<Bytes, Memory>
 
 /// The records of some rows of a fact that is spread so, in order: of those from a place on, counted from 0, at most so many. Each
 /// has the fact's id, the names of the leaves of the row's cell, its weight, the denominator, and the fact's values as
-/// `write_facts` writes them. Behind `write_rows_header`, such parts make the file of all rows (`parts_make_the_text`).
+/// `write_facts` writes them. After `write_rows_header`, such parts make the file of all rows (`parts_make_the_text`).
 pub fn write_rows(
     alloc: Global,
     s: &Schema,

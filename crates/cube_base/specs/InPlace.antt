@@ -17,6 +17,6 @@ pub record IsPadded {X : Type 0} (filler : X) (size len : ℕ) (places : List X)
 pub length-take-places : {X : Type 0} {filler : X} {size len : ℕ} {places : List X} → IsPadded filler size len places → length (take len places) ≡ len
 length-take-places {X} {filler} {size} {len} {places} h = length-take-le len places (omega arith)
 
--- the items with the filler behind them are the places
+-- the items with the filler after them are the places
 pub padded-take-places : {X : Type 0} {filler : X} {size len : ℕ} {places : List X} → IsPadded filler size len places → padded filler size (take len places) ≡ places
 padded-take-places h = sym h.rest

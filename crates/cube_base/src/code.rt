@@ -57,7 +57,7 @@ pub enum Code {
     Nodes,
     /// The last line of the schema is missing.
     Cut,
-    /// Behind the schema's last line stands one that says something.
+    /// After the schema's last line stands one that says something.
     Tail,
     /// A CSV file does not begin with the columns of the schema.
     Header,

@@ -48,8 +48,8 @@ pub(crate) fn ends_with(ends: u64, given: usize) -> u64
     }
 }
 
-/// Writes what is left of `text` from the place `sent` on, and moves `sent` behind what was taken.
-/// On an error some of the text is left. It takes no memory of its own.
+/// Writes what is left of `text` from the place `sent` on, and moves `sent` past what was taken. On an error some of
+/// the text is left. It takes no memory of its own.
 pub fn write_from<K: Sink>(out: &mut K, text: &[u8], sent: &mut usize) -> Result<(), SinkError>
     requires { sent.old ≤ length text.now }
     ensures forward { sent.old ≤ sent.new }

@@ -41,7 +41,7 @@ abbrev pub ask_named : List ℕ → List ℕ → Option Command
 ask_named word [] = None
 ask_named word (byte ∷ name) = if bytes_eq word (codes "ask") then Some (Store Ask) else None
 
--- the command of two words, or of more, of which those behind the name are asked
+-- the command of two words, or of more, of which those after the name are asked
 abbrev pub command_of_more : List (List ℕ) → Option Command
 command_of_more [] = None
 command_of_more (word ∷ []) = None
@@ -57,6 +57,6 @@ abbrev pub joined : List (List ℕ) → List ℕ
 joined [] = []
 joined (word ∷ words) = word ++ flat_map (λ word. 9 ∷ word) words
 
--- the line that is asked: the words behind the command and the name
+-- the line that is asked: the words after the command and the name
 abbrev pub asked_line : List (List ℕ) → List ℕ
 asked_line words = joined (drop 2 words)

@@ -76,7 +76,7 @@ abbrev pub refused_schema : {T : Type 0} → Result T BadLine → Option End
 refused_schema (Ok _) = None
 refused_schema (Err bad) = Some (ends.Schema bad.line bad.reason)
 
--- the lines behind a schema, done on a cube that is not kept: a part is the reply to a line
+-- the lines after a schema, done on a cube that is not kept: a part is the reply to a line
 abbrev pub try_work : List ℕ → Stored → LineWork
 try_work input content = record {
   refusal = refused_schema (schema_of input);

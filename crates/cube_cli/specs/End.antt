@@ -85,8 +85,8 @@ FitsAt Fitting seen (KeepFault done) content = StoppedFirst seen done ⊎ Fittin
 FitsAt Fitting seen (Memory done) content = StoppedFirst seen done ⊎ Fitting content
 FitsAt Fitting seen end content = Fitting content
 
--- Reading stopped behind these bytes of an input. If its head is refused, that had not come whole; else the parts are done and written that
--- the lines make which had come whole, and what they commit is kept.
+-- Reading stopped after these bytes of an input. If its head is refused, that had not come whole; else the parts are
+-- done and written that the lines make which had come whole, and what they commit is kept.
 pub record StoppedReading (work : LineWork) (taken : List ℕ) (done : ℕ) (seen : SeenAll) : Type 0 where
   pub parts : ℕ
   pub parts_are : parts ≡ work.parts_at (work.lines_in taken)
@@ -114,7 +114,8 @@ pub record BrokeOff (work : LineWork) (done : ℕ) (seen : SeenAll) : Type 0 whe
   pub kept : Commits (work.kept parts) seen.keeper.told seen.keeper.told_after
   pub near : TakesAtMost (work.line_end line + PIECE_LIMIT) seen.source.left seen.source.left_after
 
--- The keeper failed behind the first parts, whose texts are all written: the next one commits, which is done at this line.
+-- The keeper failed after the first parts, whose texts are all written: the next one commits, which is done at this
+-- line.
 pub record StoppedAtEdit (work : LineWork) (done : ℕ) (seen : SeenAll) : Type 0 where
   pub parts : ℕ
   pub line : ℕ

@@ -1,4 +1,4 @@
--- Files of facts: what one does over the facts of a store, and what is told of these.
+-- Files of facts: what one does over the facts of a store, and what is reported of these.
 use Rattle.std.specs.Prelude.{◌≡◌, ◌==◌, ℕ, ◌≤◌, nat_lt, List, [], ◌∷◌, length, codes, if◌then◌else◌, Option, Some, None}
 use Rattle.std.specs.Fmt.{decimal}
 use Rattle.text_lines.specs.Text.{line_text}
@@ -30,16 +30,16 @@ use Rattle.cube_cli.specs.declared.end.End.TheVariants.{BadRecord, ImportRows}
 abbrev pub count_line : List ℕ → ℕ → ℕ → List ℕ
 count_line word first second = line_text word (decimal first ∷ decimal second ∷ [])
 
--- What is told of facts over a schema: by `check` their number and that of their rows, by `export` their file, by `schema` the one text of
--- the schema, by `rows` the file of their rows.
+-- What is reported of facts over a schema. `check` gives their number and that of their rows, `export` their file,
+-- `schema` the one text of the schema, and `rows` the file of their rows.
 abbrev pub text_told : Telling → Policy → SchemaValue → List Fact → List ℕ
 text_told Check policy schema facts = count_line (codes "sound") (length facts) (row_count (extended policy schema.dims facts))
 text_told Export policy schema facts = file_text schema facts
 text_told Schema policy schema facts = schema_text schema
 text_told Rows policy schema facts = extended_text schema (extended policy schema.dims facts)
 
--- What is kept where the rows of a content are put right: nothing where there is nothing to change. And what is told: the number of facts,
--- that of their rows, and that of the entries of rows that are dropped or put.
+-- What is kept where the rows of a content are put right: nothing where there is nothing to change. And what is
+-- reported: the number of facts, that of their rows, and that of the entries of rows that are dropped or put.
 abbrev pub mending_batches : Policy → List Dimension → Stored → List Batch
 mending_batches policy dims content = if changed_by (mended_batch policy dims content) == 0 then [] else mended_batch policy dims content ∷ []
 

@@ -9,11 +9,11 @@ use Rattle.schema_text.specs.SchemaText.{BadLine, ReadSchema, schema_of}
 use Rattle.schema_text.specs.declared.schema.SchemaFault.{SchemaFault}
 use Rattle.schema_text.specs.declared.schema.SchemaFault.TheVariants as schema_fault
 
--- the number of the first line behind so many bytes of a text that is not skipped, of all its lines counted from 1
+-- the number of the first line after so many bytes of a text that is not skipped, of all its lines counted from 1
 abbrev pub tail_line : List ℕ → ℕ → Option ℕ
 tail_line text size = option_map (λ k. length (lines_of (take size text)) + k + 1) (position (λ line. not (is_skipped line)) (lines_of (drop size text)))
 
--- behind a schema no line may follow that is not skipped
+-- after a schema no line may follow that is not skipped
 abbrev pub without_tail : List ℕ → Result ReadSchema BadLine → Result SchemaValue BadLine
 without_tail text (Ok read) = option_map_or (λ line. Err (record { line = line; reason = code.Tail })) (tail_line text read.size) (Ok read.schema)
 without_tail text (Err bad) = Err bad

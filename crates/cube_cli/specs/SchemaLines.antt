@@ -31,7 +31,8 @@ has_end text = list_any is_end (ended_lines text)
 abbrev pub text_of_lines : List (List ℕ) → List ℕ
 text_of_lines lines = flat_map (λ line. line ++ 10 ∷ []) lines
 
--- Lines were taken behind a text, up to and with the first line `end` where there is one, else all: then the rest is held.
+-- Lines were taken after a text, up to and with the first line `end` where there is one, else all: then the rest is
+-- held.
 abbrev pub TookHeld : List (List ℕ) → List ℕ → List ℕ → List ℕ → List (List ℕ) → Bool → Type 0
 TookHeld lines rest before after left false = (list_any is_end lines ≡ false) × (after ≡ before ++ text_of_lines lines) × (left ≡ rest ∷ [])
 TookHeld lines rest before after left true = IsSomeAnd (position is_end lines) (λ k. (after ≡ before ++ text_of_lines (take (k + 1) lines)) × (left ≡ drop (k + 1) lines ++ rest ∷ []))
@@ -45,7 +46,7 @@ pub record HasSchemaLines (input : List ℕ) (size : ℕ) (text : List ℕ) : Ty
 pub record HoldsSchemaLines (source : SourceSeen) (taken : List ℕ) (size : ℕ) (text : List ℕ) : Type 0 where
   pub holds : ((more : List ℕ) → HasSchemaLines (taken ++ more) size text) ⊎ (IsAtEnd source.left_after × HasSchemaLines taken size text)
 
--- the last of the bytes that were taken is in no later piece than the byte behind these
+-- the last of the bytes that were taken is in no later piece than the byte after these
 pub record IsLastPiece (taken : List ℕ) (size : ℕ) : Type 0 where
   pub before : List ℕ
   pub last : List ℕ

@@ -1,4 +1,4 @@
--- What an input is that begins with a schema: the lines of a script behind it, done on a cube without facts.
+-- What an input is that begins with a schema: the lines of a script after it, done on a cube without facts.
 use Rattle.std.specs.Prelude.{ℕ, ◌+◌, List, [], drop, false, Option, Result}
 use Rattle.std.specs.Option.{option_map, option_map_or}
 use Rattle.std.specs.Result.{result_ok}
@@ -20,7 +20,7 @@ schema_in input = result_ok (schema_of input)
 abbrev pub script_of : List ℕ → ReadSchema → List (List ℕ)
 script_of input read = lines_of (drop read.size input)
 
--- what a whole input does: the lines behind its schema are done on a cube without facts
+-- what a whole input does: the lines after its schema are done on a cube without facts
 abbrev pub outcome_of : List ℕ → Option Outcome
 outcome_of input = option_map (λ read. run_of read.schema (script_of input read)) (schema_in input)
 

@@ -42,22 +42,23 @@ pub enum StoreCommand {
     Input(InputTask),
     /// A feed is followed, from a store in which there is nothing or which is what the feed begins with.
     Follow,
-    /// The line that the words behind the name make is done over the cube of the store.
+    /// The line that the words after the name make is done over the cube of the store.
     Ask,
     /// The rows of the store are put right.
     Rebuild,
-    /// Something is told of the store.
+    /// Something is reported of the store.
     Tell(Telling),
 }
 
 /// Runs the program: the words of the command line without the program's name, the input, where replies go, and where cubes are
 /// kept.
 ///
-/// The word `try` takes an input of at most 2^30 bytes, which begins with a schema up to its line `end`. Each line behind it is done in
-/// order on a cube of that schema and its policy, and answered unless it is skipped. The input is read in pieces of at most 65,536
-/// bytes: the lines of a piece that have come whole are done, and their replies written, before the next is read. Of a run that stops,
-/// the sink has a part of the replies to the first `done` lines, with all but the last of them whole; where a read failed or the input
-/// is too long, all of them, and these are the lines that had come whole.
+/// The word `try` takes an input of at most 2^30 bytes, which begins with a schema up to its line `end`. Each line
+/// after it is done in order on a cube of that schema and its policy, and answered unless it is skipped. The input is
+/// read in pieces of at most 65,536 bytes. The lines of a piece that have come whole are done, and their replies
+/// written, before the next piece is read. Where a run stops, the sink has a part of the replies to the first `done`
+/// lines, with all but the last of them whole. Where a read failed or the input is too long, the sink has all of them,
+/// and these are the lines that had come whole.
 ///
 /// The words `drill` and a number from 1 to 100,000, which has one spelling, do the drill of the number, and write its line. No input
 /// is taken. Neither of these calls the keeper.
@@ -69,14 +70,17 @@ pub enum StoreCommand {
 /// answers `sound` with the numbers of the facts and of their rows. A store with nothing in it has no cube, and one that is not sound is left
 /// as it is.
 ///
-/// The word `ask`, the name of a store and one word or more do one line over the cube of the store as `run` does: the words behind the name,
-/// with a TAB between two of them. No input is taken, and nothing in a word ends the line. `done` is 1 once the line is done.
+/// The word `ask`, the name of a store and one word or more do one line over the cube of the store as `run` does. The
+/// line is the words after the name, with a TAB between two of them. No input is taken, and nothing in a word ends the
+/// line. `done` is 1 once the line is done.
 ///
-/// `import` takes a CSV file of facts over the schema of the store, of which the first record is the header, and puts all of them as one
-/// batch or none: where a record is refused, the first one's index, from 0 for the header, and its code are told. The reply is `imported`
-/// with the number of facts in the file and that of the facts that are new or whose allocation changed. `export` takes no input and
-/// writes such a file of all facts, in order of their ids. `schema` takes no input and writes the canonical text of the schema, whatever text is
-/// kept. `rows` takes no input and writes a CSV file of the rows of all facts, in order of ids and cells, part by part. None of these commits anything.
+/// `import` takes a CSV file of facts over the schema of the store, of which the first record is the header. It puts
+/// all of them as one batch or none. Where a record is refused, the first one's index, from 0 for the header, and its
+/// code are reported. The reply is `imported` with the number of facts in the file and that of the facts that are new
+/// or whose allocation changed. `export` takes no input and writes such a file of all facts, in order of their ids.
+/// `schema` takes no input and writes the canonical text of the schema, whatever text is kept. `rows` takes no input
+/// and writes a CSV file of the rows of all facts, in order of ids and cells, part by part. None of these commits
+/// anything.
 ///
 /// `rebuild` takes no input. Where the schema and the facts of the store are sound, whatever rows are kept, it commits one batch that puts the rows right,
 /// or none where they are, and answers `rebuilt` with the numbers of the facts, of their rows, and of the entries of rows that were put or dropped.
@@ -85,10 +89,11 @@ pub enum StoreCommand {
 /// the facts as they stand at the start, before anything is read, and then a batch for each edit and each growth that is accepted, once it is
 /// committed. `done` is the number of the lines as it is for `run`, and 0 within the base.
 ///
-/// `follow` takes a feed. Where the store holds something, that must be sound and what the feed begins with; in a store in which there is nothing
-/// the base is kept as one batch. Of each batch of the feed it takes the edit or the growth into a cube of its own, compares the lines behind it
-/// with those that this cube gives, commits the batch once it is whole, and writes `applied` and its number. `done` is the number of the
-/// batches that are applied. It ends at the first line that breaks the form, comes out of turn or differs: what stands before that is kept.
+/// `follow` takes a feed. What the store holds, if anything, must be sound and what the feed begins with. The base is
+/// kept as one batch in a store in which there is nothing. `follow` takes the edit or the growth of each batch of the
+/// feed into a cube of its own. It compares the lines after that with those that this cube gives, commits the batch
+/// once it is whole, and writes `applied` and its number. `done` is the number of the batches that are applied. It ends
+/// at the first line that breaks the form, comes out of turn or differs: what stands before that is kept.
 ///
 /// What is answered over the facts and the dimensions as they stand after each number of lines is the exact expectation over all possible
 /// worlds of the facts, in each of which every fact stands in one cell of its allocation; and where a node of a region has children, the
@@ -230,7 +235,7 @@ fn ask_named(word: &[u8], name: &[u8]) -> Option<Command>
     Some(Command::Store(command))
 }
 
-// The words behind the first two, which are asked.
+// The words after the first two, which are asked.
 fn asked_of(words: &[String]) -> &[String]
     ensures { map string_bytes result.now ≡ drop 2 (map string_bytes words.now) }
 {

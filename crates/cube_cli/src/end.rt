@@ -10,9 +10,10 @@ use std::fmt;
 /// The last status of a run that was done to its end.
 const LAST_DONE: u8 = 1;
 
-/// How a run ended. Of a run that stops, a part of the replies to the first `done` script lines is written, with all
-/// but the last of them whole. Of `lead` it is the base of the feed and the batches of these lines, and of `follow` the lines that tell of the
-/// first `done` batches. Of a command without a script or a feed, `done` is 1 where a batch was committed to the store, and else 0.
+/// How a run ended. A run that stops has written a part of the replies to the first `done` script lines, with all but
+/// the last of them whole. For `lead` it is the base of the feed and the batches of these lines, and for `follow` the
+/// lines that report the first `done` batches. For a command without a script or a feed, `done` is 1 where a batch was
+/// committed to the store, and else 0.
 #[derive(Debug, Drop)]
 pub enum End {
     /// The input was read to its end, and this many of its lines were answered `error`.
@@ -29,12 +30,12 @@ pub enum End {
     BadStore(Finding),
     /// Reading failed when `done` lines of a script had come whole. They are done, and their replies are written.
     ReadFault { done: u64 },
-    /// Writing failed. The reply to line `done`, counted from 1, is not whole; lines behind it may have been done.
+    /// Writing failed. The reply to line `done`, counted from 1, is not whole; lines after it may have been done.
     WriteFault { done: u64 },
-    /// The store failed when `done` lines were done, and their replies are written: at the edit or growth behind them, or before anything
-    /// was read.
+    /// The store failed when `done` lines were done, and their replies are written: at the edit or growth after them,
+    /// or before anything was read.
     KeepFault { done: u64 },
-    /// An allocation was refused. Lines behind the first `done` may have been done.
+    /// An allocation was refused. Lines after the first `done` may have been done.
     Memory { done: u64 },
     /// The input has more than 2^30 bytes. The `done` lines of a script that had come whole within these are done, and their replies are
     /// written.
@@ -50,8 +51,8 @@ pub enum End {
     /// The feed begins at another content than the one that the store holds: the place of the first fact that differs, or none where the
     /// schema does. Nothing is kept.
     Base { place: Option<u64> },
-    /// The lines of a batch of the feed are not those that its edit gives here: the number of the batch, and the first such line, counted
-    /// from 1. The batches before it are applied.
+    /// The lines of a batch of the feed are not those that its edit results in here: the number of the batch, and the
+    /// first such line, counted from 1. The batches before it are applied.
     Differs { number: u64, line: u64 },
 }
 
@@ -82,7 +83,7 @@ impl End {
         }
     }
 
-    /// What the program tells of the end: its exit status, and the line that it writes on standard error, which is
+    /// What the program reports of the end: its exit status, and the line that it writes on standard error, which is
     /// there exactly where the status is 2 or more.
     pub fn told(self) -> (u8, Option<ErrorLine>)
         ensures status { result.0 ≡ status_of self }
@@ -98,7 +99,7 @@ impl End {
     }
 }
 
-/// The line on standard error that tells of an end.
+/// The line on standard error that reports an end.
 #[derive(Debug, Drop)]
 pub struct ErrorLine(End);
 
@@ -155,7 +156,7 @@ fn say_order<W: fmt::Write>(want: u64, got: u64, f: &mut fmt::Formatter<W>) -> f
     write!(f, "batch {got} where {want} is next")
 }
 
-/// What it says of a batch whose line is another than its edit gives.
+/// What it says of a batch whose line is another than its edit results in.
 fn say_difference<W: fmt::Write>(number: u64, line: u64, f: &mut fmt::Formatter<W>) -> fmt::Result {
     write!(f, "batch {number} differs at line {line}")
 }

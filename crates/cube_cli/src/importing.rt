@@ -57,7 +57,7 @@ pub fn import_file<K: Sink, Q: Keeper>(
     }
 }
 
-// What is told where the facts of a file are put, which refreshed so many facts.
+// What is reported where the facts of a file are put, which refreshed so many facts.
 fn imported_line(alloc: Global, seq: &FactSeq, receipt: &Receipt) -> Result<Bytes, Memory>
     ensures { IfOk result (λ line. line ≡ count_line (codes "imported") (length seq.now.facts) (length receipt.now.refreshed)) }
 {

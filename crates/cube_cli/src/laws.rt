@@ -7,7 +7,7 @@ ghost use Rattle.cube_cli.specs.Examples.{Gives, city_and_state, city_and_state_
 
 /// Two inputs worked out by hand. A fact in a city and one somewhere in its state: the count at the city has a term for
 /// each. A fact somewhere in a state counts two halves there, a repeated insert, an unknown line and a question about no
-/// fact are refused, and a remark is passed over.
+/// fact are refused, and a remark is skipped.
 pub fn worked_examples()
     ensures city_and_state { Gives city_and_state city_and_state_replies 0 }
     ensures refusals { Gives refused_and_skipped refused_and_skipped_replies 3 }
@@ -28,8 +28,9 @@ pub fn worked_questions()
     ensures fractions { Gives told_in_fractions told_in_fractions_replies 1 }
 {}
 
-/// One more with growths: a part of a city takes its place in the rows of a fact somewhere in the state, which lies as before; one more city
-/// takes a third of it. A dimension that is not there, and a name that a node has, are refused.
+/// One more with growths. A part of a city takes its place in the rows of a fact somewhere in the state, which is
+/// allocated as before. One more city takes a third of it. A dimension that is not there, and a name that a node has,
+/// are refused.
 pub fn worked_growths()
     ensures { Gives grown_state grown_state_replies 2 }
 {}
@@ -39,8 +40,8 @@ pub fn worked_listing()
     ensures { Gives listed_worlds listed_worlds_replies 0 }
 {}
 
-/// Words that ask a line of a store: its fields, the last of which may be empty. Without a word behind the name, or with an empty name,
-/// they are no command.
+/// Words that ask a line of a store: its fields, the last of which may be empty. Without a word after the name, or with
+/// an empty name, they are no command.
 pub fn worked_asked_words()
     ensures command { command_of (codes "ask" ∷ codes "s" ∷ codes "count" ∷ codes "TX" ∷ []) ≡ Some (command.Store store_command.Ask) }
     ensures line { asked_line (codes "ask" ∷ codes "s" ∷ codes "count" ∷ codes "TX" ∷ []) ≡ codes "count" ++ 9 ∷ codes "TX" }

@@ -1,4 +1,4 @@
-//! The command that does a script over a store and tells what it changes as a feed.
+//! The command that does a script over a store and writes what it changes as a feed.
 ghost use Rattle.std.specs.Prelude.{◌≡◌, IsTrue, Some};
 ghost use Rattle.fact_keeper.specs.Keeper.{StaysOpen};
 ghost use Rattle.fact_keeper.specs.declared.content.Stored.{Stored};

@@ -26,8 +26,8 @@ use schema_text::Schema;
 use script_text::append_number;
 use std::alloc::Global;
 
-/// Puts the rows of the store of a name right, where its schema and its facts are sound, and tells of it. No input is taken. One batch
-/// is committed, and none where the rows are right.
+/// Puts the rows of the store of a name right, where its schema and its facts are sound, and reports it. No input is
+/// taken. One batch is committed, and none where the rows are right.
 pub fn rebuild<K: Sink, Q: Keeper>(alloc: Global, name: &str, out: &mut K, keeper: &mut Q) -> End
     ensures says { (source : SourceSeen) → WasNotRead source →
         SaysOf (Some (command.Store store_command.Rebuild)) (record { source = source; sink = sink_seen K.tells out.old out.new; keeper = keeper_seen Q.tells keeper.old keeper.new }) result }
@@ -64,7 +64,7 @@ fn rebuild_store<K: Sink, Q: Keeper>(
     }
 }
 
-// Keeps what puts the rows of a content right, where anything changes, and tells of it.
+// Keeps what puts the rows of a content right, where anything changes, and reports it.
 fn keep_mending<K: Sink, Q: Keeper>(
     alloc: Global,
     mending: Mending,
@@ -107,7 +107,7 @@ fn keep_one<Q: Keeper>(batch: &Batch, keeper: &mut Q) -> Result<(), KeepError>
     keeper.commit(batch)
 }
 
-// Writes what is told of rows that are right, of which so many entries were not.
+// Writes what is reported of rows that are right, of which so many entries were not.
 fn tell_rebuilt<K: Sink>(
     alloc: Global,
     mending: &Mending,
@@ -131,7 +131,7 @@ fn changed_by(mending: &Mending) -> u64
     gone + put
 }
 
-// What is told of it.
+// The line that reports it.
 fn rebuilt_line(alloc: Global, facts: u64, rows: u64, changed: u64) -> Result<Bytes, Memory>
     ensures { IfOk result (λ line. line ≡ line_text (codes "rebuilt") (decimal facts ∷ decimal rows ∷ decimal changed ∷ [])) }
 {

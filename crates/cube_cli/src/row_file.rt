@@ -44,7 +44,7 @@ pub fn write_all_rows<K: Sink>(
     }
 }
 
-// Adds the rows of all facts to the text that waits behind the header.
+// Adds the rows of all facts to the text that waits after the header.
 fn gather_all<K: Sink>(
     alloc: Global,
     cube: &Cube<PolicyWord>,
@@ -62,7 +62,7 @@ fn gather_all<K: Sink>(
     Ok(())
 }
 
-// Adds the rows of a fact to the text that waits behind those of others.
+// Adds the rows of a fact to the text that waits after those of others.
 fn gather_fact<K: Sink>(
     alloc: Global,
     cube: &Cube<PolicyWord>,

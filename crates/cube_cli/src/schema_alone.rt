@@ -9,8 +9,9 @@ use schema_text::{Schema, SchemaFault, read_schema};
 use std::alloc::Global;
 use text_lines::{first_line_of, is_skipped};
 
-/// Reads a schema that a text holds alone. `Bad` comes exactly where the schema is refused, with its first faulty line, or else a line
-/// that is not skipped stands behind it: `Tail` with the number of that line. The only other error is running out of memory.
+/// Reads a schema that a text holds alone. `Bad` comes exactly where the schema is refused, with its first faulty line.
+/// Else `Tail` comes exactly where a line that is not skipped stands after it, with the number of that line. The only
+/// other error is running out of memory.
 pub fn read_schema_alone(alloc: Global, text: &[u8]) -> Result<Schema, SchemaFault>
     ensures read { IfOk result (λ schema. schema_alone text.now ≡ Ok schema) }
     ensures refused { IfErr result (HasCauseAlone text.now) }
@@ -25,7 +26,7 @@ pub fn read_schema_alone(alloc: Global, text: &[u8]) -> Result<Schema, SchemaFau
     }
 }
 
-// The number of the first line behind so many bytes of a text that is not skipped, counted from 1.
+// The number of the first line after so many bytes of a text that is not skipped, counted from 1.
 fn tail_line(text: &[u8], size: usize) -> Option<u64>
     requires { size ≤ length text.now }
     ensures { result ≡ tail_line text.now size }

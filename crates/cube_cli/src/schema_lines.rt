@@ -1,4 +1,4 @@
-//! Taking the schema with which an input begins, which goes on behind it.
+//! Taking the schema with which an input begins, which goes on after it.
 ghost use Rattle.std.specs.Prelude.{◌≡◌, ◌∷◌, ◌++◌, [], false, true, IfErr, IfOk, OnErr, OnOk};
 ghost use Rattle.std.specs.Io.KnownBytes.{IsAtEnd};
 ghost use Rattle.line_cutter.specs.Input.{EndsOnce, INPUT_LIMIT, ends_if};
@@ -22,8 +22,8 @@ pub enum HeadStop {
     Bad { line: u64, code: Code },
 }
 
-/// Takes the schema with which an input begins, of which nothing was taken yet, up to and with the line `end`: what was taken behind it
-/// is held. A line at fault is told once the line `end` has come, or the input has ended.
+/// Takes the schema with which an input begins, of which nothing was taken yet, up to and with the line `end`: what was
+/// taken after it is held. A line at fault is reported once the line `end` has come, or the input has ended.
 pub fn take_schema<S: Source>(
     alloc: Global,
     input: &mut LineInput,

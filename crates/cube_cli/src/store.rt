@@ -35,7 +35,7 @@ pub enum InputTask {
     Run,
     /// It is a file of facts, and these are put.
     Import,
-    /// It is a script, and its lines are done and told as a feed.
+    /// It is a script, and its lines are done and written as a feed.
     Lead,
 }
 

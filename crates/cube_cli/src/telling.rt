@@ -1,4 +1,4 @@
-//! The commands that tell what a store holds.
+//! The commands that report what a store holds.
 ghost use Rattle.std.specs.Prelude.{◌≡◌, Some};
 ghost use Rattle.schema_text.specs.Schema.{policy_in, weigh_of};
 ghost use Rattle.script_run.specs.Seen.{KeeperSeen, SourceSeen, keeper_seen, sink_seen};
@@ -22,7 +22,7 @@ use fact_keeper::{Keeper, Stored};
 use schema_text::{PolicyWord, Schema, write_schema};
 use std::alloc::Global;
 
-/// What is told of a store that is sound.
+/// What is reported of a store that is sound.
 #[derive(Clone, Copy, Debug, PartialEq, Eq)]
 pub enum Telling {
     /// The line `sound` with the numbers of its facts and rows.
@@ -35,7 +35,7 @@ pub enum Telling {
     Rows,
 }
 
-/// Audits the store of a name, and tells of it. No input is taken, and nothing is committed.
+/// Audits the store of a name, and reports it. No input is taken, and nothing is committed.
 pub fn tell<K: Sink, Q: Keeper>(
     alloc: Global,
     name: &str,
@@ -54,7 +54,7 @@ pub fn tell<K: Sink, Q: Keeper>(
     }
 }
 
-// Audits a content under the policy of its schema, and tells of it.
+// Audits a content under the policy of its schema, and reports it.
 fn tell_store<K: Sink>(
     alloc: Global,
     telling: Telling,
@@ -77,7 +77,7 @@ fn tell_store<K: Sink>(
     }
 }
 
-// Writes what is told of a cube.
+// Writes what is reported of a cube.
 fn write_told<K: Sink>(
     alloc: Global,
     telling: Telling,

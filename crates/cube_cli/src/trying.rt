@@ -23,7 +23,7 @@ use schema_text::Schema;
 use script_run::{BreakOff, StreamStop, run_stream};
 use std::alloc::Global;
 
-/// Takes a schema, and does the script behind it as its input comes. No keeper is called.
+/// Takes a schema, and does the script after it as its input comes. No keeper is called.
 pub fn try_input<S: Source, K: Sink>(alloc: Global, source: &mut S, out: &mut K) -> End
     ensures says { (keeper : KeeperSeen) → WasNotCalled keeper →
         SaysOf (Some command.Try) (record { source = source_seen S.tells source.old source.new; sink = sink_seen K.tells out.old out.new; keeper = keeper }) result }

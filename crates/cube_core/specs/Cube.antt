@@ -75,7 +75,8 @@ difference_in weigh cube edit = difference (policy_in (weigh cube.policy) cube.s
 abbrev pub step_bound_in : {P : Type 0} → (P → CellStat → ℕ) → CubeValue P → Edit → ℕ
 step_bound_in weigh cube edit = step_limit (policy_in (weigh cube.policy) cube.schema) cube.schema.dims edit cube.facts
 
--- Why an edit of a cube fails. Where it is refused for the number of rows, that number is told, else the code. Out of memory is said only where the fact is not refused.
+-- Why an edit of a cube fails. Where it is refused for the number of rows, that number is reported, else the code. Out
+-- of memory is said only where the fact is not refused.
 abbrev pub IsFaultOf : {P : Type 0} → (P → CellStat → ℕ) → CubeValue P → Edit → EditFault → Type 0
 IsFaultOf weigh cube edit (edit_fault.Code refusal) = (judge_in weigh cube edit ≡ Some refusal) × (refusal ≢ code.Rows)
 IsFaultOf weigh cube edit (edit_fault.Rows would) = (judge_in weigh cube edit ≡ Some code.Rows) × (would ≡ row_count (rows_in weigh (edited edit cube)))

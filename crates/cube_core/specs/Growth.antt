@@ -81,8 +81,8 @@ moved_in weigh cube grow = moved (policy_in (weigh cube.policy) cube.schema) cub
 abbrev pub growth_difference_in : {P : Type 0} → (P → CellStat → ℕ) → CubeValue P → Grow → Batch
 growth_difference_in weigh cube grow = growth_difference (policy_in (weigh cube.policy) cube.schema) cube.schema (dims_with grow cube.schema.dims) cube.facts
 
--- Why a growth of a cube fails. Where it is refused for the number of rows, that number is told, else the code. Out of memory is the
--- free answer, of which nothing is said.
+-- Why a growth of a cube fails. Where it is refused for the number of rows, that number is reported, else the code. Out
+-- of memory is the free answer, of which nothing is said.
 abbrev pub IsGrowthFaultOf : {P : Type 0} → (P → CellStat → ℕ) → CubeValue P → Grow → EditFault → Type 0
 IsGrowthFaultOf weigh cube grow (edit_fault.Code refusal) = (judge_growth_in weigh cube grow ≡ Some refusal) × (refusal ≢ code.Rows)
 IsGrowthFaultOf weigh cube grow (edit_fault.Rows would) = (judge_growth_in weigh cube grow ≡ Some code.Rows) × (would ≡ row_count (rows_in weigh (grown grow cube)))

@@ -1,4 +1,4 @@
--- The facts of a state over other dimensions: when they may be, and which of them lie otherwise there.
+-- The facts of a state over other dimensions: when they may be, and the allocation of which changed there.
 use Rattle.std.specs.Prelude.{◌≡◌, ◌≢◌, ℕ, List, [], ◌∷◌, filter, length, map, not, ⊤, Option, Some, None, if◌then◌else◌}
 use Rattle.cube_base.specs.declared.code.Code.{Code}
 use Rattle.cube_base.specs.declared.code.Code.TheVariants as code
@@ -49,18 +49,18 @@ IsRespreadFault weigh state later (edit_fault.Rows would) = (facts_refusal (poli
 IsRespreadFault weigh state later edit_fault.KeepFault = ⊥
 IsRespreadFault weigh state later edit_fault.Memory = ⊤
 
--- of some of the facts, those that lie otherwise over later dimensions: their ids, and their rows there
+-- of some of the facts, those whose allocation changed over later dimensions: their ids, and their rows there
 abbrev pub ids_moved : Policy → List Dimension → List Dimension → List Fact → List Fact → List ℕ
 ids_moved policy dims later facts some = map (λ f. f.id) (filter (λ f. not (lies_the_same policy dims later facts f)) some)
 
 abbrev pub rows_moved : Policy → List Dimension → List Dimension → List Fact → List Fact → List KeptRows
 rows_moved policy dims later facts some = map (rows_among policy later facts) (filter (λ f. not (lies_the_same policy dims later facts f)) some)
 
--- the rows of all that lie otherwise
+-- the rows of all whose allocation changed
 abbrev pub all_moved : Policy → List Dimension → List Dimension → List Fact → List KeptRows
 all_moved policy dims later facts = map kept_rows (filter (λ e. is_among (moved policy dims later facts) e.id) (extended policy later facts))
 
--- Why a space gets no leaf: its refusal is told, or it is out of memory.
+-- Why a space gets no leaf: its refusal is reported, or it is out of memory.
 abbrev pub IsSpaceFault : List Dimension → Grow → EditFault → Type 0
 IsSpaceFault dims grow (edit_fault.Code refusal) = (space_refusal dims grow ≡ Some refusal) × (refusal ≢ code.Rows)
 IsSpaceFault dims grow (edit_fault.Rows would) = ⊥

@@ -1,4 +1,4 @@
--- What the worlds of a cube's facts are made of, and what they come to in a region.
+-- What the worlds of a cube's facts are made of, and what they add up to in a region.
 use Rattle.std.specs.Prelude.{◌≡◌, ℕ, ◌+◌, List, map, Some, ⊤}
 use Rattle.std.specs.List.{range_with_len}
 use Rattle.cube_model.specs.declared.statistic.CellStat.{CellStat}
@@ -15,7 +15,7 @@ use Rattle.cube_core.specs.Cube.{CubeValue, rows_in}
 abbrev pub placed_in : {P : Type 0} → (P → CellStat → ℕ) → CubeValue P → List Placed
 placed_in weigh cube = map placed_of (rows_in weigh cube)
 
--- what their worlds come to: the number, the mass, and the total of each column, the count first
+-- what their worlds add up to: the number, the mass, and the total of each column, the count first
 abbrev pub world_sum_in : {P : Type 0} → (P → CellStat → ℕ) → CubeValue P → List ℕ → WorldSum
 world_sum_in weigh cube region = record {
   worlds = world_count (rows_in weigh cube);

@@ -234,12 +234,13 @@ impl<P: WeightPolicy + Drop> Cube<P> {
 
     /// Puts the facts of a file, all or none: judges them in the order of the file, plans them together, commits what they change to
     /// the keeper, which must be open, as one batch, also where there are none, and then sets what was planned. Each fact must have an
-    /// id from 1 to 2^63 - 1 and a region of the space. `BadRecord` is answered where a record is refused, with the first: a fact whose
-    /// put the facts before it refuse, those of the cube and those of the file, by the first that holds of `Value`, `Parts`, `Exists`,
-    /// `Region` and `Facts`; and behind all facts the record that could not be read. Else `Rows` is answered where all facts then have more
-    /// than 2^21 rows, with their number. `KeepFault` comes at a fault of the keeper alone, which it counts, and where nothing refuses
-    /// the file. The only other error is running out of memory. On every error the cube, and what the keeper holds, are as they were. It takes
-    /// time in proportion to the facts and rows of the cube and the file.
+    /// id from 1 to 2^63 - 1 and a region of the space. `BadRecord` is answered where a record is refused, with the
+    /// first. The facts before it, those of the cube and those of the file, refuse the put of a fact by the first that
+    /// holds of `Value`, `Parts`, `Exists`, `Region` and `Facts`. The record that could not be read comes after all
+    /// facts. Else `Rows` is answered where all facts then have more than 2^21 rows, with their number. `KeepFault`
+    /// comes at a fault of the keeper alone, which it counts, and where nothing refuses the file. The only other error
+    /// is running out of memory. On every error the cube, and what the keeper holds, are as they were. It takes time in
+    /// proportion to the facts and rows of the cube and the file.
     pub fn import<K: Keeper>(
         &mut self,
         seq: &FactSeq,
@@ -335,11 +336,11 @@ impl<P: WeightPolicy + Drop> Cube<P> {
         Ok(placed)
     }
 
-    /// What all worlds of the facts come to in `r`, which must be a region of the space: their number, the sum of their
-    /// weights, and for each column, the count first, the total over all worlds of what stands in the region. `Many` is
-    /// answered exactly where there are more than 65,536 worlds, and else `Wide` exactly where their weights come to more
-    /// than 2^60; running out of memory is the only other error. It goes through all worlds for each column, and takes memory for the
-    /// rows of the facts, whatever the number of worlds.
+    /// What all worlds of the facts add up to in `r`, which must be a region of the space. These are their number, the
+    /// sum of their weights, and for each column, the count first, the total over all worlds of what stands in the
+    /// region. `Many` is answered exactly where there are more than 65,536 worlds. Else `Wide` is answered exactly
+    /// where their weights add up to more than 2^60. Running out of memory is the only other error. It goes through all
+    /// worlds for each column, and takes memory for the rows of the facts, whatever the number of worlds.
     pub fn worlds(&self, r: Region) -> Result<WorldSum, WorldFault>
         requires { IsRegion self.now.schema.dims r }
         ensures sum { IfOk result (λ sum. sum ≡ world_sum_in P.weigh self.now r) }

@@ -16,10 +16,11 @@ ghost use Rattle.world_law.specs.Worlds.{total, worlds};
 ghost use Rattle.cube_core.specs.Examples.{below_0, by_value, fact_of, four_rows, one_weight, row_alone, rows_of, term_with, whole_parts, wrong_parts};
 
 /// Rows, answers, refreshed facts and refusals that were worked out by hand. A fact somewhere in three cells is spread over
-/// the two where facts lie, as the counts say, and evenly over all three where no fact lies; so it lies otherwise once one
-/// of these facts moves or is withdrawn. In one of its two worlds it stands where two others do, and in one it does not. A move
-/// between two cells that it covers, in two dimensions of depth 2, takes at most 2 * 9 + 2 * 2 + 2 steps. New facts are kept in order
-/// of their ids, whatever the order of the file, and so are their rows with those of the facts that they refresh.
+/// the two where facts lie, as the counts say, and evenly over all three where no fact lies. So its allocation changes
+/// once one of these facts moves or is withdrawn. In one of its two worlds it stands where two others do, and in one it
+/// does not. A move between two cells that it covers, in two dimensions of depth 2, takes at most 2 * 9 + 2 * 2 + 2
+/// steps. New facts are kept in order of their ids, whatever the order of the file, and so are their rows with those of
+/// the facts that they refresh.
 pub fn worked_cube()
     ensures spread { allocation_of 4 four_rows ≡ Some (record { den = 3; rows = (0, 2) ∷ (4, 1) ∷ [] }) }
     ensures precise { allocation_of 3 four_rows ≡ Some (record { den = 1; rows = (4, 1) ∷ [] }) }

@@ -13,11 +13,11 @@ use std::alloc::Global;
 use stored_state::{LoadFault, Mending, mend_rows};
 
 impl<P: WeightPolicy + Drop> Cube<P> {
-    /// What puts the rows of a stored content right, which weighs cells by this policy: behind its batch the content is sound, and the
-    /// batch is empty where it was. `Bad` is answered exactly where the facts of the content are not sound over the schema, with what
-    /// is found first, and the only other error is running out of memory. Whatever rows are kept, they are no error. The text of the content's
-    /// schema, which must read as this one, is not looked at. It takes time in proportion to the facts and rows, with a search for each
-    /// fact and each kept entry.
+    /// What puts the rows of a stored content right, which weighs cells by this policy. After its batch the content is
+    /// sound, and the batch is empty where it was. `Bad` is answered exactly where the facts of the content are not
+    /// sound over the schema, with what is found first. The only other error is running out of memory. Whatever rows
+    /// are kept, they are no error. The text of the content's schema, which must read as this one, is not looked at. It
+    /// takes time in proportion to the facts and rows, with a search for each fact and each kept entry.
     pub fn mend_rows(
         alloc: Global,
         schema: &Schema,

@@ -99,7 +99,7 @@ impl Moved {
     }
 }
 
-/// The facts of a state that lie otherwise in another, which is the same over another space.
+/// The facts of a state whose allocation changed in another, which is the same over another space.
 pub(crate) fn moved_between<P: WeightPolicy + Drop>(
     alloc: Global,
     state: &State<P>,
@@ -120,7 +120,7 @@ pub(crate) fn moved_between<P: WeightPolicy + Drop>(
     Ok(held)
 }
 
-/// Holds a fact, where it lies otherwise.
+/// Holds a fact, where its allocation changed.
 fn hold_moved<P: WeightPolicy + Drop>(
     state: &State<P>,
     later: &State<P>,

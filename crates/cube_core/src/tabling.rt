@@ -19,10 +19,10 @@ use view_store::ViewList;
 
 impl<P: WeightPolicy + Drop> Cube<P> {
     /// The table of `r`, which must be a region of the space, at a depth for each dimension. Its members in a dimension are the nodes of
-    /// that depth under the region's node, and the leaves above that depth; or that node alone where it lies deeper. Of the regions of
-    /// members, the first dimension slowest, it has those where the facts have terms, with these. All its terms merged are the answer
-    /// in `r`. It makes one pass over the facts' regions that have a cell in common with `r`; a region without terms costs nothing. The
-    /// one error is running out of memory.
+    /// that depth under the region's node, and the leaves above that depth; or that node alone where it lies deeper. It
+    /// has the regions of members where the facts have terms, with these, the first dimension slowest. All its terms
+    /// merged are the answer in `r`. It makes one pass over the facts' regions that have a cell in common with `r`; a
+    /// region without terms costs nothing. The one error is running out of memory.
     pub fn table(&self, depths: &[u8], r: Region) -> Result<ViewList, Memory>
         requires depths { length depths.now ≡ length self.now.schema.dims }
         requires region { IsRegion self.now.schema.dims r }

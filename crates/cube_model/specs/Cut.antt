@@ -10,7 +10,7 @@ children dim n = filter (λ x. option_map_or (λ p. p == n) (parent dim x) false
 unfoldable pub first_child : Dimension → ℕ → Option ℕ
 first_child dim n = slice_get (children dim n) 0
 
--- what stands behind x
+-- what stands after x
 abbrev pub behind : ℕ → List ℕ → List ℕ
 behind x [] = []
 behind x (y ∷ ys) = if y == x then ys else behind x ys

@@ -1,4 +1,4 @@
--- Which facts lie otherwise after an edit.
+-- The facts whose allocation changed after an edit.
 use Rattle.std.specs.Prelude.{ℕ, Bool, List, map, filter, not, ◌&&◌, ◌==◌}
 use Rattle.std.specs.List.{list_any}
 use Rattle.std.specs.Cmp.Lexicographic.{pointwise}

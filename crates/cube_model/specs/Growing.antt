@@ -13,6 +13,6 @@ up_to_last p (x ∷ xs) = if list_any p (x ∷ xs) then suc (up_to_last p xs) el
 abbrev pub new_child : Dimension → ℕ → List ℕ → Entry
 new_child dim parent name = record { depth = option_map_or (λ e. e.depth + 1) (entry_of dim parent) 0; name = name; number = length dim }
 
--- the dimension with a new leaf of this name behind the last node under a node, which makes it that node's last child
+-- the dimension with a new leaf of this name after the last node under a node, which makes it that node's last child
 unfoldable pub grown : Dimension → ℕ → List ℕ → Dimension
 grown dim parent name = insert dim (up_to_last (λ e. is_under dim e.number parent) dim) (new_child dim parent name)

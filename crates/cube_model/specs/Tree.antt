@@ -86,7 +86,7 @@ numbered_from k (line ∷ lines) = record { depth = line.depth; name = line.name
 abbrev pub numbered : List NodeLine → Dimension
 numbered lines = numbered_from 0 lines
 
--- Why a line may not stand at place k behind these, the nearest of them first. The depth is judged before the name.
+-- Why a line may not stand at place k after these, the nearest of them first. The depth is judged before the name.
 abbrev pub line_fault : List NodeLine → ℕ → NodeLine → Option DimFault
 line_fault [] k line = if line.depth == 0 then None else Some Root
 line_fault (before ∷ earlier) k line =

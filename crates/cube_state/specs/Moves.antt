@@ -14,8 +14,8 @@ use Rattle.region_index.specs.Changes.{Pair}
 use Rattle.cube_state.specs.declared.moves.Moves.{Moves}
 use Rattle.touched_cells.specs.Touched.{reweighing, touched}
 
--- An edit that is refused by no code that is judged before the rows, with the facts that it takes and gives, the changes of the
--- cells that it touches, and those of them that make a cell weigh otherwise.
+-- An edit that is refused by no code that is judged before the rows, with its old fact and its new fact, the changes of
+-- the cells that it touches, and those of them that make a cell weigh otherwise.
 pub record AreMoves (policy : Policy) (shape : ShapeValue) (dims : List Dimension) (facts : List Fact) (moves : Moves) : Type 0 where
   pub over : IsEditOver dims moves.edit
   pub accepted : fact_refusal shape dims moves.edit facts ≡ None

@@ -27,7 +27,7 @@ is_spread_anew before now = option_map_or (λ b. option_map_or (λ n. not (is_sa
 abbrev pub spread_anew : Policy → ℕ → List Dimension → Edit → List Fact → List ℕ → List ℕ
 spread_anew policy columns dims edit facts codes = filter (λ code. is_spread_anew (group_at policy columns dims facts code) (group_at policy columns dims (after edit facts) code)) codes
 
--- an edit takes a fact of the code, or gives one
+-- the old fact or the new fact of an edit is of the code
 abbrev pub is_edited_at : List Dimension → Edit → List Fact → ℕ → Bool
 is_edited_at dims edit facts code = option_map_or (has_code dims code) (taken edit facts) false || option_map_or (has_code dims code) (given edit) false
 

@@ -59,7 +59,7 @@ pub record SetViews (dims : List Dimension) (before after : List ExtendedFact) (
   pub staged : AreStagedFor dims changes maps stage
   pub follow : FollowBy before (taken_by changes) (given_by changes) after
 
--- there is room for the fact that an edit gives
+-- there is room for an edit's new fact
 abbrev pub has_room : Edit → List Fact → ℕ → Bool
 has_room (Put fact) facts spare = has_id fact.id facts || nat_lt 0 spare
 has_room (Change fact) facts spare = has_id fact.id facts || nat_lt 0 spare

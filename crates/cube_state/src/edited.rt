@@ -1,4 +1,4 @@
-//! The fact that an edit takes away, and the one that it gives.
+//! The old fact of an edit, and its new fact.
 ghost use Rattle.std.specs.Prelude.{◌≡◌};
 ghost use Rattle.fact_groups.specs.Edits.{edited_id, given, taken};
 
@@ -22,7 +22,7 @@ pub fn taken(edit: &Edit, facts: &FactList) -> Option<Fact>
     facts.get(edited_id(edit)).copied()
 }
 
-/// The fact that an edit gives, if it gives one.
+/// The new fact of an edit, if there is one.
 pub fn given(edit: &Edit) -> Option<Fact>
     ensures { result ≡ given edit.now }
 {

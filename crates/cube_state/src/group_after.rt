@@ -44,7 +44,7 @@ impl<P: WeightPolicy + Drop> State<P> {
         }))
     }
 
-    /// Whether an edit takes a fact of the code, or gives one.
+    /// Whether the old fact or the new fact of an edit is of the code.
     pub(crate) fn is_edited_at(&self, moves: &Moves, code: u64) -> bool
         requires { AreMoves (policy_in P.weigh self.now) self.now.shape self.now.dims self.now.facts moves.now }
         ensures { result ≡ is_edited_at self.now.dims moves.now.edit self.now.facts code }

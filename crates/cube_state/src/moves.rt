@@ -3,7 +3,7 @@ use cube_base::PlainList;
 use cube_model::{Edit, Fact};
 use touched_cells::Change;
 
-/// An edit, the facts that it takes and gives, the changes of the cells that it touches, and those of them that make a cell
+/// An edit, its old fact and its new fact, the changes of the cells that it touches, and those of them that make a cell
 /// weigh otherwise.
 #[derive(Drop)]
 pub struct Moves {

@@ -46,9 +46,9 @@ impl<P: WeightPolicy + Drop> State<P> {
         })
     }
 
-    /// The codes of the regions whose groups an edit may change, ascending: those of the facts that it takes and gives, and of the
-    /// imprecise facts that cover a cell which weighs otherwise after it. Each region over such a cell is a step. The only error is running
-    /// out of memory.
+    /// The codes of the regions whose groups an edit may change, ascending. They are those of its old fact and its new
+    /// fact, and of the imprecise facts that cover a cell which weighs otherwise after it. Each region over such a cell
+    /// is a step. The only error is running out of memory.
     pub fn codes<L: Ledger>(&self, moves: &Moves, steps: &mut Steps<L>) -> Result<Ids, Memory>
         requires { AreMoves (policy_in P.weigh self.now) self.now.shape self.now.dims self.now.facts moves.now }
         ensures codes { IfOk result (HoldChanged (policy_in P.weigh self.now) (width_of_all self.now.shape.measures) self.now.dims moves.now.edit self.now.facts) }
@@ -83,7 +83,7 @@ impl<P: WeightPolicy + Drop> State<P> {
         Ok(codes)
     }
 
-    /// The codes, with that of a fact's region behind them, if there is a fact.
+    /// The codes, with that of a fact's region after them, if there is a fact.
     fn with_code(&self, mut codes: Vec<u64>, fact: Option<Fact>) -> Result<Vec<u64>, Memory>
         requires { IfSome fact (λ f. IsRegion self.now.dims f.region) }
         ensures { IfOk result (λ more. (code : ℕ) → is_among more.items code ≡ (is_among codes.items code || option_map_or (has_code self.now.dims code) fact false)) }

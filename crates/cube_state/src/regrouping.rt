@@ -58,7 +58,7 @@ impl Draft {
 impl<P: WeightPolicy + Drop> State<P> {
     /// The groups of these codes after an edit, as far as they may be others than before, which codes are spread otherwise, and
     /// the number of rows. The codes are those that `codes` answers. It holds the groups of no more than 2^21 rows and one region: where
-    /// there would be more rows in all, those behind are only counted. The only error is running out of memory.
+    /// there would be more rows in all, those that follow are only counted. The only error is running out of memory.
     pub fn regroup(&self, moves: &Moves, codes: &[u64]) -> Result<Regrouped, Memory>
         requires moves { AreMoves (policy_in P.weigh self.now) self.now.shape self.now.dims self.now.facts moves.now }
         requires codes { HoldChanged (policy_in P.weigh self.now) (width_of_all self.now.shape.measures) self.now.dims moves.now.edit self.now.facts codes.now }

@@ -129,7 +129,7 @@ fn sets_of(stages: Stages, regrouped: Regrouped) -> Sets
     }
 }
 
-/// Makes room for the fact that an edit gives, and for the groups of entries.
+/// Makes room for an edit's new fact, and for the groups of entries.
 fn reserve(
     facts: &mut FactList,
     groups: &mut Staged<Group>,
@@ -147,7 +147,7 @@ fn reserve(
     reserve_groups(groups, entries)
 }
 
-/// Makes room for the fact that an edit gives, where none of its id is there.
+/// Makes room for an edit's new fact, where none of its id is there.
 fn reserve_fact(facts: &mut FactList, moves: &Moves) -> Result<(), Memory>
     requires takes { moves.now.taken ≡ taken_by moves.now.edit facts.old.facts }
     requires gives { moves.now.given ≡ given_by moves.now.edit }
@@ -222,7 +222,7 @@ fn new_stats(alloc: Global, changes: &[Change]) -> Result<Vec<(u64, CellStat)>, 
         .collect(alloc)
 }
 
-/// Makes ready what an edit changes in the index: the fact that it takes is dropped, and the one that it gives is put.
+/// Makes ready what an edit changes in the index: its old fact is dropped, and its new fact is put.
 fn stage_index(
     index: &mut RegionIndex,
     space: &Space,

@@ -21,9 +21,9 @@ use view_store::{Depths, ViewList, Views};
 
 impl<P: WeightPolicy + Drop> State<P> {
     /// The table of `r`, which must be a region of the space, at a depth for each dimension. Its members in a dimension are the nodes of
-    /// that depth under the region's node, and the leaves above that depth; or that node alone where it lies deeper. Of the regions of
-    /// members, the first dimension slowest, it has those where the facts have terms, with these. All its terms merged are those of `r`.
-    /// The only error is running out of memory.
+    /// that depth under the region's node, and the leaves above that depth; or that node alone where it lies deeper. It
+    /// has the regions of members where the facts have terms, with these, the first dimension slowest. All its terms
+    /// merged are those of `r`. The only error is running out of memory.
     pub fn table(&self, depths: &[u8], r: Region) -> Result<ViewList, Memory>
         requires depths { length depths.now ≡ length self.now.dims }
         requires region { IsRegion self.now.dims r }

@@ -37,7 +37,8 @@ enum Word {
 
 use Word::{Change, Put, Withdraw};
 
-/// A word with the id, the place and the value of a fact, and the id of the fact that is new or lies otherwise.
+/// A word with the id, the place and the value of a fact, and the id of the fact that is new or whose allocation
+/// changed.
 type Step = (Word, u64, u32, i64, u64);
 
 /// Precise facts and one of the state, one that costs more, and one that goes.
@@ -79,7 +80,7 @@ fn edit_of(space: &Space, step: &Step) -> Result<Edit, Fail>
     }
 }
 
-/// Whether an edit is done, and one fact alone is new or lies otherwise.
+/// Whether an edit is done, and there is only one fact that is new or whose allocation changed.
 fn is_done<L: Ledger>(cube: &mut Cube<BySum>, step: &Step, blank: Blank) -> Result<bool, Fail>
     requires { (blank.name ≡ L.name) × (blank.parts ≡ L.parts) × (0 < L.parts) }
 {

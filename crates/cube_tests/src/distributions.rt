@@ -16,7 +16,7 @@ const CASES: [Case; 2] = [
         "ok\t1\nok\t1\nerror\tparts\nerror\tparts\nerror\tparts\nerror\tparts\nerror\tparts\nerror\tparts\nerror\texists\nterms\t2\t1\t1\t80\t20\t2\t1\t50\t50\nterms\t0\npool\t0.700000000\t0.700000000\t7/10\t0.300000000\t0.300000000\t3/10\nerror\tundefined\nerror\tmeasure\nerror\tmeasure\n",
         Ending::Finished { refused: 10 },
     ),
-    // A wrong number is told before wrong parts, and a wrong line before both.
+    // A wrong number is reported before wrong parts, and a wrong line before both.
     (
         GRADED,
         "insert\t1\tAustin\tCamry\t80:20\t5\ninsert\t1\tAustin\tCamry\t80:21\t+5\ninsert\t1\tAustin\tCamry\t80:21\t5\ninsert\t1\tAustin\tCamry\t80:20\t+5\ninsert\t1\tWaco\tCamry\t80:21\t5\ninsert\t0\tAustin\tCamry\t80:21\t5\ninsert\t1\tAustin\tCamry\t80:21\nchange\t1\tAustin\tCamry\t80:20\t5\nchange\t1\tAustin\tCamry\t80:21\t+5\nchange\t1\tAustin\tCamry\t80:21\t5\n",

@@ -1,4 +1,4 @@
-//! Command lines, and what is told of each end.
+//! Command lines, and what is printed of each end.
 use crate::runs::{ALL, Ending, REPAIRS, WHOLE, run, source_of};
 use cube_base::Code;
 use cube_cli::End;
@@ -157,7 +157,7 @@ fn end_of(ending: Ending) -> End {
     }
 }
 
-/// Whether this is told of an end.
+/// Whether this is printed of an end.
 fn is_told(alloc: Global, row: &(Ending, u8, &str)) -> Result<bool, AllocError> {
     let (ending, status, text) = *row;
     let (told, line) = end_of(ending).told();
@@ -188,7 +188,7 @@ const TAKES: [Take; 8] = [
     ("abcde", 4, 1, 0, Err(InputStop::TooLong)),
     ("abcdefgh", 4, 3, 0, Err(InputStop::TooLong)),
     ("abcd", 4, 2, 3, Err(InputStop::Fault)),
-    // The read behind the end is not made.
+    // The read after the end is not made.
     ("abcd", 4, 2, 4, Ok(4)),
 ];
 

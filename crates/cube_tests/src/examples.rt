@@ -56,7 +56,7 @@ const PATIENTS_REPLIES: &str =
 const PATIENTS_FILE: &str =
     "id,Age,District,Severity,Days\n1,0-4,Hill,90:10,2\n2,5-14,Park,80:20,3\n3,Child,Hill,60:40,4\n4,15-44,Dock,50:50,5\n5,65+,South,20:80,9\n6,Adult,Dock,40:60,6\n7,All,Mill,70:30,3\n";
 
-/// A schema, a script behind it and its replies, and a file of facts with what its import is answered.
+/// A schema, a script after it and its replies, and a file of facts with what its import is answered.
 type Example = (
     &'static str,
     &'static str,

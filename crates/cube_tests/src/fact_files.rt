@@ -26,7 +26,7 @@ const MOODS: &str =
 const MIXED: &str =
     "cube\t1\npolicy\tcount\nnumber\tRepair\nparts\tMood\t100\tgood\tbad\ndimension\tPlace\nnode\t0\tAll\nnode\t1\tParis, TX\nnode\t1\tThe \"Hub\"\ndimension\tAuto\nnode\t0\tCamry\nend\n";
 
-/// Two repairs, behind a byte order mark.
+/// Two repairs, after a byte order mark.
 const TWO_REPAIRS: &str =
     "\u{feff}id,Place,Auto,Repair\r\n1,\"Paris, TX\",Camry,100\r\n2,TX,Camry,600\n";
 
@@ -181,7 +181,7 @@ const FILES: [File; 68] = [
         "",
         NO_PLACE,
     ),
-    // A fact that is refused comes before a record behind it that cannot be read, and after one before it.
+    // A fact that is refused is reported before a record after it that cannot be read, and after one before it.
     (
         PLACES,
         b"id,Place\n1,a\n1,b\nx\n",
@@ -565,7 +565,7 @@ fn is_later(batch: &Batch) -> bool {
             .all(|(kept, row)| is_spread(kept, row))
 }
 
-/// Whether a file over facts keeps its own, and the rows of those that lie otherwise.
+/// Whether a file over facts keeps its own, and the rows of those whose allocation changed.
 fn keeps_what_changed(alloc: Global) -> Result<bool, Memory> {
     let file = b"id,Place,Hours\n5,Dallas,50\n";
     let kept = run_stored(alloc, "import", (CITIES, &FACTS, &SPREADS), 0, file, &WHOLE)?;

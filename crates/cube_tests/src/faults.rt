@@ -24,7 +24,7 @@ fn lines_in(input: &[u8], taken: usize) -> usize {
     }
 }
 
-/// Whether a read that fails behind so many bytes ends the run behind the lines that came whole, which are answered.
+/// Whether a read that fails after so many bytes ends the run after the lines that came whole, which are answered.
 fn stops_behind(
     alloc: Global,
     input: &[u8],
@@ -42,7 +42,7 @@ fn stops_behind(
     Ok(ran.is(Ending::ReadFault { done: done as u64 }, replies))
 }
 
-/// Whether it is so at each read, and one behind the end is not made.
+/// Whether it is so at each read, and one after the end is not made.
 fn fails_at_each(alloc: Global, row: &(usize, u64)) -> Result<bool, AllocError> {
     let (read_step, reads) = *row;
     let input = joined(alloc, REPAIRS, SCRIPT)?;

@@ -31,9 +31,9 @@ const CASES: [Case; 11] = [
         "ok\t1\nok\t0\nrows\t1\t1\tGalleria\tCamry\t1\nok\t1\nrows\t2\t2\tGalleria\tCamry\t1\tMidtown\tCamry\t1\nview\t1\tTX\tSedan\t1\t2\t2\t10\ncount\t0.500000000\t0.500000000\t1/2\n",
         Ending::Finished { refused: 0 },
     ),
-    // The worked example grows by a city. As long as Waco has no repair, fact 4 lies as before. With a fifth repair there it lies by the
-    // weights 2, 1 and 1 over 4, so that Austin has 400 and 2 * 600 / 4, which is 700 for 2 + 2 / 4 repairs; Waco has 90 and 600 / 4 for
-    // 1 + 1 / 4; and all five cost 1,140.
+    // The worked example grows by a city. As long as Waco has no repair, fact 4 is allocated as before. With a fifth
+    // repair there it is allocated by the weights 2, 1 and 1 over 4. So Austin has 400 and 2 * 600 / 4, which is 700
+    // for 2 + 2 / 4 repairs. Waco has 90 and 600 / 4 for 1 + 1 / 4. All five cost 1,140.
     (
         REPAIRS,
         "insert\t1\tAustin\tCamry\t100\ninsert\t2\tAustin\tCamry\t300\ninsert\t3\tDallas\tCamry\t50\ninsert\t4\tTX\tCamry\t600\ngrow\tPlace\tTX\tWaco\nrows\t4\ninsert\t5\tWaco\tCamry\t90\nrows\t4\nterms\tAustin\tCamry\ncount\tAustin\tCamry\nsum\tRepair\tAustin\tCamry\ncount\tWaco\tAll\navg\tRepair\tWaco\tAll\navg\tRepair\tTX\tAll\nview\tstate\n",
@@ -62,7 +62,8 @@ const CASES: [Case; 11] = [
         "ok\t1\nok\t1\nok\t1\nterms\t2\t1\t1\t80\t20\t3\t1\t50\t50\npool\t0.725000000\t0.725000000\t29/40\t0.275000000\t0.275000000\t11/40\npool\t0.500000000\t0.500000000\t1/2\t0.500000000\t0.500000000\t1/2\nok\t0\nok\t2\npool\t0.700000000\t0.700000000\t7/10\t0.300000000\t0.300000000\t3/10\n",
         Ending::Finished { refused: 0 },
     ),
-    // Each alone, then two at once, of which the first is told: text and fields, fields and node, two wrong nodes, node and name.
+    // Each alone, then two at once, of which the first is reported: text and fields, fields and node, two wrong nodes,
+    // node and name.
     (
         REPAIRS,
         "Grow\tPlace\tTX\tx\ngrow\tPlace\tTX\ngrow\tPlace\tTX\tx\ty\ngrow\tCity\tTX\tx\ngrow\tPlace\tWaco\tx\ngrow\tPlace\tCamry\tx\ngrow\tPlace\tTX\t\ngrow\tPlace\tTX\txxxxxxxxxxxxxxxxxxxxxxxxxxxxxxxxxxxxxxxxxxxxxxxxxxxxxxxxxxxxxxxxxxxxxxxxxxxxxxxxxxxxxxxxxxxxxxxxxxxxxxxxxxxxxxxxxxxxxxxxxxxxxxxxx\ngrow\tPlace\tTX\tLA\ngrow\tPlace\tTX\tTX\ngrow\tPlace\tTX\t\x01\ty\ngrow\tCity\tTX\ngrow\tCity\tWaco\tx\ngrow\tCity\tTX\t\ngrow\tPlace\tWaco\tLA\nterms\tx\tAll\ngrow\tPlace\tTX\tCamry\ngrow\tPlace\tTX\tCamry\n",
@@ -118,7 +119,8 @@ fn keeps_regions(alloc: Global) -> Result<bool, AllocError> {
     ))
 }
 
-/// Whether a dimension does not grow where the facts would have more than 2^21 rows, and grows once two of them are gone.
+/// Whether a dimension does not grow where the facts would have more than 2^21 rows, and grows once two of them are
+/// withdrawn.
 fn keeps_rows(alloc: Global) -> Result<bool, AllocError> {
     let mut input = large_schema(alloc)?;
     let mut replies = String::new(alloc);
@@ -203,7 +205,7 @@ type Kept = (
 );
 
 const KEPT: [Kept; 4] = [
-    // A place behind those of Texas, before those of California, which have no facts.
+    // A place after those of Texas, before those of California, which have no facts.
     (
         ("grow\tPlace\tTX\tWaco\n", "ok\t0\n"),
         "cube\t2\npolicy\tcount\nnumber\tRepair\ndimension\tPlace\nnode\t0\tAll\t0\nnode\t1\tTX\t1\nnode\t2\tAustin\t2\nnode\t2\tDallas\t3\nnode\t2\tHouston\t4\nnode\t2\tWaco\t8\nnode\t1\tCA\t5\nnode\t2\tLA\t6\nnode\t2\tSF\t7\ndimension\tAuto\nnode\t0\tAll\t0\nnode\t1\tSedan\t1\nnode\t2\tCamry\t2\nnode\t2\tCivic\t3\nnode\t1\tTruck\t4\nnode\t2\tF150\t5\nnode\t2\tSierra\t6\nview\tstate\t1\t1\nend\n",

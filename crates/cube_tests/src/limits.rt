@@ -74,10 +74,10 @@ fn most_cells_that_are_shared(rt: HostRuntime) {
     assert!(rt; has_limits(rt.alloc(), SHARED, SHARED_REPLIES, 5) == Ok(true));
 }
 
-/// The first of the facts in a row, and the first id behind them.
+/// The first of the facts in a row, and the first id after them.
 const IN_ROW: (u64, u64) = (100, 1124);
 
-/// Behind them all cells that may be shared are; then one more is, and it is again as before.
+/// After them all cells that may be shared are; then one more is, and it is again as before.
 const BEHIND_ROW: &str =
     "iterate\t1\tl1\ts1\nwithdraw\t100\ninsert\t100\tl1\tR\ncomponent\t1\ncomponent\t9\niterate\t1\tl1\ts1\nwithdraw\t100\ninsert\t100\tl1\tS\niterate\t32\tL\tR\n";
 
@@ -159,7 +159,8 @@ const LARGE_TABLE: &str =
 const LARGE_TABLE_REPLIES: &str =
     "ok\t1\ncounts\t1\tn7\tn7\tn7\tn7\tn7\tn7\t1.000000000\t1.000000000\t1\n";
 
-/// How many dimensions there are, how many leaves each has under its root, a script behind the schema, its replies, and how the run ends.
+/// How many dimensions there are, how many leaves each has under its root, a script after the schema, its replies, and
+/// how the run ends.
 type Product = (u32, u32, &'static str, &'static str, Ending);
 
 const PRODUCTS: [Product; 5] = [

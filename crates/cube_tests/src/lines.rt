@@ -323,14 +323,14 @@ fn replies_to(alloc: Global, lines: &[u8], code: Code) -> Result<String, AllocEr
     Ok(replies)
 }
 
-/// The schema of repairs, and lines behind it.
+/// The schema of repairs, and lines after it.
 fn input_of(alloc: Global, lines: &[u8]) -> Result<Vec<u8>, AllocError> {
     let mut input = Vec::from_slice(alloc, REPAIRS.as_bytes())?;
     input.extend_from_slice(lines)?;
     Ok(input)
 }
 
-/// Whether each of these lines, behind which there is an LF, is refused for one code.
+/// Whether each of these lines, after which there is an LF, is refused for one code.
 fn are_refused_for(alloc: Global, code: Code, lines: &[u8]) -> Result<bool, AllocError> {
     let input = input_of(alloc, lines)?;
     let replies = replies_to(alloc, lines, code)?;
@@ -354,7 +354,7 @@ fn refused_questions(rt: HostRuntime) {
     assert!(rt; are_refused(rt.alloc(), &REFUSED_QUESTIONS));
 }
 
-/// A line whose middle is one byte many times: what stands before it, the byte, what stands behind it, and why the line
+/// A line whose middle is one byte many times: what stands before it, the byte, what stands after it, and why the line
 /// is refused where it has as many bytes as a line may have.
 type Filled = (&'static [u8], u8, &'static [u8], Code);
 
@@ -400,7 +400,7 @@ const FILLED: [Filled; 39] = [
     (b"sums\t", b'a', b"\t0\t0\tAustin\tCamry", Code::Measure),
 ];
 
-/// The line with so many bytes in all, and an LF behind it.
+/// The line with so many bytes in all, and an LF after it.
 fn filled(alloc: Global, row: &Filled, len: usize) -> Result<Vec<u8>, AllocError> {
     let (front, byte, back, _) = *row;
     let middle = len.saturating_sub(front.len()).saturating_sub(back.len());

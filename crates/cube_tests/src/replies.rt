@@ -25,7 +25,7 @@ pub const ROOT: &str = "cube\t1\npolicy\tuniform\ndimension\tPlace\nnode\t0\tAll
 pub const FOUR_REPAIRS: &str =
     "insert\t1\tAustin\tCamry\t100\ninsert\t2\tAustin\tCamry\t300\ninsert\t3\tDallas\tCamry\t50\ninsert\t4\tTX\tCamry\t600\n";
 
-/// Each is new, and no other fact lies otherwise for it.
+/// Each is new, and the allocation of no other fact changed for it.
 const FOUR_OKS: &str = "ok\t1\nok\t1\nok\t1\nok\t1\n";
 
 const CASES: [Case; 18] = [
@@ -141,7 +141,7 @@ const CASES: [Case; 18] = [
         "ok\t1\nerror\tvalue\nerror\tvalue\nerror\tvalue\nerror\tvalue\n",
         Ending::Finished { refused: 4 },
     ),
-    // Of several faults the first in their order is told, and a fault of the line before one of the edit.
+    // The first of several faults in their order is reported, and a fault of the line before one of the edit.
     (
         REPAIRS,
         "Insert\t1\tAustin\tCamry\t1\ninsert\t1\tAustin\tCamry\ninsert\t0\tWaco\tCamry\t+5\ninsert\t1\tWaco\tCamry\t+5\nsum\tPrice\tWaco\tCamry\nsum\tPrice\tAustin\tCamry\npool\tRepair\tAustin\tCamry\nchange\t1\tAustin\tCamry\t+5\nchange\t1\tAustin\tCamry\t5\n",

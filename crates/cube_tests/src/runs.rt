@@ -179,14 +179,14 @@ pub fn run(
     run_kept(alloc, words, input, outside, &mut keeper)
 }
 
-/// Two texts, one behind the other.
+/// Two texts, one after the other.
 pub fn joined(alloc: Global, front: &str, back: &str) -> Result<String, AllocError> {
     let mut text = String::from_str(alloc, front)?;
     text.push_str(back)?;
     Ok(text)
 }
 
-/// A schema, a script behind it, its replies, and how its run ends.
+/// A schema, a script after it, its replies, and how its run ends.
 pub type Case = (&'static str, &'static str, &'static str, Ending);
 
 /// Whether the run of `try` over the whole input of a case is as it says, and leaves nothing of the input.

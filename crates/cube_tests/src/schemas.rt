@@ -315,7 +315,7 @@ fn whole_schemas(rt: HostRuntime) {
     assert!(rt; end_so(rt.alloc(), &WHOLES));
 }
 
-/// How many bytes the name of a measure has, what stands behind it, and how a schema ends that ends with its line.
+/// How many bytes the name of a measure has, what stands after it, and how a schema ends that ends with its line.
 type Named = (usize, &'static str, Ending);
 
 const NAMED: [Named; 5] = [
@@ -411,7 +411,7 @@ const NUMBERED: &str =
     "cube\t2\npolicy\tcount\ndimension\tPlace\nnode\t0\tAll\t0\nnode\t1\tTX\t1\nnode\t2\tAustin\t2\nnode\t2\tWaco\t5\nnode\t1\tCA\t3\nnode\t2\tLA\t4\nend\n";
 
 const CASES: [Case; 1] = [
-    // Waco is the last node, and stands before the places behind it.
+    // Waco is the last node, and stands before the places after it.
     (
         NUMBERED,
         "insert\t1\tWaco\ninsert\t2\tTX\nrows\t2\nwithdraw\t1\nrows\t2\n",

@@ -42,7 +42,8 @@ pub const REPAIR_FACTS: [FactRow; 4] = [
     (4, &[1, 2], &[600]),
 ];
 
-/// How they are spread. Behind the cities, the code of a cell is four times the place of the city, and that of the model.
+/// How they are spread. After the cities, the code of a cell is four times the place of the city, and that of the
+/// model.
 pub const REPAIR_SPREADS: [SpreadRow; 4] = [
     (1, 1, &[(0, 1)]),
     (2, 1, &[(0, 1)]),

@@ -12,7 +12,7 @@ use cube_core::Finding;
 use fact_keeper::{Batch, KeptRows, MemKeeper};
 use std::alloc::Global;
 
-/// The schema as it is written by hand: a comment first, lines that end with CR LF, and behind its end what is passed over.
+/// The schema as it is written by hand: a comment first, lines that end with CR LF, and after its end what is skipped.
 const BY_HAND: &str =
     "# two cities\r\ncube\t1\r\npolicy\tcount\r\nnumber\tHours\r\ndimension\tPlace\r\nnode\t0\tAll\r\nnode\t1\tTX\r\nnode\t2\tAustin\r\nnode\t2\tDallas\r\nend\r\n\r\n# no more\r\n";
 
@@ -402,7 +402,7 @@ fn a_script_over_a_store_again(rt: HostRuntime) {
     assert!(rt; is_loaded_again(rt.alloc()) == Ok(true));
 }
 
-/// The schema, facts and rows of a store, and what is told of it on standard error.
+/// The schema, facts and rows of a store, and what is printed of it on standard error.
 type Damage = (
     &'static str,
     &'static [FactRow],
@@ -562,7 +562,7 @@ fn are_too_many(alloc: Global) -> Result<bool, Memory> {
     told
 }
 
-/// The schema of the two cities behind a comment.
+/// The schema of the two cities after a comment.
 const REMARKED: &str =
     "# two cities\ncube\t1\npolicy\tcount\nnumber\tHours\ndimension\tPlace\nnode\t0\tAll\nnode\t1\tTX\nnode\t2\tAustin\nnode\t2\tDallas\nend\n";
 

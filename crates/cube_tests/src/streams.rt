@@ -29,7 +29,7 @@ const FAILS: [Failing; 11] = [
         "ok\t1\nok\t1\n",
         &[1, 2],
     ),
-    // The read behind the end is not made.
+    // The read after the end is not made.
     (
         0,
         54,
@@ -80,7 +80,7 @@ fn one_failure_at_each_place(rt: HostRuntime) {
     assert!(rt; fail_so(rt.alloc(), &FAILS));
 }
 
-/// Whether the reply to the first line is written, which fails, before more than one piece behind the line is taken.
+/// Whether the reply to the first line is written, which fails, before more than one piece after the line is taken.
 fn answers_before(alloc: Global) -> Result<bool, Memory> {
     let mut script = String::from_str(alloc, "insert\t1\tAustin\tCamry\t100\n")?;
     for _ in 0..200_000 {

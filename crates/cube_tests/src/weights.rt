@@ -5,7 +5,7 @@ use crate::runs::{Case, Ending, hold};
 pub const BY_REPAIRS: &str =
     "cube\t1\npolicy\tweight\tRepair\nnumber\tRepair\ndimension\tPlace\nnode\t0\tAll\nnode\t1\tTX\nnode\t2\tAustin\nnode\t2\tDallas\nnode\t2\tHouston\nnode\t1\tCA\nnode\t2\tLA\nnode\t2\tSF\ndimension\tAuto\nnode\t0\tAll\nnode\t1\tSedan\nnode\t2\tCamry\nnode\t2\tCivic\nnode\t1\tTruck\nnode\t2\tF150\nnode\t2\tSierra\nend\n";
 
-/// The same with hours behind the repairs, where a cell weighs as many as its hours.
+/// The same with hours after the repairs, where a cell weighs as many as its hours.
 const BY_HOURS: &str =
     "cube\t1\npolicy\tweight\tHours\nnumber\tRepair\nnumber\tHours\ndimension\tPlace\nnode\t0\tAll\nnode\t1\tTX\nnode\t2\tAustin\nnode\t2\tDallas\nnode\t2\tHouston\nnode\t1\tCA\nnode\t2\tLA\nnode\t2\tSF\ndimension\tAuto\nnode\t0\tAll\nnode\t1\tSedan\nnode\t2\tCamry\nnode\t2\tCivic\nnode\t1\tTruck\nnode\t2\tF150\nnode\t2\tSierra\nend\n";
 

@@ -32,7 +32,7 @@ fn worlds_of_repairs(rt: HostRuntime) {
     assert!(rt; hold(rt.alloc(), &CASES));
 }
 
-/// Facts of which each is new and alone lies otherwise: how many at which node, one group behind the other.
+/// Facts of which each is new and no other's allocation changes: how many at which node, one group after the other.
 type Group = (u64, &'static str);
 
 /// A schema without measures, facts, questions, and the replies to these.

@@ -65,7 +65,7 @@ pub record IsIndexed (nodes : List Node) (names : List (List ℕ)) (places kept_
   pub of_places : ArePlaces (numbers_kept nodes) places
   pub of_leaves : kept_leaves ≡ leaves_from 0 (depths_kept nodes)
 
--- the place behind the last node under the one at a place
+-- the place after the last node under the one at a place
 abbrev pub end_at : Dimension → ℕ → ℕ
 end_at dim i = slice_index (ends_from 0 (map (λ line. line.depth) (node_lines dim))) i
 

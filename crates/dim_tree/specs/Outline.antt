@@ -25,7 +25,7 @@ pub record IsOutline (depths : List ℕ) (names : List (List ℕ)) (numbers : Li
 abbrev pub line_of : Entry → NodeLine
 line_of e = record { depth = e.depth; name = e.name }
 
--- why a line of this depth may not stand at place k, behind a line of the depth `before`
+-- why a line of this depth may not stand at place k, after a line of the depth `before`
 abbrev pub depth_fault : Option ℕ → ℕ → ℕ → Option DimFault
 depth_fault None k depth = if depth == 0 then None else Some Root
 depth_fault (Some before) k depth = if depth == 0 || nat_lt MAX_DEPTH depth || nat_lt (before + 1) depth then Some (Depth k) else None

@@ -6,7 +6,7 @@ abbrev pub count_deeper : ℕ → List ℕ → ℕ
 count_deeper f [] = 0
 count_deeper f (depth ∷ depths) = if nat_lt f depth then suc (count_deeper f depths) else 0
 
--- for each node the place behind the last node under it, where the first node has place k
+-- for each node the place after the last node under it, where the first node has place k
 abbrev pub ends_from : ℕ → List ℕ → List ℕ
 ends_from k [] = []
 ends_from k (depth ∷ depths) = (k + 1 + count_deeper depth depths) ∷ ends_from (k + 1) depths
@@ -30,7 +30,7 @@ abbrev pub leaves_from : ℕ → List ℕ → List ℕ
 leaves_from k [] = []
 leaves_from k (depth ∷ depths) = if is_childless depth depths then k ∷ leaves_from (k + 1) depths else leaves_from (k + 1) depths
 
--- for each node, and behind the last, how many leaves stand before it, where c stand before the first
+-- for each node, and after the last, how many leaves stand before it, where c stand before the first
 abbrev pub leaf_counts_from : ℕ → List ℕ → List ℕ
 leaf_counts_from c [] = c ∷ []
 leaf_counts_from c (depth ∷ depths) = c ∷ leaf_counts_from (if is_childless depth depths then c + 1 else c) depths

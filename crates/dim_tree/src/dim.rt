@@ -304,7 +304,7 @@ impl Dim {
         }
     }
 
-    /// The next node with the same parent: None where there is none behind it, as for the root.
+    /// The next node with the same parent: None where there is none after it, as for the root.
     pub fn next_sibling(&self, n: u32) -> Option<u32>
         requires { n < length self.now }
         ensures sibling { result ≡ next_sibling self.now n }

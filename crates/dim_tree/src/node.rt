@@ -17,7 +17,7 @@ pub struct Node {
     pub number: u32,
     /// The number of its parent; for the root its own.
     pub parent: u32,
-    /// The place behind the last node under it.
+    /// The place after the last node under it.
     pub end: u32,
     /// The number of leaves before it.
     pub first_leaf: u32,
@@ -25,7 +25,7 @@ pub struct Node {
     pub leaves_end: u32,
 }
 
-/// What is kept for the nodes, from the number of leaves before each and, behind the last, of all.
+/// What is kept for the nodes, from the number of leaves before each and, after the last, of all.
 pub fn kept_nodes(
     alloc: Global,
     depths: &[u8],

@@ -70,7 +70,7 @@ pub fn judged_names<L: Outlined>(alloc: Global, nodes: &[L]) -> Result<IndexSet<
     Ok(names)
 }
 
-/// Judges the line at a place, behind a line of the depth `before`, and keeps its name.
+/// Judges the line at a place, after a line of the depth `before`, and keeps its name.
 fn judge_line(
     alloc: Global,
     names: &mut IndexSet<String>,
@@ -89,7 +89,7 @@ fn judge_line(
     add_name(alloc, names, place, name)
 }
 
-/// Judges the depth of the line at a place, behind a line of the depth `before`.
+/// Judges the depth of the line at a place, after a line of the depth `before`.
 fn judge_depth(before: Option<u8>, place: u32, depth: u8) -> Result<(), DimFault>
     ensures accepted { OnOk result (depth_fault before place depth ≡ None) }
     ensures refused { IfErr result (IsCause (depth_fault before place depth)) }

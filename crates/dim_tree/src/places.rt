@@ -29,7 +29,7 @@ pub fn parents_of(alloc: Global, depths: &[u8]) -> Result<Vec<u32>, AllocError>
     Ok(parents)
 }
 
-/// For each node the place behind the last node under it.
+/// For each node the place after the last node under it.
 pub fn ends_of(alloc: Global, depths: &[u8]) -> Result<Vec<u32>, AllocError>
     requires few { length depths.now ≤ MAX_NODES }
     requires shallow { list_all (λ depth. nat_le depth MAX_DEPTH) depths.now ≡ true }
@@ -54,7 +54,7 @@ fn is_childless(depths: &[u8], place: usize) -> bool
     place + 1 == depths.len() || depths[place + 1] <= depths[place]
 }
 
-/// For each node, and behind the last, the number of leaves before it; and the leaves.
+/// For each node, and after the last, the number of leaves before it; and the leaves.
 pub fn leaves_of(alloc: Global, depths: &[u8]) -> Result<(Vec<u32>, Vec<u32>), AllocError>
     requires { length depths.now ≤ MAX_NODES }
     ensures before { IfOk result (λ r. r.0.items ≡ leaf_counts_from 0 depths.now) }

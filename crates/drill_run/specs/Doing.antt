@@ -1,4 +1,4 @@
--- What edits do that are done one after the other, where those that are refused are passed over.
+-- What edits do that are done one after the other, where those that are refused are skipped.
 use Rattle.std.specs.Prelude.{ℕ, ◌+◌, List, [], ◌∷◌, length, Option, None, Some}
 use Rattle.std.specs.Option.{option_map_or}
 use Rattle.cube_model.specs.declared.edit.Edit.{Edit}

@@ -5,7 +5,7 @@ use Rattle.std.specs.Prelude.{ℕ, zero, suc, ◌+◌, ◌*◌, ◌/◌, ◌%◌
 abbrev pub MODULUS : ℕ
 MODULUS = 2147483648
 
--- the state behind a state
+-- the state after a state
 abbrev pub next_state : ℕ → ℕ
 next_state state = (state * 1103515245 + 12345) % MODULUS
 

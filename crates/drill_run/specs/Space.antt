@@ -8,7 +8,7 @@ use Rattle.fact_records.specs.declared.shape.Kind.TheVariants.{Number}
 use Rattle.schema_text.specs.declared.word.PolicyWord.TheVariants.{Count}
 use Rattle.schema_text.specs.Schema.{SchemaValue}
 
--- a word with a number behind it
+-- a word with a number after it
 abbrev pub numbered_name : List ℕ → ℕ → List ℕ
 numbered_name word number = word ++ decimal number
 

@@ -12,7 +12,7 @@ use std::alloc::Global;
 /// The most facts of a drill.
 pub const MAX_DRILL: u64 = 100_000;
 
-/// What a drill came to.
+/// The result of a drill.
 #[derive(Debug, Drop)]
 pub struct Summary {
     /// The line that tells it, with its end.
@@ -33,7 +33,7 @@ pub fn run_drill(alloc: Global, n: u64) -> Result<Summary, Memory>
     carry_out(alloc, &mut drill, n)
 }
 
-// Does the edits on a cube to which nothing was done, and tells what they came to.
+// Does the edits on a cube to which nothing was done, and reports what they resulted in.
 fn carry_out(alloc: Global, drill: &mut Drill, n: u64) -> Result<Summary, Memory>
     requires most { n ≤ MAX_DRILL }
     requires blank { drill.old ≡ blank_tally }

@@ -29,8 +29,8 @@ kept_fact fact = record { id = fact.id; nodes = fact.region; cols = fact.cols }
 abbrev pub kept_rows : ExtendedFact → KeptRows
 kept_rows e = record { id = e.id; den = e.allocation.den; rows = e.allocation.rows }
 
--- What an edit changes of what is kept: a withdrawn id goes, the fact that is given is put, and so are the rows of the facts
--- that the edit refreshes.
+-- What an edit changes of what is kept: a withdrawn id is deleted, the new fact is put, and so are the rows of the
+-- facts that the edit refreshes.
 abbrev pub difference : Policy → List Dimension → Edit → List Fact → Batch
 difference policy dims edit facts = record {
   schema = None;
@@ -68,7 +68,8 @@ IsChangeFor weigh state (plan_change.All all) = AreAllFor weigh state all
 abbrev pub IsPlanFor : {P : Type 0} → (P → CellStat → ℕ) → StateValue P → PlanValue → Type 0
 IsPlanFor weigh state plan = IsChangeFor weigh state plan.change
 
--- Why an edit is not planned. Where it is refused for the number of rows, that number is told, else the code. Out of memory is said only where the fact is not refused.
+-- Why an edit is not planned. Where it is refused for the number of rows, that number is reported, else the code. Out
+-- of memory is said only where the fact is not refused.
 abbrev pub IsFaultOf : {P : Type 0} → (P → CellStat → ℕ) → StateValue P → Edit → PlanFault → Type 0
 IsFaultOf weigh state edit (plan_fault.Code refusal) = (judge_in weigh state edit ≡ Some refusal) × (refusal ≢ code.Rows)
 IsFaultOf weigh state edit (plan_fault.Rows would) = (judge_in weigh state edit ≡ Some code.Rows) × (would ≡ row_count (rows_after weigh state edit))

@@ -1,4 +1,4 @@
--- Which facts an edit refreshes, told by the groups after it.
+-- Which facts an edit refreshes, given by the groups after it.
 use Rattle.std.specs.Prelude.{◌≡◌, ℕ, Bool, true, false, List, All, filter, find, length, map, not, sum_by, ◌==◌, if◌then◌else◌, Option, Some, None, unwrap_or}
 use Rattle.std.specs.List.{flat_map}
 use Rattle.std.specs.Option.{option_and_then, option_map, option_map_or}
@@ -40,7 +40,7 @@ others_with id code ids = map (λ other. (other, code)) (filter (λ other. not (
 abbrev pub others_at : List Dimension → List Fact → ℕ → List ℕ → List (ℕ × ℕ)
 others_at dims facts id codes = flat_map (λ code. others_with id code (ids_with dims facts code)) codes
 
--- the id of the fact that an edit gives, with the code of its region, where the fact is new or lies otherwise than before
+-- the id of an edit's new fact, with the code of its region, where its id is new or its allocation changed
 abbrev pub own_pair : Policy → List Dimension → Edit → List Fact → Option (ℕ × ℕ)
 own_pair policy dims edit facts = option_and_then (λ f. if is_new_or_moved policy dims edit facts f then Some (f.id, code_of dims f.region) else None) (given edit)
 

@@ -45,7 +45,7 @@ difference_with policy dims new facts = record {
 abbrev pub lay_so : Policy → List Dimension → List Fact → ℕ → Allocation → Bool
 lay_so policy dims facts id spread = list_any (λ f. f.id == id && is_same (allocation policy dims facts f) spread) facts
 
--- a fact of the later ones is new or lies otherwise than before
+-- a fact of the later ones is new or its allocation changed
 abbrev pub lies_otherwise : Policy → List Dimension → List Fact → List Fact → Fact → Bool
 lies_otherwise policy dims facts later fact = not (lies_as_before policy dims facts later fact)
 

@@ -74,7 +74,7 @@ fn others_at<P: WeightPolicy + Drop, L: Ledger>(
     Ok(pairs)
 }
 
-/// The id of the fact that an edit gives with the code of its region, where the fact is new or lies otherwise than before.
+/// The id of an edit's new fact with the code of its region, where its id is new or its allocation changed.
 fn own_pair<P: WeightPolicy + Drop>(
     state: &State<P>,
     moves: &Moves,
@@ -94,7 +94,7 @@ fn own_pair<P: WeightPolicy + Drop>(
     Some((given.id, code))
 }
 
-/// Whether an edit takes a fact that was spread so.
+/// Whether an edit has an old fact, and that was spread so.
 fn lay_as<P: WeightPolicy + Drop>(state: &State<P>, moves: &Moves, spread: Option<&Alloc>) -> bool
     requires { AreMoves (policy_in P.weigh state.now) state.now.shape state.now.dims state.now.facts moves.now }
     ensures { result ≡ option_map_or (λ f. is_same_spread (Some (spread_at (policy_in P.weigh state.now) state.now.dims state.now.facts f.region)) (option_copied spread.entry)) (taken moves.now.edit state.now.facts) false }

@@ -44,7 +44,7 @@ pub fn batch<P: WeightPolicy + Drop>(
     })
 }
 
-/// The fact that an edit gives, as it is kept, if it gives one.
+/// The new fact of an edit, as it is kept, if there is one.
 fn kept_facts<P: WeightPolicy + Drop>(
     alloc: Global,
     state: &State<P>,

@@ -147,7 +147,7 @@ fn refreshed_among<P: WeightPolicy + Drop>(
     Ok(refreshed)
 }
 
-/// Holds one of all facts, where it is new or lies otherwise than before.
+/// Holds one of all facts, where it is new or its allocation changed.
 fn refresh<P: WeightPolicy + Drop>(
     state: &State<P>,
     all: &FactsKept,

@@ -1,4 +1,4 @@
--- Terms that so many facts can have, whose sums and quotients can be told within 128 bits.
+-- Terms that so many facts can have, whose sums and quotients can be given within 128 bits.
 use Rattle.std.specs.Prelude.{◌*◌, ◌≤◌, List, All, length, nat_abs}
 use Rattle.cube_model.specs.declared.term.Term.{Term}
 use Rattle.cube_model.specs.Limits.{MAX_FACTS, MAX_VALUE}

@@ -8,7 +8,7 @@ use Rattle.exact_fraction.specs.declared.fraction.SignedFraction.{SignedFraction
 use Rattle.exact_fraction.specs.Signed.{StandsFor}
 use Rattle.exact_fraction.specs.Fraction.{Fraction, reduced, column_fractions, common_den, sum_over, abs_over, floor_of, ceiling_of}
 
--- the sum cannot be told as one fraction
+-- the sum cannot be given as one fraction
 abbrev pub is_wide : List Fraction → Bool
 is_wide fs = nat_lt WIDE (common_den fs) || nat_lt WIDE (abs_over (common_den fs) fs)
 
@@ -28,7 +28,7 @@ sum_of fs = if is_wide fs then wide_value fs else exact_value (reduced (sum_over
 unfoldable pub one_of : ℕ → List Term → Value
 one_of column terms = sum_of (column_fractions column terms)
 
--- p is the sum of fractions, which can be told as one
+-- p is the sum of fractions, which can be given as one
 pub record IsExactSum (fs : List Fraction) (p : SignedFraction) : Type 0 where
   pub narrow : is_wide fs ≡ false
   pub parts : StandsFor (reduced (sum_over (common_den fs) fs) (common_den fs)) p

@@ -19,7 +19,7 @@ joint_den fs cs = common_den (fs ++ cs)
 abbrev pub quotient_of : ℕ → List Fraction → List Fraction → Fraction
 quotient_of scale fs cs = reduced (sum_over (joint_den fs cs) fs) (abs_over (joint_den fs cs) cs * scale)
 
--- it cannot be told as one fraction
+-- it cannot be given as one fraction
 abbrev pub is_wide_quotient : ℕ → List Fraction → List Fraction → Bool
 is_wide_quotient scale fs cs =
     nat_lt WIDE (joint_den fs cs) || nat_lt WIDE (abs_over (joint_den fs cs) fs) || nat_lt WIDE (abs_over (joint_den fs cs) cs) || nat_lt WIDE (quotient_of scale fs cs).den
@@ -53,7 +53,7 @@ unfoldable pub ratio_of : ℕ → ℕ → List Term → Quotient
 ratio_of column scale [] = Undefined
 ratio_of column scale (t ∷ terms) = quotient_or_bounds column scale (t ∷ terms)
 
--- p is the quotient, which can be told as one fraction
+-- p is the quotient, which can be given as one fraction
 pub record IsExactQuotient (scale : ℕ) (fs cs : List Fraction) (p : SignedFraction) : Type 0 where
   pub narrow : is_wide_quotient scale fs cs ≡ false
   pub parts : StandsFor (quotient_of scale fs cs) p

@@ -29,7 +29,7 @@ signed_lowest p = record { negative = p.negative; size = p.size / gcd p.size p.d
 abbrev pub next_above : ℕ → ℕ → ℕ
 next_above whole rest = if rest == 0 then whole else whole + 1
 
--- the greatest whole part of a fraction that bounds are told of
+-- the greatest whole part of a fraction that bounds are given for
 abbrev pub MOST_WHOLE : ℕ
 MOST_WHOLE = 2 ^ 80
 
@@ -60,7 +60,7 @@ pub record AddsToSums (old : SignedSums) (negative : Bool) (share : ℕ) (new : 
   pub size : new.above + new.below ≡ old.above + old.below + share
   pub within : new.above + new.below ≤ WIDE
 
--- p is a fraction that bounds can be told of
+-- p is a fraction that bounds can be given for
 pub record StandsFor (f : Fraction) (p : SignedFraction) : Type 0 where
   pub fraction : fraction_of p ≡ f
   pub some : 1 ≤ p.den

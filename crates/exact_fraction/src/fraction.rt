@@ -6,7 +6,7 @@ ghost use Rattle.exact_fraction.specs.Signed.{MOST_WHOLE, SMALL_DEN, fraction_of
 
 use crate::gcd::gcd;
 
-/// The decimal digits of a bound behind the point.
+/// The decimal digits of a bound after the point.
 const PLACES: u32 = 9;
 
 /// How many units are one.

@@ -18,13 +18,13 @@ pub fn worked_examples()
     ensures undefined { ratio_of 0 1 [] ≡ Undefined }
 {}
 
-/// Sums that cannot be told as one fraction, worked out by hand: by the least common multiple, and by the sum over it.
+/// Sums that cannot be given as one fraction, worked out by hand: by the least common multiple, and by the sum over it.
 pub fn worked_wide_sums()
     ensures multiple { one_of 0 far_apart ≡ record { lo = pos 0; hi = pos 2; exact = None } }
     ensures sum { one_of 0 large_sum ≡ record { lo = pos 1188623171; hi = pos 1188623173; exact = None } }
 {}
 
-/// Quotients that cannot be told as one fraction, worked out by hand, each with another number that passes the limit:
+/// Quotients that cannot be given as one fraction, worked out by hand. Each has another number that passes the limit:
 /// the least common multiple, the sum of the column and that of the count over it, and the quotient's denominator. A
 /// count whose lower bound is 0 gives no bounds.
 pub fn worked_wide_quotients()

@@ -1,4 +1,4 @@
-//! One exact fraction, or sound bounds, within 128 bits: the arithmetic behind a count, a sum, an average and pooling.
+//! One exact fraction, or sound bounds, within 128 bits: the arithmetic of a count, a sum, an average and pooling.
 #![tactic(auto)]
 
 mod column;

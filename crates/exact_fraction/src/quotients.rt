@@ -22,7 +22,7 @@ use group_sum::Terms;
 pub enum Quotient {
     /// There is no count to divide by.
     Undefined,
-    /// One fraction where the quotient was told as such, and bounds in units of 10^-9: none where it was not and the
+    /// One fraction where the quotient was given as such, and bounds in units of 10^-9: none where it was not and the
     /// count's lower bound is 0.
     Is {
         /// A number of units that is not above the quotient.
@@ -36,10 +36,10 @@ pub enum Quotient {
 }
 
 /// The sum of a column divided by that of the count, which is column 0, and a scale; `Undefined` where there is no term.
-/// With each term's fraction in lowest terms, it is told as one fraction where none of these is above 2^120, and nowhere
-/// else: the least common multiple of the denominators of both columns, the sum of each column's absolute values over it,
-/// as a numerator, and the denominator of the quotient in lowest terms. Where it is not, the bounds are those of the two
-/// sums divided, and none where the lower one of the count is 0.
+/// With each term's fraction in lowest terms, it is given as one fraction where none of these is above 2^120, and
+/// nowhere else. They are the least common multiple of the denominators of both columns, the sum of each column's
+/// absolute values over it, as a numerator, and the denominator of the quotient in lowest terms. Where it is not, the
+/// bounds are those of the two sums divided, and none where the lower one of the count is 0.
 ///
 /// The column is below the number of columns, the scale is from 1 to `MAX_SCALE`, and the terms are moderate as for [`crate::one`].
 pub fn ratio(t: &Terms, col: u32, scale: u32) -> Quotient
@@ -64,8 +64,8 @@ pub fn ratio(t: &Terms, col: u32, scale: u32) -> Quotient
     }
 }
 
-// The quotient in lowest terms, if it can be told as one fraction, by the least common multiples of the denominators of
-// the column and of the count.
+// The quotient in lowest terms, if it can be given as one fraction, by the least common multiples of the denominators
+// of the column and of the count.
 fn exact_ratio(
     t: &Terms,
     col: u32,

@@ -12,7 +12,7 @@ use crate::column::{SignedSums, common_den, signed_sums, wide_bounds};
 use crate::fraction::{SignedFraction, bounds_of, reduce, with_sign};
 use group_sum::Terms;
 
-/// A number: bounds in units of 10^-9, and one fraction where it was told as such.
+/// A number: bounds in units of 10^-9, and one fraction where it was given as such.
 #[derive(Clone, Copy, Debug, PartialEq, Eq)]
 pub struct Value {
     /// A number of units that is not above the value.
@@ -23,9 +23,9 @@ pub struct Value {
     pub exact: Option<(i128, u128)>,
 }
 
-/// The sum of a column, the count being column 0. With each term's fraction in lowest terms, it is told as one fraction
-/// where neither the least common multiple of their denominators nor the sum of their absolute values over it, as a
-/// numerator, is above 2^120, and nowhere else. Where it is not, the bounds are those of the terms added up.
+/// The sum of a column, the count being column 0. With each term's fraction in lowest terms, it is given as one
+/// fraction where neither the least common multiple of their denominators nor the sum of their absolute values over it,
+/// as a numerator, is above 2^120, and nowhere else. Where it is not, the bounds are those of the terms added up.
 ///
 /// The column is below the number of columns. The terms are moderate: at most 2^20, each of a count of at most 2^20, and no
 /// sum of one is above 10^12 times its count in absolute value.
@@ -67,7 +67,7 @@ fn wide_value(t: &Terms, col: u32) -> Value
     }
 }
 
-// The sum in lowest terms, if it can be told as one fraction.
+// The sum in lowest terms, if it can be given as one fraction.
 fn exact_sum(t: &Terms, col: u32, common: Option<u128>) -> Option<SignedFraction>
     requires column { col < t.now.columns }
     requires moderate { IsModerate t.now.terms }

@@ -23,7 +23,7 @@ cells_in_order None (Some b) = b ∷ []
 cells_in_order (Some a) None = a ∷ []
 cells_in_order (Some a) (Some b) = if a == b then a ∷ [] else (if nat_lt a b then a ∷ b ∷ [] else b ∷ a ∷ [])
 
--- the cells of the precise facts that an edit takes and gives, of which there are at most two
+-- the cells of an edit's old fact and new fact where these are precise, of which there are at most two
 unfoldable pub touched_cells : List Dimension → Edit → List Fact → List ℕ
 touched_cells dims edit facts = cells_in_order (cell_of dims (taken edit facts)) (cell_of dims (given edit))
 
@@ -54,8 +54,8 @@ holds_any dims region cells = list_any (is_among (cells_of dims region)) cells
 abbrev pub covers_any : List Dimension → List ℕ → Fact → Bool
 covers_any dims cells fact = not (is_precise dims fact) && holds_any dims fact.region cells
 
--- Among these codes is each at which an edit may change the group: those of the regions of the facts that it takes and gives, and
--- of each imprecise fact that covers a cell which it reweighs.
+-- Each code at which an edit may change the group is among these codes. Such are the codes of the regions of its old
+-- fact and its new fact, and of each imprecise fact that covers a cell which it reweighs.
 pub record HasCodesOf (policy : Policy) (dims : List Dimension) (edit : Edit) (facts : List Fact) (codes : List ℕ) : Type 0 where
   pub took : IfSome (taken edit facts) (λ f. is_among codes (code_of dims f.region) ≡ true)
   pub gave : IfSome (given edit) (λ f. is_among codes (code_of dims f.region) ≡ true)

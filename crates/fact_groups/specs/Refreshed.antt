@@ -1,4 +1,4 @@
--- Which facts an edit refreshes, told by the cells that weigh otherwise, or by the groups that are spread otherwise.
+-- Which facts an edit refreshes, given by the cells that weigh otherwise, or by the groups that are spread otherwise.
 use Rattle.std.specs.Prelude.{ℕ, Bool, List, true, false, filter, map, not, ◌&&◌, ◌==◌, if◌then◌else◌, find}
 use Rattle.std.specs.List.{flat_map}
 use Rattle.std.specs.Option.{option_map_or}
@@ -16,7 +16,7 @@ use Rattle.fact_groups.specs.Groups.{group_at, has_code, spread_at}
 abbrev pub is_spread_otherwise : Policy → List Dimension → Edit → List Fact → List ℕ → List ℕ → Bool
 is_spread_otherwise policy dims edit facts before now = not (is_same (spread_at policy dims facts before) (spread_at policy dims (after edit facts) now))
 
--- the fact that an edit gives is new, or lies otherwise than the one of its id did
+-- an edit's new fact has a new id, or its allocation differs from that of the fact with its id
 abbrev pub is_new_or_moved : Policy → List Dimension → Edit → List Fact → Fact → Bool
 is_new_or_moved policy dims edit facts fact = option_map_or (λ f. is_spread_otherwise policy dims edit facts f.region fact.region) (find (λ f. f.id == fact.id) facts) true
 

@@ -51,8 +51,8 @@ pub fn values_of_keys_are_taken_once<K, X>()
         → total_by f items ≡ total_by (λ key. total_by h (held_by holds key items) *ℤ pos (share key)) keys }
 {}
 
-/// What an edit does, accepted or not, to what facts in order of their ids add up to, and to their number: it takes one fact at
-/// most, and gives one at most.
+/// What an edit does, accepted or not, to what facts in order of their ids add up to, and to their number. It has one
+/// old fact at most, and one new fact at most.
 pub fn edits_move_sums_by_one_fact()
     ensures sums { (f : Fact → ℕ) (edit : Edit) (facts : List Fact) → AllPairs (λ f g. f.id < g.id) facts
         → sum_by f (after edit facts) + option_map_or f (taken edit facts) 0 ≡ sum_by f facts + option_map_or f (given edit) 0 }
@@ -85,8 +85,8 @@ pub fn edits_replace_one_fact()
 {}
 
 /// What an edit, accepted or not, does to the statistics of a cell. It touches at most two cells, those of the precise facts
-/// that it takes and gives; of these, the ones that it changes are the cells that have other statistics afterwards, and the ones
-/// that it reweighs those that weigh otherwise.
+/// among its old fact and its new fact. It changes those of them that have other statistics afterwards, and reweighs
+/// those that weigh otherwise.
 pub fn edits_change_two_cells_at_most()
     ensures counts { (policy : Policy) (dims : List Dimension) (edit : Edit) (facts : List Fact) → AllPairs (λ f g. f.id < g.id) facts → (cell : ℕ)
         → (stat_of policy dims (after edit facts) cell).count + option_map_or (λ f. if lies_at dims cell f then 1 else 0) (taken edit facts) 0
@@ -153,8 +153,8 @@ pub fn groups_stand_for_their_facts()
         → IfSome (find (λ f. f.id == id) facts) (λ f. option_map (λ g. g.spread) (group_at policy columns dims facts (code_of dims f.region)) ≡ Some (spread_at policy dims facts f.region)) }
 {}
 
-/// A group of which an edit, accepted or not, takes no fact and to which it gives none has the facts that it had, and stays as it
-/// was where its region holds no cell that the edit reweighs.
+/// A group that holds neither the old fact nor the new fact of an edit, accepted or not, has the facts that it had, and
+/// stays as it was where its region holds no cell that the edit reweighs.
 pub fn groups_elsewhere_stay()
     ensures members { (p : Fact → Bool) (edit : Edit) (facts : List Fact) → AllPairs (λ f g. f.id < g.id) facts
         → option_map_or p (taken edit facts) false ≡ false → option_map_or p (given edit) false ≡ false → filter p (after edit facts) ≡ filter p facts }
@@ -164,8 +164,8 @@ pub fn groups_elsewhere_stay()
         → group_at policy columns dims (after edit facts) code ≡ group_at policy columns dims facts code }
 {}
 
-/// An edit, accepted or not, changes no group but at the codes of the regions of the facts that it takes and gives, and of the
-/// imprecise facts that cover a cell which it reweighs.
+/// An edit, accepted or not, changes no group but at the codes of some regions. They are the regions of its old fact
+/// and its new fact, and of the imprecise facts that cover a cell which it reweighs.
 pub fn groups_stay_but_at_the_codes_of_an_edit()
     ensures { (policy : Policy) (columns : ℕ) (dims : List Dimension) (edit : Edit) (facts : List Fact) (codes : List ℕ) → AllPairs (λ f g. f.id < g.id) facts
         → HasCodesOf policy dims edit facts codes → HaveSameGroupsBut codes policy columns dims facts (after edit facts) }
@@ -227,14 +227,15 @@ pub fn facts_follow_by_the_groups_that_differ()
         ≡ sum_at cells (extended policy dims facts) column den +ℤ sum_at cells (flat_map group_facts (groups_at policy columns dims later codes)) column den }
 {}
 
-/// Two allocations are told to be the same exactly where they are equal.
+/// Two allocations are reported to be the same exactly where they are equal.
 pub fn same_allocations_are_equal()
     ensures equal { (a b : Allocation) → is_same a b ≡ true → a ≡ b }
     ensures same { (a : Allocation) → is_same a a ≡ true }
 {}
 
-/// An edit, accepted or not, refreshes the fact that it gives where that is new or has another allocation than the one of its id had, and
-/// of the others each imprecise one whose region holds a cell that the edit reweighs and is spread otherwise. Their ids ascend.
+/// An edit, accepted or not, refreshes its new fact where its id is new or its allocation changed. It also refreshes
+/// each other imprecise fact whose region holds a cell that the edit reweighs and is spread otherwise. Their ids
+/// ascend.
 pub fn edits_refresh_what_covers_reweighed_cells()
     ensures members { (policy : Policy) (dims : List Dimension) (edit : Edit) (facts : List Fact) → AllPairs (λ f g. f.id < g.id) facts → (id : ℕ)
         → is_among (refreshed policy dims facts (after edit facts)) id ≡ option_map_or (is_refreshed policy dims edit facts) (find (λ f. f.id == id) (after edit facts)) false }
@@ -242,9 +243,9 @@ pub fn edits_refresh_what_covers_reweighed_cells()
         → (least : ℕ) → All (λ f. least ≤ f.id) (after edit facts) → ascends_from (λ id. id) least (refreshed policy dims facts (after edit facts)) ≡ true }
 {}
 
-/// An edit, accepted or not, refreshes the fact that it gives where that is new or has another allocation than the one of its id had, and
-/// of the others those whose group was there and still is, and is spread otherwise, each of which is imprecise. Such groups are
-/// found at any codes but which the groups stay.
+/// An edit, accepted or not, refreshes its new fact where its id is new or its allocation changed. It also refreshes
+/// each other fact whose group was there and still is, and is spread otherwise: each of these is imprecise. Such groups
+/// are found at any codes but which the groups stay.
 pub fn edits_refresh_the_groups_that_are_respread()
     ensures edited { (policy : Policy) (dims : List Dimension) (edit : Edit) (facts : List Fact) → AllPairs (λ f g. f.id < g.id) facts
         → is_among (refreshed policy dims facts (after edit facts)) (edited_id edit) ≡ option_map_or (is_new_or_moved policy dims edit facts) (given edit) false }

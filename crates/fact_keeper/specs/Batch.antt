@@ -10,7 +10,7 @@ use Rattle.fact_keeper.specs.declared.content.Stored.{Stored}
 abbrev pub empty_content : Stored
 empty_content = record { schema = []; facts = []; rows = [] }
 
--- the ids of facts and of rows, by which entries are told apart
+-- the ids of facts and of rows, by which entries are distinguished
 abbrev pub fact_id : KeptFact → ℕ
 fact_id fact = fact.id
 
@@ -28,7 +28,7 @@ module _ {X : Type 0} (id_of : X → ℕ) where
       let others = filter (λ e. not (id_of e == id_of new)) entries in
       insert others (position_or_len (λ e. nat_lt (id_of new) (id_of e)) others) new
 
-  -- the entries after a batch: those that are gone are dropped, and then each new one is put in turn
+  -- the entries after a batch: those of deleted ids are dropped, and then each new one is put in turn
   abbrev pub updated : List ℕ → List X → List X → List X
   updated gone new entries = fold put (without gone entries) new
 

@@ -20,7 +20,7 @@ three_facts = fact 1 10 ∷ fact 2 20 ∷ fact 3 30 ∷ []
 abbrev pub small_content : Stored
 small_content = record { schema = 97 ∷ []; facts = three_facts; rows = whole_cell 1 1 ∷ whole_cell 3 1 ∷ [] }
 
--- a batch without gone ids, and one that drops an id and puts nothing
+-- a batch without deleted ids, and one that drops an id and puts nothing
 abbrev pub puts : Option (List ℕ) → List KeptFact → List KeptRows → Batch
 puts schema facts rows = record { schema = schema; gone = []; facts = facts; rows = rows }
 

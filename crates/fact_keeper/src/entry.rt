@@ -8,7 +8,7 @@ use std::alloc::Global;
 
 /// An entry of a content.
 pub(crate) trait Entry: Drop {
-    /// The id by which it is told from others.
+    /// The id that distinguishes it from others.
     ghost id_of: { Self → ℕ };
 
     /// Its id.

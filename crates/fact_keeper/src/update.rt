@@ -14,9 +14,10 @@ use std::mem;
 impl Stored {
     ghost use Rattle.fact_keeper.specs.Order.{IsInOrder};
 
-    /// Applies a copy of a batch: its schema replaces the schema, facts and rows of gone ids are dropped, and then each fact and each
-    /// entry of rows takes the place of those of its id, before the first of a greater id. An error leaves the content as it was.
-    /// Where its entries are known to be in order, they are so afterwards, and each place is found by search.
+    /// Applies a copy of a batch. Its schema replaces the schema, and facts and rows of deleted ids are dropped. Then
+    /// each fact and each entry of rows takes the place of those of its id, before the first of a greater id. An error
+    /// leaves the content as it was. Where its entries are known to be in order, they are so afterwards, and each place
+    /// is found by search.
     pub(crate) fn apply(
         &mut self,
         alloc: Global,
@@ -83,7 +84,8 @@ fn take_with_room<T: Drop>(
     }
 }
 
-/// The entries without those of gone ids, and with each new one put in turn. Where they ascend, they do so afterwards.
+/// The entries without those of deleted ids, and with each new one put in turn. Where they ascend, they do so
+/// afterwards.
 fn update<T: Entry>(mut entries: Vec<T>, gone: &[u64], new: Vec<T>, ascend: bool) -> PlainList<T>
     requires room { vec_len entries + length new.items ≤ vec_capacity entries }
     requires order { IsTrue ascend → IsAscending T.id_of entries.items }
@@ -97,7 +99,7 @@ fn update<T: Entry>(mut entries: Vec<T>, gone: &[u64], new: Vec<T>, ascend: bool
     entries.into()
 }
 
-/// Drops the entries of gone ids.
+/// Drops the entries of deleted ids.
 fn drop_gone<T: Entry>(entries: &mut Vec<T>, gone: &[u64])
     ensures items { entries.new.items ≡ without T.id_of gone.now entries.old.items }
     ensures len { vec_len entries.new ≤ vec_len entries.old }
@@ -160,7 +162,7 @@ fn drop_same<T: Entry>(entries: &mut Vec<T>, id: u64)
     entries.retain(|e| !has_id(e, id));
 }
 
-/// The place of the first entry of a greater id, or behind the last.
+/// The place of the first entry of a greater id, or after the last.
 fn place_for<T: Entry>(entries: &[T], id: u64) -> usize
     ensures place { result ≡ position_or_len (λ e. nat_lt id (T.id_of e)) entries.now }
     ensures within { result ≤ length entries.now }

@@ -42,13 +42,15 @@ AllFilled used = All IsFilled used
 
 -- What stands against the stock. A put adds at most 1 to it, and where a full block makes room, it falls by HALF while the stock falls by 1:
 -- so HALF times the stock, less the load, falls by at most 1 at each put. A block before others counts by what it has above HALF, since it
--- is split in halves, the last block by all that it has, since behind it a new one begins; where there is none, the first takes HALF.
+-- is split in halves, the last block by all that it has, since after it a new one begins; where there is none, the
+-- first takes HALF.
 abbrev pub load : List (List Fact) → ℕ
 load [] = HALF
 load (block ∷ []) = length block
 load (block ∷ next ∷ used) = (length block - HALF) + load (next ∷ used)
 
--- how many facts can be put before a block is wanted that is not in stock: as many as there are in stock, or more where the load is small
+-- how many facts can be put before a block is needed that is not in stock: as many as there are in stock, or more where
+-- the load is small
 abbrev pub spare_of : BlockList → ℕ
 spare_of blocks = max blocks.stock (HALF * blocks.stock - load blocks.used)
 

@@ -16,7 +16,7 @@ parts column = record { name = 112 ∷ []; kind = Parts 100 (codes "good" ∷ co
 abbrev pub one_number : ShapeValue
 one_number = record { measures = number 1 ∷ []; weight = None }
 
--- a number before a distribution, and behind it
+-- a number before a distribution, and after it
 abbrev pub number_and_parts : ShapeValue
 number_and_parts = record { measures = number 1 ∷ parts 2 ∷ []; weight = None }
 

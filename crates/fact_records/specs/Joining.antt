@@ -4,11 +4,11 @@ use Rattle.cube_model.specs.declared.edit.Fact.{Fact}
 use Rattle.fact_records.specs.declared.blocks.TheConstants.{HALF}
 use Rattle.fact_records.specs.BlockList.{AllFilled, BlockList, all_facts, block_at, spare_of}
 
--- a block has one behind it, and both together have no more facts than a half of a block
+-- a block has one after it, and both together have no more facts than a half of a block
 abbrev pub are_sparse : List (List Fact) → ℕ → Bool
 are_sparse used block = nat_lt (block + 1) (length used) && nat_le (length (block_at used block) + length (block_at used (block + 1))) HALF
 
--- the facts of a block and of the one behind it in one
+-- the facts of a block and of the one after it in one
 abbrev pub joined : List (List Fact) → ℕ → List (List Fact)
 joined used block = remove (slice_set used block (block_at used block ++ block_at used (block + 1))) (block + 1)
 

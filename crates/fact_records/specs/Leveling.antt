@@ -12,7 +12,7 @@ first_half front back = take ((length front + length back) / 2) (front ++ back)
 abbrev pub second_half : List Fact → List Fact → List Fact
 second_half front back = drop ((length front + length back) / 2) (front ++ back)
 
--- the blocks after a block was leveled with the one behind it
+-- the blocks once a block was leveled with the one after it
 abbrev pub leveled : List (List Fact) → ℕ → List (List Fact)
 leveled used block =
     slice_set (slice_set used block (first_half (block_at used block) (block_at used (block + 1)))) (block + 1) (second_half (block_at used block) (block_at used (block + 1)))
@@ -21,7 +21,8 @@ leveled used block =
 abbrev pub has_room : List (List Fact) → ℕ → Bool
 has_room used block = nat_le (length (block_at used block)) ROOMY
 
--- a block and the one behind it: one of them is this one, and together they have facts for more than one block, and not for two
+-- a block and the one after it: one of them is this one, and together they have facts for more than one block, and not
+-- for two
 pub record IsPairWithRoom (used : List (List Fact)) (block first : ℕ) : Type 0 where
   pub there : first + 1 < length used
   pub either : (block ≡ first) ⊎ (block ≡ first + 1)

@@ -88,7 +88,7 @@ impl Block {
         self.facts.truncate(from);
     }
 
-    /// Moves so many facts from the front of the next block behind these.
+    /// Moves so many facts from the front of the next block after these.
     pub(crate) fn take_front(&mut self, count: usize, next: &mut Block)
         requires place { count ≤ length next.old }
         requires room { length self.old + count ≤ BLOCK }
@@ -101,7 +101,7 @@ impl Block {
         next.facts.rotate_left(count);
         next.facts.truncate(next.facts.len() - count);
     }
-    /// Moves all facts of another block behind these.
+    /// Moves all facts of another block after these.
     pub(crate) fn append(&mut self, other: &mut Block)
         requires { length self.old + length other.old ≤ BLOCK }
         ensures facts { self.new ≡ self.old ++ other.old }

@@ -100,8 +100,8 @@ impl Blocks {
         self.replace_within(place, fact)
     }
 
-    /// Takes out the fact at a place. Where its block and the one behind it or before it have few facts between them, they
-    /// become one. A block that is empty goes to the stock.
+    /// Takes out the fact at a place. Where its block and the one after it or before it have few facts between them,
+    /// they become one. A block that is empty goes to the stock.
     pub(crate) fn remove(&mut self, place: Place) -> Fact
         requires place { IsAt self.old.used place.block place.at }
         requires filled { AllFilled self.old.used }
@@ -119,7 +119,7 @@ impl Blocks {
         fact
     }
 
-    /// Joins a block with the one behind it or the one before it, where both have few facts.
+    /// Joins a block with the one after it or the one before it, where both have few facts.
     fn join_sparse(&mut self, block: usize)
         requires place { block < length self.old.used }
         requires filled { AllFilled self.old.used }
@@ -132,7 +132,7 @@ impl Blocks {
         }
     }
 
-    /// Whether a block has one behind it, and both together have no more facts than a half of a block.
+    /// Whether a block has one after it, and both together have no more facts than a half of a block.
     fn are_sparse(&self, block: usize) -> bool
         requires { block < length self.now.used }
         ensures { result ≡ are_sparse self.now.used block }
@@ -140,7 +140,7 @@ impl Blocks {
         self.used.len() > block + 1 && self.block(block).len() + self.block(block + 1).len() <= HALF
     }
 
-    /// Moves the facts of the block behind a block to the end of that block, and gives the other to the stock.
+    /// Moves the facts of the block after a block to the end of that block, and gives the other to the stock.
     fn join(&mut self, block: usize)
         requires { are_sparse self.old.used block ≡ true }
         ensures used { self.new.used ≡ joined self.old.used block }
@@ -232,7 +232,7 @@ impl Blocks {
         self.place_in_pair(place.block, place.at)
     }
 
-    /// A place in a block, or past its end in the one behind it.
+    /// A place in a block, or past its end in the one after it.
     fn place_in_pair(&self, first: usize, at: usize) -> Place
         requires { first + 1 < length self.now.used }
         ensures { IsPlaceInPair first (length (block_at self.now.used first)) at result.block result.at }
@@ -271,7 +271,7 @@ impl Blocks {
         self.block(block).len() <= ROOMY
     }
 
-    /// Levels a block with the one behind it.
+    /// Levels a block with the one after it.
     fn level(&mut self, block: usize)
         requires place { block + 1 < length self.old.used }
         requires few { length (block_at self.old.used block) + length (block_at self.old.used (block + 1)) ≤ 2 * BLOCK }
@@ -318,7 +318,7 @@ impl Blocks {
         fact
     }
 
-    /// Puts an empty block of the stock behind all, which is its place.
+    /// Puts an empty block of the stock after all, which is its place.
     fn add(&mut self, block: usize)
         requires place { block ≡ length self.old.used }
         requires stock { 0 < self.old.stock }

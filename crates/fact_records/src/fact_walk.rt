@@ -11,7 +11,7 @@ use std::marker::Model;
 /// The facts of a list in order of their ids, each once. Contracts see those that are left.
 #[derive(Drop)]
 pub struct FactWalk<'a> {
-    // What is left of a block, and the blocks behind it.
+    // What is left of a block, and the blocks after it.
     facts: &'a [Fact],
     blocks: &'a [Block],
 }

@@ -15,7 +15,7 @@ pub(crate) fn insert_in_room<T: Drop>(items: &mut Vec<T>, at: usize, item: T)
     }
 }
 
-/// Puts an item behind all.
+/// Puts an item after all.
 pub(crate) fn push_in_room<T: Drop>(items: &mut Vec<T>, item: T)
     requires { vec_len items.old < vec_capacity items.old }
     ensures items { items.new.items ≡ items.old.items ++ item ∷ [] }

@@ -35,7 +35,7 @@ pub fn worked_fields()
 {}
 
 /// What the fields of a fact say together. A wrong number comes before wrong parts, wherever they stand, and both come
-/// behind a wrong id and a wrong node.
+/// after a wrong id and a wrong node.
 pub fn worked_facts()
     ensures named { nodes_named small_space (codes "c" ∷ codes "b" ∷ []) ≡ Some (2 ∷ 1 ∷ []) }
     ensures exchanged { nodes_named small_space (codes "b" ∷ codes "g" ∷ []) ≡ None }

@@ -5,7 +5,7 @@ ghost use Rattle.fact_records.specs.Leveling.{first_half, leveled, second_half};
 
 use crate::block::{BLOCK, Block};
 
-/// Levels a block with the one behind it.
+/// Levels a block with the one after it.
 pub(crate) fn level_at(used: &mut [Block], block: usize)
     requires place { block + 1 < length used.old }
     requires few { length (block_at used.old block) + length (block_at used.old (block + 1)) ≤ 2 * BLOCK }

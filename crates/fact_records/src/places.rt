@@ -15,7 +15,7 @@ pub fn places_of(cols: Cols) -> [i64; MAX_COLS]
     places
 }
 
-/// The values, and these more behind them.
+/// The values, and these more after them.
 pub fn append(cols: Cols, more: Cols) -> Cols
     requires { length cols + length more ≤ MAX_COLS }
     ensures { result ≡ cols ++ more }

@@ -26,7 +26,7 @@ pub(crate) fn lower(starts: &mut [u64], from: usize)
     }
 }
 
-/// Writes the number of facts before the block behind a block of so many.
+/// Writes the number of facts before the block after a block of so many.
 pub(crate) fn start_behind(starts: &mut Vec<u64>, block: usize, len: u64)
     requires place { block + 1 < vec_len starts.old }
     requires few { slice_index starts.old.items block + len < 2 ^ 64 }

@@ -11,7 +11,7 @@ use Rattle.fact_sequence.specs.Refused.{refused_in}
 abbrev pub new_facts : List Fact
 new_facts = fact_at 9 (0 ∷ 0 ∷ []) 7 ∷ fact_at 5 (2 ∷ 1 ∷ []) 8 ∷ fact_at 7 (1 ∷ 1 ∷ []) 9 ∷ []
 
--- facts of which the second and the fourth have one id, with a value that is too large behind them
+-- facts of which the second and the fourth have one id, with a value that is too large after them
 abbrev pub repeated_facts : List Fact
 repeated_facts = fact_at 9 (0 ∷ 0 ∷ []) 7 ∷ fact_at 5 (2 ∷ 1 ∷ []) 8 ∷ fact_at 7 (1 ∷ 1 ∷ []) 9 ∷ fact_at 5 (0 ∷ 0 ∷ []) 8 ∷ fact_at 6 (0 ∷ 0 ∷ []) 1000000000001 ∷ []
 

@@ -11,7 +11,7 @@ use Rattle.fact_records.specs.Shape.{ShapeValue}
 use Rattle.fact_sequence.specs.declared.fact_seq.BadRecord.{BadRecord}
 use Rattle.fact_sequence.specs.declared.fact_seq.FactSeq.{FactSeq}
 
--- the record of an index, where a code refuses it, else what is refused behind it
+-- the record of an index, where a code refuses it, else what is refused after it
 abbrev pub refused_or : ℕ → Option Code → Option BadRecord → Option BadRecord
 refused_or index (Some refusal) later = Some (record { index = index; code = refusal })
 refused_or index None later = later

@@ -5,8 +5,8 @@ ghost use Rattle.fact_records.specs.Examples.{fact_at};
 ghost use Rattle.fact_sequence.specs.declared.fact_seq.BadRecord.{BadRecord};
 ghost use Rattle.fact_sequence.specs.Examples.{new_facts, refused_over_four, repeated_facts, unreadable};
 
-/// Files over four facts of ids 1 to 4. Facts may come in any order; the first that is refused is told by its place, of
-/// which the header has 0, and comes before the record that could not be read.
+/// Files over four facts of ids 1 to 4. Facts may come in any order. The first that is refused is reported by its
+/// place, of which the header has 0. It comes before the record that could not be read.
 pub fn worked_sequences()
     ensures none { refused_over_four [] None ≡ None }
     ensures new { refused_over_four new_facts None ≡ None }

@@ -41,7 +41,7 @@ fn places_of(alloc: Global, space: &Space, facts: &FactList) -> Result<Vec<(u64,
     Ok(places)
 }
 
-/// Puts the code of a fact's region and its id behind the others, if the fact is imprecise.
+/// Puts the code of a fact's region and its id after the others, if the fact is imprecise.
 fn gather(places: &mut Vec<(u64, u64)>, space: &Space, fact: Fact) -> Result<(), Memory>
     requires { IsRegion space.now fact.region }
     ensures { OnOk result (places.new.items ≡ places.old.items ++ places_of space.now (fact ∷ [])) }

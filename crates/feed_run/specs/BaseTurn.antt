@@ -14,18 +14,19 @@ use Rattle.feed_run.specs.HeadTurn.{StopsBy}
 abbrev pub is_base_word : List ℕ → Bool
 is_base_word line = has_word (codes "fact") line || has_word (codes "based") line
 
--- a fact is told behind others, of which a cube may have all
+-- a fact is told after others, of which a cube may have all
 pub record AddsFact (next : Option Base → Result Moved FeedStop) (schema : SchemaValue) (facts : List Fact) (fact : Fact) : Type 0 where
   pub moves : (base : Option Base) → next base ≡ moved_to (InBase schema (facts ++ fact ∷ []))
   pub valid : AreFactsOf schema (facts ++ fact ∷ [])
 
--- What the judging of a line of the base says behind some facts, which does this: a fact more; that these are all; or why it is refused.
+-- What the judging of a line of the base says after some facts, which does this: a fact more; that these are all; or
+-- why it is refused.
 abbrev pub JudgesBase : (Option Base → Result Moved FeedStop) → SchemaValue → List Fact → ℕ → Result (Option Fact) PartStop → Type 0
 JudgesBase next schema facts number (Ok (Some fact)) = AddsFact next schema facts fact
 JudgesBase next schema facts number (Ok None) = (base : Option Base) → next base ≡ based_judged base number schema facts
 JudgesBase next schema facts number (Err stop) = StopsBy (λ why. (base : Option Base) → next base ≡ Err why) stop
 
--- All facts of the base were pulled, and behind them the line that says so.
+-- All facts of the base were pulled, and after them the line that says so.
 pub record GivesBase (base : Option Base) (start now : SourceTold) (feed : FeedPull) (schema : SchemaValue) (facts : List Fact) : Type 0 where
   pub valid : AreFactsOf schema facts
   pub followed : FollowedBefore base start now feed (InBase schema facts) []

@@ -50,7 +50,7 @@ pub record AtBatch (base : Option Base) (start now : AllTold) (feed : FeedPull) 
   pub is_cube : IsCubeAt work cube
   pub applies : AppliesAll start now batches applied
 
--- How a follower ends that began with an input of which nothing was taken: its source is not read behind the end.
+-- How a follower ends that began with an input of which nothing was taken: its source is not read after the end.
 pub record Ends {T : Type 0} (base : Option Base) (start now : AllTold) (result : Result T FollowStop) : Type 0 where
   pub ends : EndsFollow base (seen_between start now) result
   pub once : EndsOnce start.source.ends now.source.ends

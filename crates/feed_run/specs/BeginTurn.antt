@@ -48,7 +48,7 @@ pub record MadeCube (schema : SchemaValue) (facts : List Fact) (before after : K
   pub is : IsBaseCube schema facts cube
   pub journal : after.journal ≡ option_map (λ batches. batches ++ record (base_batch schema facts) { schema = None } ∷ []) before.journal
 
--- why it is not: the facts have too many rows; the keeper failed; or for want of memory
+-- why it is not: the facts have too many rows; the keeper failed; or it is out of memory
 abbrev pub LacksCube : SchemaValue → List Fact → ℕ → ℕ → ImportFault → Type 0
 LacksCube schema facts before after (import_fault.Rows would) = has_many_rows (extended (policy_of schema) schema.dims facts) ≡ true
 LacksCube schema facts before after import_fault.KeepFault = Rose before after

@@ -51,7 +51,7 @@ pub record StopsAtEnd (base : Option Base) (taken : List ℕ) (left_after : Opti
   pub goes_on : (followed base lines).stop ≡ None
   pub refused : refusal_of base lines ≡ Some stop
 
--- The feed is not what it must be, at the last of these lines or behind them all.
+-- The feed is not what it must be, at the last of these lines or after them all.
 pub record FollowRefused (base : Option Base) (seen : SeenAll) (stop : FeedStop) : Type 0 where
   pub taken : List ℕ
   pub bytes : Consumes seen.source.left seen.source.left_after taken
@@ -69,7 +69,7 @@ pub record FollowedTaken (base : Option Base) (taken : List ℕ) (seen : SeenAll
   pub applied : AppliedBy base (map front (ended_lines taken)) seen.sink seen.keeper
   pub write : NoWriteFault seen.sink
 
--- A read failed behind them.
+-- A read failed after them.
 pub record FollowFailed (base : Option Base) (seen : SeenAll) (done : ℕ) : Type 0 where
   pub taken : List ℕ
   pub bytes : Consumes seen.source.left seen.source.left_after taken
@@ -84,21 +84,22 @@ pub record FollowedTooMuch (base : Option Base) (seen : SeenAll) (done : ℕ) : 
   pub all : length taken ≡ INPUT_LIMIT
   pub followed : FollowedTaken base taken seen done
 
--- Behind these lines the batch of a number is committed, and the line that says so is not whole. They end in the last piece.
+-- After these lines the batch of a number is committed, and the line that says so is not whole. They end in the last
+-- piece.
 pub record CutAtBatch (base : Option Base) (taken : List ℕ) (lines : List (List ℕ)) (seen : SeenAll) (number : ℕ) : Type 0 where
   pub parts : parts_at (followed base lines).place ≡ number + 1
   pub wrote : Wrote seen.sink.taken seen.sink.taken_after (Broken (applied_texts number) (number + 1))
   pub kept : Commits (followed base lines).batches seen.keeper.told seen.keeper.told_after
   pub near : IsNearLine taken (length lines)
 
--- Behind these lines so many batches are applied, and no fault of the sink was met.
+-- After these lines so many batches are applied, and no fault of the sink was met.
 pub record StoppedBehind (base : Option Base) (lines : List (List ℕ)) (seen : SeenAll) (done : ℕ) : Type 0 where
   pub count : done ≡ applied_at (followed base lines).place
   pub applied : AppliedBy base lines seen.sink seen.keeper
   pub write : NoWriteFault seen.sink
 
--- The keeper failed at the line behind these, which does one part more and commits its batch: that of the base, or the next. It ends in the
--- last piece.
+-- The keeper failed at the line after these, which does one part more and commits its batch: that of the base, or the
+-- next. It ends in the last piece.
 pub record FailedToKeep (base : Option Base) (taken : List ℕ) (left_after : Option (List ℕ)) (lines : List (List ℕ)) : Type 0 where
   pub line : List ℕ
   pub came : AreFirst taken left_after (lines ++ line ∷ [])
@@ -107,7 +108,7 @@ pub record FailedToKeep (base : Option Base) (taken : List ℕ) (left_after : Op
   pub part : parts_at (followed base (lines ++ line ∷ [])).place ≡ parts_at (followed base lines).place + 1
   pub batch : length (followed base (lines ++ line ∷ [])).batches ≡ length (followed base lines).batches + 1
 
--- how it breaks off behind some lines
+-- how it breaks off after some lines
 abbrev pub BreaksBehind : Option Base → List ℕ → List (List ℕ) → SeenAll → BreakOff → Type 0
 BreaksBehind base taken lines seen (Write number) = WriteFailed seen.sink × CutAtBatch base taken lines seen number
 BreaksBehind base taken lines seen (SinkMemory number) = NoWriteFault seen.sink × CutAtBatch base taken lines seen number

@@ -56,6 +56,6 @@ store_with node = Some (record { text = feed_bytes schema_lines; facts = record 
 abbrev pub other_store : Option Base
 other_store = Some (record { text = codes "cube"; facts = [] })
 
--- what is behind the base where there was nothing in the store
+-- what is after the base where there was nothing in the store
 abbrev pub refused_behind : List (List ℕ) → Option FeedStop
 refused_behind lines = refusal_of None (base_lines ++ lines)

@@ -62,13 +62,13 @@ FollowedTo base start now feed place batches = FollowedAs (IsPulled start now fe
 abbrev pub FollowedBefore : Option Base → SourceTold → SourceTold → FeedPull → Place → List Batch → Type 0
 FollowedBefore base start now feed place batches = FollowedAs (λ lines. IsPulled start now feed (lines ++ feed.line ∷ [])) base place batches
 
--- Why no line more was pulled behind those that lead to a place.
+-- Why no line more was pulled after those that lead to a place.
 abbrev pub StopsPulling : Option Base → SourceTold → SourceTold → Place → List Batch → InputStop → Type 0
 StopsPulling base start now place batches input_stop.Fault = FollowedAs (PulledEnded start now) base place batches
 StopsPulling base start now place batches input_stop.TooLong = FollowedAs (PulledTooMuch start now) base place batches
 StopsPulling base start now place batches input_stop.Memory = FollowedAs (PulledSome start now) base place batches
 
--- What a pull does behind them: one line more, the end of the input, or none.
+-- What a pull does after them: one line more, the end of the input, or none.
 abbrev pub PullsOn : Option Base → SourceTold → SourceTold → FeedPull → Place → List Batch → Result Bool InputStop → Type 0
 PullsOn base start now feed place batches (Ok true) = FollowedBefore base start now feed place batches
 PullsOn base start now feed place batches (Ok false) = FollowedAs (IsPulledAll start now feed) base place batches

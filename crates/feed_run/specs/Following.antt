@@ -43,8 +43,9 @@ pub record Work : Type 0 where
   pub state : State
   pub applied : ℕ
 
--- Where a follower stands between two lines: before the first; among the lines of the schema; among the facts of the base; behind `based` or
--- a whole batch; or within a batch, of which these lines are still to come, with the state behind it.
+-- Where a follower stands between two lines: before the first; among the lines of the schema; among the facts of the
+-- base; after `based` or a whole batch; or within a batch, of which these lines are still to come, with the state after
+-- it.
 pub data Place : Type 0 where
   AtStart : Place
   InSchema : List (List ℕ) → Place
@@ -81,7 +82,8 @@ version_judged n fields =
 abbrev pub at_start : ℕ → List ℕ → Result Moved FeedStop
 at_start n line = where_it_may n line (has_word (codes "feed") line) (version_judged n (fields_of line))
 
--- A line of the schema. At `end` all of them are judged; a line of a schema is one behind that of the feed.
+-- A line of the schema. At `end` all of them are judged; the number of a line in the schema is one less than that in
+-- the feed.
 abbrev pub schema_judged : Result ReadSchema BadLine → Result Moved FeedStop
 schema_judged (Ok read) = moved_to (InBase read.schema [])
 schema_judged (Err bad) = Err (feed_stop.Bad (bad.line + 1) bad.reason)
@@ -96,7 +98,8 @@ last_id [] = 0
 last_id (fact ∷ []) = fact.id
 last_id (fact ∷ next ∷ facts) = last_id (next ∷ facts)
 
--- why a fact of the base is refused behind others: its id is not above theirs, its region has too many cells, or they are too many
+-- why a fact of the base is refused after others: its id is not above theirs, its region has too many cells, or they
+-- are too many
 abbrev pub base_refusal : List Dimension → List Fact → Fact → Option Code
 base_refusal dims facts fact =
     first_refusal
@@ -228,7 +231,7 @@ follow_from base n place (line ∷ lines) = after_step place (λ next. follow_fr
 abbrev pub followed : Option Base → List (List ℕ) → Followed
 followed base lines = follow_from base 1 AtStart lines
 
--- why an input may not end at a place, behind so many lines: it does behind `based` and behind a whole batch alone
+-- why an input may not end at a place, after so many lines: it does after `based` and after a whole batch alone
 abbrev pub schema_cut : ℕ → Result ReadSchema BadLine → FeedStop
 schema_cut n (Ok read) = feed_stop.Bad (n + 1) code.Cut
 schema_cut n (Err bad) = feed_stop.Bad (bad.line + 1) bad.reason

@@ -14,7 +14,7 @@ use Rattle.row_feed.specs.FeedText.{feed_bytes}
 use Rattle.feed_run.specs.Following.{Base, InBase, InSchema, moved_to, schema_judged}
 use Rattle.feed_run.specs.FollowTurn.{FeedPull, FollowedTo}
 
--- A part stops for a reason of its own, or for want of memory.
+-- A part stops for a reason of its own, or because it is out of memory.
 abbrev pub StopsBy : (FeedStop → Type 0) → PartStop → Type 0
 StopsBy Why (Feed stop) = Why stop
 StopsBy Why (Input stop) = stop ≡ Memory

@@ -20,7 +20,7 @@ pub record ToldPart (batch : Batch) (before number : ℕ) (sink : SinkSeen) (kee
   pub kept : KeptAll (batch ∷ []) keeper
   pub part : TakesPart sink.taken sink.taken_after (applied_text number)
 
--- What the applying of a batch does behind so many.
+-- What the applying of a batch does after so many.
 abbrev pub AppliesBatch : {T : Type 0} → Batch → ℕ → SinkSeen → KeeperSeen → Result T BreakOff → Type 0
 AppliesBatch batch before sink keeper (Ok _) = ToldBatch batch (before + 1) sink keeper
 AppliesBatch batch before sink keeper (Err (Write number)) = ToldPart batch before number sink keeper × WriteFailed sink

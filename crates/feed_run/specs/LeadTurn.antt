@@ -68,7 +68,7 @@ pub record KeptFailed (keeper : KeeperSeen) : Type 0 where
   pub told : keeper.told_after ≡ keeper.told
   pub failed : KeepFailed keeper
 
--- What the keeping of a batch behind so many lines does.
+-- What the keeping of a batch after so many lines does.
 abbrev pub KeepsBatch : {T : Type 0} → Batch → ℕ → KeeperSeen → Result T BreakOff → Type 0
 KeepsBatch batch at keeper (Ok _) = KeptAll (batch ∷ []) keeper
 KeepsBatch batch at keeper (Err (Write line)) = ⊥
@@ -76,15 +76,15 @@ KeepsBatch batch at keeper (Err (SinkMemory line)) = ⊥
 KeepsBatch batch at keeper (Err (Memory done)) = (done ≡ at) × KeptNothing keeper
 KeepsBatch batch at keeper (Err (Keep done)) = (done ≡ at) × KeptFailed keeper
 
--- It broke off at a line with this text, which commits these batches, behind so many lines: where the text was written, which is kept
--- then; where it ran out of memory, before the line was kept or behind that; or at the keeper.
+-- It broke off at a line with this text, which commits these batches, after so many lines: where the text was written,
+-- which is kept then; where it ran out of memory, before the line was kept or after that; or at the keeper.
 abbrev pub BreaksAt : List ℕ → List Batch → ℕ → SinkSeen → KeeperSeen → BreakOff → Type 0
 BreaksAt text committed before sink keeper (Write line) = SentPart text sink line (before + 1) × WriteFailed sink × KeptAll committed keeper
 BreaksAt text committed before sink keeper (SinkMemory line) = SentPart text sink line (before + 1) × NoWriteFault sink × KeptAll committed keeper
 BreaksAt text committed before sink keeper (Memory done) = SentNothing sink × (((done ≡ before) × KeptNothing keeper) ⊎ ((done ≡ before + 1) × KeptAll committed keeper))
 BreaksAt text committed before sink keeper (Keep done) = (done ≡ before) × SentNothing sink × KeptFailed keeper × (length committed ≡ 1)
 
--- What a line has whose batch, if there is one, can be told over the schema behind it.
+-- What a line has whose batch, if there is one, can be told over the schema after it.
 abbrev pub IsTellable : SchemaValue → Result Line Code → Option Batch → Type 0
 IsTellable schema (Ok said) found = IfSome found (λ batch. IsSaid schema said × AreRowsOf schema.dims batch.rows)
 IsTellable schema (Err refusal) found = found ≡ None

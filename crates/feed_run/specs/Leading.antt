@@ -1,4 +1,4 @@
--- A leader: a script that is done over a store, and told as a feed.
+-- A leader: a script that is done over a store, and written as a feed.
 use Rattle.std.specs.Prelude.{◌≡◌, ℕ, ◌+◌, ◌≤◌, List, [], ◌∷◌, ◌++◌, ◌⊎◌, length, Result, Ok, Err}
 use Rattle.std.specs.List.{concat}
 use Rattle.std.specs.Io.KnownBytes.{Appends, Consumes, IsAtEnd}
@@ -23,7 +23,7 @@ use Rattle.script_run.specs.Stream.{CountsStream, IsNear}
 use Rattle.script_run.specs.Written.{Answered}
 use Rattle.row_feed.specs.FeedText.{base_lines, batch_lines, feed_bytes}
 
--- the text of what a line commits, over the schema behind it and by its number: none where it commits nothing
+-- the text of what a line commits, over the schema after it and by its number: none where it commits nothing
 abbrev pub batch_text : SchemaValue → ℕ → Line → List Batch → List ℕ
 batch_text schema number said [] = []
 batch_text schema number said (batch ∷ more) = feed_bytes (batch_lines schema number said batch)
@@ -33,7 +33,7 @@ abbrev pub read_text : SchemaValue → ℕ → Result Line Code → List Batch �
 read_text schema number (Ok said) committed = batch_text schema number said committed
 read_text schema number (Err refusal) committed = []
 
--- that of a line that was read and is done on a state, behind so many batches
+-- that of a line that was read and is done on a state, after so many batches
 abbrev pub text_from : (CellStat → ℕ) → SchemaValue → State → ℕ → Result Line Code → List ℕ
 text_from weigh schema state before read = read_text (schema_at schema (step_from weigh schema state read).state) (before + 1) read (batches_from weigh schema state read)
 
@@ -41,7 +41,7 @@ text_from weigh schema state before read = read_text (schema_at schema (step_fro
 unfoldable pub text_at : (CellStat → ℕ) → SchemaValue → State → ℕ → List ℕ → List ℕ
 text_at weigh schema state before bytes = text_from weigh schema state before (line_of (schema_at schema state) bytes)
 
--- the texts of lines that are done one after the other from a first state on, behind so many batches
+-- the texts of lines that are done one after the other from a first state on, after so many batches
 abbrev pub feed_from : (CellStat → ℕ) → SchemaValue → State → ℕ → List (List ℕ) → List (List ℕ)
 feed_from weigh schema state before [] = []
 feed_from weigh schema state before (line ∷ lines) =
@@ -71,7 +71,8 @@ batches_by leader lines = batches leader.weigh leader.schema leader.first lines
 abbrev pub texts_of : Leader → List (List ℕ) → List (List ℕ)
 texts_of leader lines = leading_texts leader.weigh leader.schema leader.first lines
 
--- How it breaks off, told in parts. The base is the first of them, and the text of a line stands one part behind the line.
+-- How it breaks off, told in parts. The base is the first of them, and the text of a line stands one part after the
+-- line.
 abbrev pub in_parts : BreakOff → BreakOff
 in_parts (Write line) = Write (line + 1)
 in_parts (SinkMemory line) = SinkMemory (line + 1)
@@ -107,7 +108,7 @@ pub record LedTaken (leader : Leader) (taken : List ℕ) (seen : SeenAll) (done 
   pub answered : Answered (texts_of leader (lines_of taken)) (done + 1) seen.sink
   pub kept : Commits (batches_by leader (ended_lines taken)) seen.keeper.told seen.keeper.told_after
 
--- A read failed behind them.
+-- A read failed after them.
 pub record LeadFailed (leader : Leader) (seen : SeenAll) (done : ℕ) : Type 0 where
   pub taken : List ℕ
   pub bytes : Consumes seen.source.left seen.source.left_after taken

@@ -18,7 +18,8 @@ IsFresh input = (input.pieces ≡ record { room = INPUT_LIMIT; is_ended = false 
 abbrev pub held_lines : List (List ℕ) → List (List ℕ)
 held_lines held = whole_lines held ++ last_line (rest_of held)
 
--- of what was taken the lines that were pulled come first, those that are held whole stand behind them, and then the rest
+-- of what was taken the lines that were pulled come first, those that are held whole stand after them, and then the
+-- rest
 pub record HoldsRest (taken : List ℕ) (held pulled : List (List ℕ)) : Type 0 where
   pub whole : pulled ++ whole_lines held ≡ whole_lines (pieces_of taken)
   pub rest : rest_of held ≡ rest_of (pieces_of taken)
@@ -28,12 +29,12 @@ abbrev pub HoldsLines : Bool → List ℕ → List (List ℕ) → List (List ℕ
 HoldsLines false taken held pulled = HoldsRest taken held pulled
 HoldsLines true taken held pulled = pulled ++ held_lines held ≡ map front (lines_of taken)
 
--- nothing was taken, or the n-th line ends in the last piece that was, or behind it
+-- nothing was taken, or the n-th line ends in the last piece that was, or after it
 abbrev pub IsNearLine : List ℕ → ℕ → Type 0
 IsNearLine taken n = (taken ≡ []) ⊎ EndsInLast [] taken n
 
 -- Some bytes were taken of an input of which nothing was at the start, and these lines pulled. The source had no fault, and was not
--- read behind its end.
+-- read after its end.
 pub record Pulling (start now : SourceTold) (input : LineInput) (pulled : List (List ℕ)) (n : ℕ) : Type 0 where
   pub taken : List ℕ
   pub bytes : Consumes start.left now.left taken
@@ -94,7 +95,7 @@ pub record PulledTooMuch (start now : SourceTold) (pulled : List (List ℕ)) : T
   pub faults : now.faults ≡ start.faults
   pub ends : EndsOnce start.ends now.ends
 
--- What the pull of a line gives behind these: one more, or why there is none.
+-- What the pull of a line gives after these: one more, or why there is none.
 abbrev pub Pulls : SourceTold → SourceTold → LineInput → List (List ℕ) → List ℕ → Result Bool InputStop → Type 0
 Pulls start now input pulled line (Ok true) = Pulled start now input (pulled ++ line ∷ [])
 Pulls start now input pulled line (Ok false) = PulledAll start now pulled

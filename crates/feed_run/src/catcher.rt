@@ -1,4 +1,4 @@
-//! A keeper that catches what a line commits, so that the batch of a line can be told.
+//! A keeper that catches what a line commits, so that the batch of a line can be written.
 ghost use Rattle.std.specs.Prelude.{◌≡◌, ◌++◌, ◌∷◌, [], true, IfErr, IfNone, IfOk, IfSome, Ok, OnErr, OnOk};
 ghost use Rattle.std.specs.Option.{option_to_list};
 ghost use Rattle.cube_base.specs.Outside.{next_count};

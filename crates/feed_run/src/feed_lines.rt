@@ -70,7 +70,7 @@ impl FeedLines {
         self.count
     }
 
-    /// The feed ends behind a line at which it may not.
+    /// The feed ends after a line at which it may not.
     pub(crate) fn cut(&self) -> FeedStop
         requires { self.now.count < 2 ^ 62 }
         ensures { result ≡ feed_stop.Bad (self.now.count + 1) code.Cut }

@@ -10,6 +10,7 @@ pub enum FeedStop {
     Order { want: u64, got: u64 },
     /// The base is not what the store holds: its schema, or its facts from this place on, counted from 0.
     Base { place: Option<u64> },
-    /// The lines behind a batch line are not those of the follower's own batch: its number, and the first line that is not.
+    /// The lines after a batch line are not those of the follower's own batch: its number, and the first line that is
+    /// not.
     Differs { number: u64, line: u64 },
 }

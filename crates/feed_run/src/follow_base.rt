@@ -48,7 +48,7 @@ pub(crate) fn follow_facts<S: Source>(
     Err(PartStop::Feed(feed.cut()))
 }
 
-/// Judges a line of the base behind some facts: its fact, or None where it says that these are all.
+/// Judges a line of the base after some facts: its fact, or None where it says that these are all.
 fn judge_base_line(
     alloc: Global,
     schema: &Schema,
@@ -67,7 +67,7 @@ fn judge_base_line(
     }
 }
 
-/// Judges what a line of the base tells behind some facts.
+/// Judges what a line of the base tells after some facts.
 fn judge_told(
     schema: &Schema,
     facts: &[Fact],
@@ -107,7 +107,8 @@ fn is_base_line(line: &[u8]) -> bool
     is_text(word, "fact") || is_text(word, "based")
 }
 
-/// Judges a fact of the base behind others: `Exists`, its id is not above theirs; `Region`, its region has too many cells; `Facts`, they are too many.
+/// Judges a fact of the base after others: `Exists`, its id is not above theirs; `Region`, its region has too many
+/// cells; `Facts`, they are too many.
 fn judge_fact(space: &Space, facts: &[Fact], fact: &Fact) -> Result<(), Code>
     requires { IsRegion space.now fact.now.region }
     ensures { result_err result ≡ base_refusal space.now facts.now fact.now }

@@ -1,4 +1,4 @@
-//! The batches of a feed: each is done on a cube, compared with the lines that tell it, committed and told.
+//! The batches of a feed: each is done on a cube, compared with the lines that tell it, committed and reported.
 ghost use Rattle.std.specs.Prelude.{◌≡◌, ◌+◌, Ok, ◌<◌, ◌^◌, ◌∷◌, [], codes, List, IfOk, IsTrue, MatchResult, OnOk, Option};
 ghost use Rattle.cube_base.specs.Outside.{SourceTold};
 ghost use Rattle.cube_core.specs.Cube.{CubeValue};
@@ -58,7 +58,7 @@ pub(crate) fn follow_batches<S: Source, K: Sink, Q: Keeper>(
     }
 }
 
-/// Follows a batch, whose first line was pulled, behind so many that are applied.
+/// Follows a batch, whose first line was pulled, after so many that are applied.
 fn follow_batch<S: Source, K: Sink, Q: Keeper>(
     alloc: Global,
     cube: &mut Cube<PolicyWord>,
@@ -96,7 +96,7 @@ fn follow_batch<S: Source, K: Sink, Q: Keeper>(
     followed
 }
 
-/// Follows the lines behind the first of a batch, which was done on the cube of this schema, and applies it.
+/// Follows the lines after the first of a batch, which was done on the cube of this schema, and applies it.
 fn finish_batch<S: Source, K: Sink, Q: Keeper>(
     schema: &Schema,
     batch: &Batch,
@@ -127,7 +127,8 @@ fn finish_batch<S: Source, K: Sink, Q: Keeper>(
     }
 }
 
-/// Does what the first line of a batch says on the cube, behind so many batches that are applied, and gives what it commits.
+/// Does what the first line of a batch says on the cube, after so many batches that are applied, and gives what it
+/// commits.
 fn take_batch(
     alloc: Global,
     cube: &mut Cube<PolicyWord>,

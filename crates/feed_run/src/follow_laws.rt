@@ -37,7 +37,7 @@ pub fn refused_bases()
     ensures node { refusal_of None (head ++ fact (codes "1") (codes "x") ∷ []) ≡ Some (feed_stop.Bad 9 code.Node) }
 {}
 
-/// What is refused behind a base: batches that tell nothing that can be done, and lines that are not those of a batch.
+/// What is refused after a base: batches that tell nothing that can be done, and lines that are not those of a batch.
 pub fn refused_batches()
     ensures none { refused_behind [] ≡ None }
     ensures skipped { refused_behind (batch (codes "1") (codes "#x" ∷ []) ∷ []) ≡ Some (feed_stop.Bad 11 code.Command) }

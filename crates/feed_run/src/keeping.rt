@@ -11,8 +11,8 @@ use fact_keeper::{Batch, Keeper};
 use script_run::BreakOff;
 use script_text::append_number;
 
-/// Commits a batch to the keeper, which must be open, behind so many that are applied, and writes the line that says so, for which room is
-/// made before.
+/// Commits a batch to the keeper, which must be open, after so many that are applied, and writes the line that says so,
+/// for which room is made before.
 pub(crate) fn apply<K: Sink, Q: Keeper>(
     batch: &Batch,
     applied: u64,

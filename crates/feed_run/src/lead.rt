@@ -1,4 +1,4 @@
-//! A leader: the lines of a script are done over a store, and what they change is told as a feed.
+//! A leader: the lines of a script are done over a store, and what they change is written as a feed.
 ghost use Rattle.std.specs.Prelude.{◌≡◌, ℕ, ◌+◌, List, IfOk, IsTrue};
 ghost use Rattle.schema_text.specs.Schema.{weigh_of};
 ghost use Rattle.fact_keeper.specs.Keeper.{StaysOpen};
@@ -76,7 +76,8 @@ impl LeadRun {
         }
     }
 
-    /// Writes what the feed begins with, and then does and tells the lines to the end of the input. It says how many are refused.
+    /// Writes what the feed begins with, and then does the lines and writes what they change, to the end of the input.
+    /// It says how many are refused.
     fn lead<S: Source, K: Sink, Q: Keeper>(
         &mut self,
         pull: &mut LinePull,
@@ -110,7 +111,7 @@ impl LeadRun {
         send(text, 0, out)
     }
 
-    /// Does a line, and tells what it changes.
+    /// Does a line, and writes what it changes.
     fn do_line<K: Sink, Q: Keeper>(
         &mut self,
         line: &[u8],
@@ -131,7 +132,7 @@ impl LeadRun {
         led
     }
 
-    /// Does a line that was read, and tells what it changes.
+    /// Does a line that was read, and writes what it changes.
     fn do_read<K: Sink, Q: Keeper>(
         &mut self,
         read: &Result<Line, Code>,
@@ -177,7 +178,7 @@ impl LeadRun {
         Ok(())
     }
 
-    /// Writes the text of the batch of the line behind those that are done, by its number.
+    /// Writes the text of the batch of the line after those that are done, by its number.
     fn send_batch<K: Sink>(
         &mut self,
         said: &Line,
@@ -196,7 +197,7 @@ impl LeadRun {
     }
 }
 
-/// Commits a batch to a keeper, which must be open, behind so many lines.
+/// Commits a batch to a keeper, which must be open, after so many lines.
 pub(crate) fn keep<Q: Keeper>(batch: &Batch, done: u64, keeper: &mut Q) -> Result<(), BreakOff>
     requires open { IsTrue (Q.tells keeper.old).is_open }
     ensures keeps { KeepsBatch batch.now done (keeper_seen Q.tells keeper.old keeper.new) result }

@@ -12,7 +12,8 @@ pub fn lines_are_told_as_their_fronts_are()
 {}
 
 /// The texts of a leader over three repairs, worked out by hand. The repair that is somewhere in Texas is spread over the two cities; it
-/// is refused where it is inserted again. A comment and a question have no text either, and the withdrawal is told as the second batch.
+/// is refused where it is inserted again. A comment and a question have no text either, and the withdrawal is written
+/// as the second batch.
 pub fn worked_texts()
     ensures { leading_texts (weigh_of repairs.policy) repairs (record { dims = repairs.dims; facts = repair 1 2 100 ∷ repair 2 2 300 ∷ repair 3 3 50 ∷ [] })
         (map tabbed (codes "insert|4|TX|Camry|600" ∷ codes "# once more" ∷ codes "insert|4|TX|Camry|600" ∷ codes "count|TX|All" ∷ codes "withdraw|4" ∷ []))

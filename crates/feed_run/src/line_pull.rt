@@ -15,8 +15,8 @@ pub struct LinePull {
 
 impl LinePull {
     /// Puts the next line of the input into a buffer, without its LF and no more than its first 4,097 bytes, and says whether there is
-    /// one. A line ends with its LF, or with the input. A piece is read only where no whole line is held, and none behind the end of the
-    /// input. An error is one of the reading, or running out of memory.
+    /// one. A line ends with its LF, or with the input. A piece is read only where no whole line is held, and none
+    /// after the end of the input. An error is one of the reading, or running out of memory.
     pub fn next<S: Source>(&mut self, source: &mut S, line: &mut Vec<u8>) -> Result<bool, InputStop>
         ensures pulls { (start : SourceTold) (pulled : List (List ℕ)) → Pulled start (S.tells source.old) self.old.input pulled
             → Pulls start (S.tells source.new) self.new.input pulled line.new.items result }

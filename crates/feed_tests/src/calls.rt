@@ -1,6 +1,6 @@
-//! Each call of the source, the sink and the keeper failing in turn, where a script with lines of every kind runs over a store, leads a
-//! feed from it, and another store follows that. How such a run ends, what it writes and what is kept is told by a run without a fault over
-//! the parts of the input that are done by then.
+//! Each call of the source, the sink and the keeper failing in turn. A script with lines of every kind runs over a
+//! store, leads a feed from it, and another store follows that. A run without a fault over the parts of the input that
+//! are done by then gives how such a run ends, what it writes and what is kept.
 use cube_base::Memory;
 use cube_tests::runs::{Ending, Outside, WHOLE};
 use cube_tests::stored::{KeptRun, are_same, run_stored, without_facts};
@@ -67,7 +67,7 @@ struct Job<'a> {
     word: &'a str,
     schema: &'a str,
     input: &'a [u8],
-    /// Where its parts end: before the first, and behind each.
+    /// Where its parts end: before the first, and after each.
     ends: &'a [usize],
     /// How many parts are not counted by an end.
     uncounted: usize,
@@ -92,7 +92,8 @@ impl Job<'_> {
         }
     }
 
-    /// Of reads of one byte, the first behind so many parts, and the first by which one more part is done: by an LF, or by the end.
+    /// Of reads of one byte, the first after so many parts, and the first by which one more part is done: by an LF, or
+    /// by the end.
     fn reads_behind(&self, parts: usize) -> (usize, usize) {
         let all = self.input.len().saturating_add(1);
         let first = self.end_of(parts);
@@ -149,7 +150,7 @@ impl Job<'_> {
         Ok(is_right)
     }
 
-    /// Whether each read behind so many parts, by which no other is done, ends the run where it fails.
+    /// Whether each read after so many parts, by which no other is done, ends the run where it fails.
     fn stops_at_reads(&self, alloc: Global, parts: usize, after: &KeptRun) -> Result<bool, Memory> {
         let end = Ending::ReadFault {
             done: self.counted(parts),
@@ -245,7 +246,7 @@ impl Job<'_> {
     }
 }
 
-/// The lines of rows, one behind the other, and where each ends.
+/// The lines of rows, one after the other, and where each ends.
 fn lines_of(alloc: Global, rows: &[Row]) -> Result<(String, Vec<usize>), AllocError> {
     let mut lines = String::new(alloc);
     let mut ends = Vec::from_slice(alloc, &[0])?;

@@ -8,7 +8,7 @@ use cube_tests::stored::{
 use fact_keeper::MemKeeper;
 use std::alloc::{AllocError, Global};
 
-/// Where a feed of the repairs begins, and its lines behind the schema at three facts.
+/// Where a feed of the repairs begins, and its lines after the schema at three facts.
 const HEAD: &str = "feed\t1\n";
 
 const BASE: &str =
@@ -27,7 +27,7 @@ const THREE: [FactRow; 3] = [
 
 const THREE_SPREADS: [SpreadRow; 3] = [(1, 1, &[(0, 1)]), (2, 1, &[(0, 1)]), (3, 1, &[(4, 1)])];
 
-/// Texts, one behind the other.
+/// Texts, one after the other.
 fn text_of(alloc: Global, texts: &[&str]) -> Result<String, AllocError> {
     let mut text = String::new(alloc);
     for part in texts {
@@ -36,7 +36,7 @@ fn text_of(alloc: Global, texts: &[&str]) -> Result<String, AllocError> {
     Ok(text)
 }
 
-/// Lines over the three facts, how many are refused, and what a leader writes behind the base.
+/// Lines over the three facts, how many are refused, and what a leader writes after the base.
 const LED: [(&str, u64, &str); 4] = [
     ("", 0, ""),
     ("insert\t4\tTX\tCamry\t600\n", 0, BATCH),
@@ -226,7 +226,7 @@ const WHOLE_FEEDS: [Feed; 14] = [
         "applied\t1\n",
         2,
     ),
-    // Behind its end none does.
+    // After its end none does.
     (
         "feed\t1\ncube\t1\npolicy\tcount\nnumber\tHours\ndimension\tPlace\nnode\t0\tAll\nnode\t1\tTX\nend\n# facts\nbased\n",
         Ending::BadFeed {
@@ -238,7 +238,7 @@ const WHOLE_FEEDS: [Feed; 14] = [
     ),
 ];
 
-/// What stands behind the schema of the repairs, from line 24 on.
+/// What stands after the schema of the repairs, from line 24 on.
 const BEHIND_SCHEMA: [Feed; 17] = [
     ("based\n", DONE, "", 1),
     ("fact\t1\tAustin\tCamry\t100\nbased", DONE, "", 1),
@@ -379,7 +379,7 @@ const BEHIND_SCHEMA: [Feed; 17] = [
     ),
 ];
 
-/// What stands behind the base of three facts, from line 28 on.
+/// What stands after the base of three facts, from line 28 on.
 const BEHIND_BASE: [Feed; 26] = [
     ("", DONE, "", 1),
     (BATCH, DONE, "applied\t1\n", 2),
@@ -414,7 +414,7 @@ const BEHIND_BASE: [Feed; 26] = [
         "",
         1,
     ),
-    // A row too many, the next batch in the place of `done`, and lines that would be passed over elsewhere.
+    // A row too many, the next batch in the place of `done`, and lines that would be skipped elsewhere.
     (
         "batch\t1\tinsert\t4\tTX\tCamry\t600\nrows\t4\t3\t2\nrow\tAustin\tCamry\t2\nrow\tDallas\tCamry\t1\nrow\tHouston\tCamry\t1\ndone\n",
         Ending::Differs {
@@ -601,7 +601,7 @@ fn follows_feed(
     Ok(is_right)
 }
 
-/// Whether so it goes over a store in which there is nothing, of what stands behind a text.
+/// Whether so it goes over a store in which there is nothing, of what stands after a text.
 fn follows(alloc: Global, before: &str, row: &Feed) -> Result<bool, Memory> {
     let (tail, end, written, batches) = *row;
     let feed = joined(alloc, before, tail)?;
@@ -620,7 +620,7 @@ fn follow_each(alloc: Global, before: &str, rows: &[Feed]) -> bool {
         .all(|row| follows(alloc, before, row) == Ok(true))
 }
 
-/// The same behind texts.
+/// The same after texts.
 fn follow_behind(alloc: Global, texts: &[&str], rows: &[Feed]) -> Result<bool, Memory> {
     let before = text_of(alloc, texts)?;
     Ok(follow_each(alloc, before.as_str(), rows))

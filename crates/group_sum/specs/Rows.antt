@@ -29,7 +29,7 @@ terms_in columns (den ∷ dens) nums = row_term den (take columns nums) ∷ term
 abbrev pub denominators : List Term → List ℕ
 denominators terms = map (λ t. t.den) terms
 
--- the numerators of terms, row behind row
+-- the numerators of terms, row after row
 abbrev pub numerators : List Term → List ℤ
 numerators terms = flat_map row_of terms
 

@@ -106,7 +106,7 @@ fn subtract_all(alloc: Global, whole: &Rows, part: &Rows) -> Result<Rows, Memory
     Ok(left)
 }
 
-// Pushes what is left at each denominator behind no terms, where something can be left at each.
+// Pushes what is left at each denominator after no terms, where something can be left at each.
 fn push_all_left(left: &mut Rows, whole: &Rows, part: &Rows) -> Result<(), Memory>
     requires none { left.old ≡ record { columns = whole.now.columns; terms = [] } }
     requires columns { whole.now.columns ≡ part.now.columns }

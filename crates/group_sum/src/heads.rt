@@ -32,7 +32,7 @@ pub fn head(terms: &Rows, at: usize, den: u64) -> Option<&[i128]>
     }
 }
 
-/// The place behind the term in front, if that has the denominator.
+/// The place after the term in front, if that has the denominator.
 pub fn past(terms: &Rows, at: usize, den: u64) -> usize
     requires { at ≤ length terms.now.terms }
     ensures rest { drop result terms.now.terms ≡ rest_at (drop at terms.now.terms) den }

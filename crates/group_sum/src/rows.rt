@@ -1,4 +1,4 @@
-//! Terms in two flat lists: their denominators, and row behind row their numerators.
+//! Terms in two flat lists: their denominators, and row after row their numerators.
 ghost use Rattle.std.specs.Prelude.{◌≡◌, ◌+◌, ◌-◌, ◌*◌, ◌<◌, ◌≤◌, Some, [], ◌∷◌, ◌++◌, length, slice_get, drop, take, IfOk, IfErr, OnOk, OnErr, replicate, slice_set};
 ghost use Rattle.std.specs.List.{insert};
 ghost use Rattle.std.specs.Option.{option_map};
@@ -214,7 +214,7 @@ impl Rows {
         Ok(())
     }
 
-    /// Puts a term that has no share yet to a place, and those from the place on behind it. An error leaves the terms as
+    /// Puts a term that has no share yet to a place, and those from the place on after it. An error leaves the terms as
     /// they were.
     pub fn insert_bare(&mut self, at: usize, den: u64) -> Result<(), Memory>
         requires { at ≤ length self.old.terms }

@@ -16,7 +16,7 @@ pub struct Share {
     pub den: u64,
     /// The weight of each of them.
     pub weight: u64,
-    /// What their values add up to, in the columns behind the count.
+    /// What their values add up to, in the columns after the count.
     pub cols: Cols,
 }
 
@@ -30,7 +30,7 @@ impl Share {
 }
 
 /// The terms that shares in any order add up to, over a number of columns, the count included. The shares are sorted by
-/// denominator, so that each term is put behind the others. The only error is running out of memory.
+/// denominator, so that each term is put after the others. The only error is running out of memory.
 ///
 /// Each share has a fact at least, a denominator of at least 1, and a value for each column but the count. At no denominator do
 /// the weights, each once for each fact, or the absolute values of the products with the values of a column, add up to more than

@@ -13,7 +13,7 @@ pub record Part : Type 0 where
   pub own : List ℕ
   pub members : ℕ
 
--- the places of spots, one spot's behind the other's
+-- the places of spots, one spot's after the other's
 abbrev pub parts : List Span → List ℕ → List Part
 parts [] flat = []
 parts (span ∷ spans) flat = record { own = take span.len flat; members = span.members } ∷ parts spans (drop span.len flat)

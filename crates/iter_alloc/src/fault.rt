@@ -4,7 +4,7 @@ ghost use Rattle.iter_alloc.specs.declared.fault.IterFault.TheVariants as iter_f
 
 use cube_base::Memory;
 
-/// Why facts are not iterated, or their components not told.
+/// Why facts are not iterated, or their components not reported.
 #[derive(Clone, Copy, Debug, PartialEq, Eq)]
 pub enum IterFault {
     /// The cells of all imprecise facts, those of each fact counted, number more than [`crate::MOST_CELLS`].

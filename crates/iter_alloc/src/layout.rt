@@ -15,14 +15,15 @@ use indexmap::IndexSet;
 use region_algebra::Space;
 use std::alloc::Global;
 
-/// The fewest cells of a spot behind which places are left free.
+/// The fewest cells of a spot after which places are left free.
 const MANY: usize = 64;
 
 /// How many places are left free there, a line of a cache. Where rows cross columns of a power of two, the cells of a row would
 /// else lie a power of two apart, and a cache has room for a few such lines alone.
 const GAP: usize = 4;
 
-/// Cells at their places, some of which are free, and the places of the cells of each spot, one spot's behind the other's.
+/// Cells at their places, some of which are free, and the places of the cells of each spot, one spot's after the
+/// other's.
 #[derive(Debug, Drop)]
 pub(crate) struct Layout {
     pub(crate) cells: IndexSet<u64>,

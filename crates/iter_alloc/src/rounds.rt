@@ -11,7 +11,7 @@ use std::alloc::Global;
 /// What a whole fact counts.
 pub(crate) const UNIT: u64 = 1_048_576;
 
-/// How many places a spot has in a list of places, one spot's behind the other's, and how many facts it has.
+/// How many places a spot has in a list of places, one spot's after the other's, and how many facts it has.
 #[derive(Clone, Copy, Debug)]
 pub(crate) struct Span {
     pub(crate) len: usize,

@@ -22,8 +22,8 @@ pub const CITIES: [Node; 8] = [
     (2, "SF"),
 ];
 
-/// Two kinds of cars, of two models each. Behind the cities, a cell's code is four times the place of the city, and the place of
-/// the model.
+/// Two kinds of cars, of two models each. After the cities, a cell's code is four times the place of the city, and the
+/// place of the model.
 pub const CARS: [Node; 7] = [
     (0, "All"),
     (1, "Sedan"),

@@ -166,7 +166,7 @@ fn placed(alloc: Global, space: &Space, facts: &[Fact], column: u32) -> Result<V
     Ok(placed)
 }
 
-/// Whether the ends of a row are told.
+/// Whether the ends of a row are given.
 fn has_ends(alloc: Global, space: &Space, row: &Row) -> Result<bool, Fail> {
     let (facts, nodes, column, low, high) = *row;
     if facts.len() > 4 || column > 1 {

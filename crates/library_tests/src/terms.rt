@@ -13,7 +13,7 @@ type Share = (u64, i32);
 /// A denominator, with the count and the sum there.
 type Sum = (u64, i128, i128);
 
-/// Shares, and what they come to.
+/// Shares, and what they add up to.
 type Row = (&'static [Share], &'static [Sum]);
 
 const ADDED: [Row; 3] = [
@@ -62,7 +62,7 @@ fn are_sums(terms: &Terms, sums: &[Sum]) -> bool {
     true
 }
 
-/// Whether the shares of each row come to its sums.
+/// Whether the shares of each row add up to its sums.
 fn are_added(alloc: Global, rows: &[Row]) -> Result<bool, Fail> {
     for (shares, sums) in rows {
         if shares.len() > 8 || !are_sums(&terms_of(alloc, shares)?, sums) {

@@ -30,7 +30,7 @@ pub record TakesAtMost (most : ℕ) (left left_after : Option (List ℕ)) : Type
   pub bytes : Consumes left left_after input
   pub few : length input ≤ most
 
--- the input goes on behind the limit, and one byte behind it was taken
+-- the input goes on after the limit, and one byte after it was taken
 pub record GoesOn (limit : ℕ) (left left_after : Option (List ℕ)) : Type 0 where
   pub input : List ℕ
   pub bytes : Consumes left left_after input
@@ -44,8 +44,8 @@ pub record Reads (limit : ℕ) (left left_after : Option (List ℕ)) (before aft
   pub more : after.is_ended ≡ false → length before.bytes.items < length after.bytes.items
   pub end : after.is_ended ≡ true → IsAtEnd left_after
 
--- Why an input was not taken whole, of which some bytes came before: a read failed within the limit, the byte behind the limit
--- came, or it ran out of memory within it.
+-- Why an input was not taken whole, of which some bytes came before: a read failed within the limit, the byte after the
+-- limit came, or it ran out of memory within it.
 abbrev pub StopsReading : ℕ → Option (List ℕ) → Option (List ℕ) → ℕ → ℕ → InputStop → Type 0
 StopsReading limit left left_after faults faults_after Fault = TakesAtMost limit left left_after × Rose faults faults_after
 StopsReading limit left left_after faults faults_after TooLong = GoesOn limit left left_after × (faults_after ≡ faults)

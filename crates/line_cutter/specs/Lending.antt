@@ -1,4 +1,4 @@
--- What a line cutter holds once a line that it lent is gone.
+-- What a line cutter holds once the borrow of a line has ended.
 use Rattle.std.specs.Prelude.{◌≡◌}
 use Rattle.std.specs.Borrow.{Fml, MutBor}
 use Rattle.std.specs.Io.BufRead.{Rests}

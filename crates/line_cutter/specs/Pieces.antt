@@ -22,7 +22,8 @@ ended_lines text = take (lf_count text) (lines_of text)
 abbrev pub line_end : List ℕ → ℕ → ℕ
 line_end text n = length text - length (after_lines n text)
 
--- what stands between the LFs of a text, and last what stands behind the last of them, which may be empty: of each its front
+-- what stands between the LFs of a text, and last what stands after the last of them, which may be empty: of each its
+-- front
 abbrev pub pieces_of : List ℕ → List (List ℕ)
 pieces_of text = map front (slice_split is_lf text)
 
@@ -43,7 +44,7 @@ rest_of [] = []
 rest_of (rest ∷ []) = rest
 rest_of (line ∷ next ∷ lines) = rest_of (next ∷ lines)
 
--- what is left behind the first line that is whole, or all where none is
+-- what is left after the first line that is whole, or all where none is
 abbrev pub behind_line : List (List ℕ) → List (List ℕ)
 behind_line [] = []
 behind_line (rest ∷ []) = rest ∷ []
@@ -58,7 +59,8 @@ last_line (b ∷ rest) = (b ∷ rest) ∷ []
 abbrev pub lines_ahead : List (List ℕ) → List ℕ → List (List ℕ)
 lines_ahead held text = whole_lines held ++ map front (lines_of (rest_of held ++ text))
 
--- the lines that are handed out while pieces come behind a rest: after each piece those that are whole then, and at the end the rest
+-- the lines that are handed out while pieces come after a rest: after each piece those that are whole then, and at the
+-- end the rest
 abbrev pub lines_given : List ℕ → List (List ℕ) → List (List ℕ)
 lines_given rest [] = last_line rest
 lines_given rest (piece ∷ pieces) = whole_lines (pieces_of (rest ++ piece)) ++ lines_given (rest_of (pieces_of (rest ++ piece))) pieces

@@ -16,7 +16,7 @@ pub record Reading : Type 0 where
   pub room : ℕ
   pub is_ended : Bool
 
--- A piece was taken, and is held behind what was held: bytes, unless the input ended there.
+-- A piece was taken, and is held after what was held: bytes, unless the input ended there.
 pub record Feeds (left left_after : Option (List ℕ)) (before after : Reading) (held held_after : List (List ℕ)) : Type 0 where
   pub piece : List ℕ
   pub bytes : Consumes left left_after piece

@@ -17,7 +17,7 @@ pub const PIECE: usize = 1 << 16;
 pub enum InputStop {
     /// A read failed.
     Fault,
-    /// The input goes on behind the most bytes that it may have.
+    /// The input goes on after the most bytes that it may have.
     TooLong,
     /// There was no memory for an input that is not too long so far.
     Memory,

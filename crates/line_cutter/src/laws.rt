@@ -10,7 +10,7 @@ pub fn lines_in_any_cutting()
     ensures { (pieces : List (List ℕ)) → lines_given [] pieces ≡ map front (lines_of (concat pieces)) }
 {}
 
-/// What is held of a text, and what comes behind it, have the lines of both together, of each its first 4,097 bytes; and a
+/// What is held of a text, and what comes after it, have the lines of both together, of each its first 4,097 bytes. A
 /// piece that is taken changes nothing of the lines ahead.
 pub fn lines_held_and_ahead()
     ensures text { (text more : List ℕ) → lines_ahead (pieces_of text) more ≡ map front (lines_of (text ++ more)) }
@@ -18,8 +18,8 @@ pub fn lines_held_and_ahead()
         lines_ahead held (piece ++ more) ≡ lines_ahead (pieces_of (rest_of held ++ piece)) more }
 {}
 
-/// The pieces of a text are the lines that end in it and a rest; what comes behind changes none of these lines, and the rest goes on
-/// with it. At the end of the input the rest is a line, unless it is empty.
+/// The pieces of a text are the lines that end in it and a rest. What follows changes none of these lines, and the rest
+/// goes on with it. At the end of the input the rest is a line, unless it is empty.
 pub fn lines_that_end()
     ensures whole { (text : List ℕ) → whole_lines (pieces_of text) ≡ map front (ended_lines text) }
     ensures count { (text : List ℕ) → length (ended_lines text) ≡ lf_count text }
@@ -28,7 +28,7 @@ pub fn lines_that_end()
     ensures last { (text : List ℕ) → map front (lines_of text) ≡ whole_lines (pieces_of text) ++ last_line (rest_of (pieces_of text)) }
 {}
 
-/// Where fewer than n lines end in the front of a text, its n-th line ends behind it, or has no LF.
+/// Where fewer than n lines end in the front of a text, its n-th line ends after it, or has no LF.
 pub fn lines_end_behind()
     ensures { (text more : List ℕ) (n : ℕ) → lf_count text < n → length text ≤ line_end (text ++ more) n }
 {}

@@ -13,10 +13,10 @@ use std::marker::Model;
 /// The most bytes that are kept of a line: one more than a line may have, which tells that it is too long.
 const MOST_KEPT: usize = 4_097;
 
-/// An input that comes in pieces, cut into lines. Of a line its first 4,097 bytes are kept, which tell what it means; a line
-/// that is handed out with 4,097 bytes has more than the 4,096 that a line may have. Contracts see the lines that are held
-/// whole, in order, and behind them the rest; and beside them how many bytes the cutter has, those included that were handed
-/// out since the last piece.
+/// An input that comes in pieces, cut into lines. The first 4,097 bytes of a line are kept, which tell what it means. A
+/// line that is handed out with 4,097 bytes has more than the 4,096 that a line may have. Contracts see the lines that
+/// are held whole, in order, and after them the rest. Beside them they see how many bytes the cutter has, those
+/// included that were handed out since the last piece.
 #[derive(Drop)]
 pub struct LineCutter {
     bytes: Vec<u8>,
@@ -97,7 +97,7 @@ impl LineCutter {
     }
 }
 
-// Lets go what stands before a place, and what stands behind the front of the rest.
+// Lets go what stands before a place, and what stands after the front of the rest.
 fn keep_front(bytes: &mut Vec<u8>, start: usize)
     requires { start ≤ length bytes.old.items }
     ensures { bytes.new.items ≡ front (drop start bytes.old.items) }

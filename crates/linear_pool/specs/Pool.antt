@@ -36,11 +36,11 @@ TellsOutcomes (Some m) terms pooled = (k : ℕ) → k < length pooled → IfSome
 abbrev pub AreOfOneTotal : Option Measure → List Term → Type 0
 AreOfOneTotal m terms = IfSome m (AddsUpAtEach terms)
 
--- the fraction that a quotient was told as, if it was
+-- the fraction that a quotient was given as, if it was
 abbrev pub fraction_in : Quotient → Option Fraction
 fraction_in Undefined = None
 fraction_in (Is lo hi exact) = option_map (λ x. record { num = x.0; den = x.1 }) exact
 
--- where each quotient was told as a fraction, these add up to 1, over every common multiple of their denominators
+-- where each quotient was given as a fraction, these add up to 1, over every common multiple of their denominators
 abbrev pub AddUpToOne : List Quotient → Type 0
 AddUpToOne pooled = (fs : List Fraction) → map fraction_in pooled ≡ map Some fs → (multiple : ℕ) → IsCommonMultiple multiple fs → sum_over multiple fs ≡ pos multiple

@@ -24,7 +24,7 @@ numbered_space = made_in_turn ∷ pair ∷ []
 abbrev pub grown_pair : Dimension
 grown_pair = node 0 97 0 ∷ node 1 98 1 ∷ node 2 122 3 ∷ node 1 99 2 ∷ []
 
--- the family with a leaf z under its e, behind its f
+-- the family with a leaf z under its e, after its f
 abbrev pub grown_family : Dimension
 grown_family = node 0 97 0 ∷ node 1 98 1 ∷ node 2 99 2 ∷ node 2 100 3 ∷ node 1 101 4 ∷ node 2 102 5 ∷ node 2 122 7 ∷ node 1 103 6 ∷ []
 

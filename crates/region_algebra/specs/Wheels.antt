@@ -6,7 +6,7 @@ use Rattle.cube_model.specs.Limits.{MAX_DIMS, SPACE_LIMIT}
 use Rattle.cube_model.specs.Tree.{Dimension}
 use Rattle.region_algebra.specs.declared.wheel.Wheel.{Wheel}
 
--- one of a dimension's leaves before each cell of the dimensions behind it
+-- one of a dimension's leaves before each cell of the dimensions after it
 abbrev pub cells_at : Wheel → List ℕ → ℕ → List ℕ
 cells_at wheel cells leaf = map (λ c. leaf * wheel.step + c) cells
 

@@ -9,8 +9,8 @@ use crate::Space;
 use cube_model::{MAX_DIMS, Region};
 use std::marker::Model;
 
-/// What is asked of a cell in a dimension: that its place among the cells over this dimension and those behind it, of
-/// which there are so many, is in a range.
+/// What is asked of a cell in a dimension. Its place among the cells over this dimension and those after it, of which
+/// there are so many, is to be in a range.
 #[derive(Clone, Copy)]
 pub struct Digit {
     pub cells: u64,

@@ -40,7 +40,7 @@ pub enum SpaceFault {
 #[derive(Drop)]
 pub struct Space {
     dims: Vec<Dim>,
-    // For each dimension the number of cells, and of regions, over the dimensions behind it.
+    // For each dimension the number of cells, and of regions, over the dimensions after it.
     cell_steps: [u64; MAX_DIMS],
     region_steps: [u64; MAX_DIMS],
 }
@@ -249,11 +249,11 @@ impl Space {
         })
     }
 
-    /// An equal space, but that a node of a dimension has a leaf of this name more, behind its other children; the
+    /// An equal space, but that a node of a dimension has a leaf of this name more, after its other children. The
     /// leaf's number is that of the dimension's nodes before. The first of these that holds is answered: `Name`, a node
-    /// of the dimension has the name; `Depth`, the parent has depth 8; `Limit`, the dimension has 65,536 nodes; `Cells`,
-    /// the product of the leaf counts would be 2^62 or more, which never comes; `Nodes`, the product of the node counts
-    /// would be; `Memory`. The first three are found without memory.
+    /// of the dimension has the name; `Depth`, the parent has depth 8; `Limit`, the dimension has 65,536 nodes;
+    /// `Cells`, the product of the leaf counts would be 2^62 or more, which never comes; `Nodes`, the product of the
+    /// node counts would be; `Memory`. The first three are found without memory.
     pub fn grown(&self, d: u32, parent: u32, name: Name) -> Result<Self, GrowFault>
         requires dim { d < length self.now }
         requires parent { IfSome (slice_get self.now d) (λ dim. parent < length dim) }

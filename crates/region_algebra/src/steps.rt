@@ -21,7 +21,7 @@ fn product_within(total: u64, size: u32) -> Option<u64>
     }
 }
 
-/// For each of these numbers the product of those behind it: None exactly where the product of all is 2^62 or more.
+/// For each of these numbers the product of those after it: None exactly where the product of all is 2^62 or more.
 pub fn steps_of(sizes: &[u32]) -> Option<[u64; MAX_DIMS]>
     requires few { length sizes.now ≤ MAX_DIMS }
     requires some { All (λ size. 1 ≤ size) sizes.now }

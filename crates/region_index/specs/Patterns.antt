@@ -35,11 +35,11 @@ pub record HasPatterns (dims : List Dimension) (content : Content) (patterns : P
 unfoldable pub codes_of_pattern : List Dimension → List ℕ → ℕ → List ℕ
 codes_of_pattern dims leaves pattern = places_from (λ region. is_inside dims region leaves && pattern_of dims region == pattern) 0 (all_regions dims)
 
--- those of all these patterns, one behind the other
+-- those of all these patterns, one after the other
 abbrev pub codes_of_patterns : List Dimension → List ℕ → List ℕ → List ℕ
 codes_of_patterns dims leaves patterns = flat_map (codes_of_pattern dims leaves) patterns
 
--- those of one pattern behind the nodes of earlier dimensions, which make `code`
+-- those of one pattern after the nodes of earlier dimensions, which make `code`
 abbrev pub pattern_behind : List Dimension → List ℕ → ℕ → ℕ → List ℕ
 pattern_behind dims leaves pattern code = map (λ c. code * region_total dims + c) (codes_of_pattern dims leaves pattern)
 

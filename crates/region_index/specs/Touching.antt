@@ -28,7 +28,7 @@ places_in_line dim node = places_from (are_in_line dim node) 0 (numbers dim)
 unfoldable pub codes_in_line : List Dimension → List ℕ → List ℕ
 codes_in_line dims region = places_from (are_all_in_line dims region) 0 (all_regions dims)
 
--- the codes behind each place, where so many stand behind one
+-- the codes after each place, where so many stand after one
 abbrev pub codes_behind_places : List ℕ → ℕ → List ℕ → List ℕ
 codes_behind_places places step codes = flat_map (λ place. map (λ code. place * step + code) codes) places
 

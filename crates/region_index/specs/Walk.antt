@@ -12,7 +12,7 @@ use Rattle.region_index.specs.Content.{Content, held_codes}
 unfoldable pub codes_of_leaves : List Dimension → List ℕ → List ℕ
 codes_of_leaves dims leaves = places_from (λ region. is_inside dims region leaves) 0 (all_regions dims)
 
--- the same behind the nodes of earlier dimensions, which make `code`
+-- the same after the nodes of earlier dimensions, which make `code`
 abbrev pub codes_behind : List Dimension → List ℕ → ℕ → List ℕ
 codes_behind dims leaves code = map (λ c. code * region_total dims + c) (codes_of_leaves dims leaves)
 
@@ -30,7 +30,7 @@ abbrev pub codes_higher : List Dimension → List ℕ → ℕ → ℕ → List �
 codes_higher [] leaves node code = []
 codes_higher (dim ∷ dims) leaves node code = option_map_or (λ p. codes_above (dim ∷ dims) leaves p code) (parent dim node) []
 
--- A walk through the regions over these leaves that has come to dimension d, the nodes of the dimensions before it
+-- A walk through the regions over these leaves that has reached dimension d, the nodes of the dimensions before it
 -- making `code`. Whatever the other nodes are, the code is that of a region.
 pub record IsOnTheWay (dims : List Dimension) (leaves : List ℕ) (d code : ℕ) : Type 0 where
   pub named : IsRegion dims leaves

@@ -25,7 +25,7 @@ pub fn copied(alloc: Global, pairs: &[(u64, u64)]) -> Result<Vec<(u64, u64)>, Al
     pairs.iter().copied().collect(alloc)
 }
 
-/// The codes of pairs, one behind the other.
+/// The codes of pairs, one after the other.
 fn codes_in(
     alloc: Global,
     puts: &[(u64, u64)],
@@ -59,7 +59,7 @@ pub fn by_code(alloc: Global, pairs: &[(u64, u64)]) -> Result<Staged<Ids>, Memor
     Ok(groups)
 }
 
-/// Puts an id behind those at a code.
+/// Puts an id after those at a code.
 fn add(alloc: Global, groups: &mut Staged<Ids>, code: u64, id: u64) -> Result<(), Memory>
     ensures { OnOk result ((c : ℕ) → ids_at groups.new c ≡ ids_at groups.old c ++ (if code == c then id ∷ [] else [])) }
 {
@@ -87,7 +87,7 @@ pub fn holds_ids(groups: &Staged<Ids>, code: u64) -> bool
     !at_code(groups, code).is_empty()
 }
 
-/// The ids at codes, those of one code behind those of the one before.
+/// The ids at codes, those of one code after those of the one before.
 pub fn at_codes(alloc: Global, groups: &Staged<Ids>, codes: &[u64]) -> Result<Vec<u64>, Memory>
     ensures { IfOk result (λ ids. ids.items ≡ flat_map (ids_at groups.now) codes.now) }
 {
@@ -98,7 +98,7 @@ pub fn at_codes(alloc: Global, groups: &Staged<Ids>, codes: &[u64]) -> Result<Ve
     Ok(ids)
 }
 
-/// The ids with more behind them.
+/// The ids with more after them.
 fn appended(mut ids: Vec<u64>, more: &[u64]) -> Result<Vec<u64>, Memory>
     ensures { IfOk result (λ all. all.items ≡ ids.items ++ more.now) }
 {

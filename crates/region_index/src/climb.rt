@@ -31,7 +31,7 @@ impl Walk<'_> {
         }
     }
 
-    /// The code of the region over the leaves from dimension `d` on, behind nodes that make `code`, whose depths from
+    /// The code of the region over the leaves from dimension `d` on, after nodes that make `code`, whose depths from
     /// there on are those of a pattern. None where there is no such region.
     fn code_at(&self, d: u32, pattern: u64, code: u64) -> Option<u64>
         requires { IsOnTheWay self.now.space.now self.now.leaves d code }

@@ -93,7 +93,7 @@ fn is_product_above(a: u64, b: u64, most: u64) -> bool
     b > most / a
 }
 
-/// The codes behind each of the places.
+/// The codes after each of the places.
 fn codes_behind(alloc: Global, places: &[u32], step: u64, codes: &[u64]) -> Result<Vec<u64>, Memory>
     requires small { All (λ place. (place + 1) * step < SPACE_LIMIT) places.now }
     requires below { All (λ code. code < step) codes.now }
@@ -165,7 +165,7 @@ fn push_run(first: u32, end: u32, places: &mut Vec<u32>) -> Result<(), Memory>
     Ok(())
 }
 
-/// The place behind the last node under a node, found by halves: the nodes under it are one run.
+/// The place after the last node under a node, found by halves: the nodes under it are one run.
 fn end_of(dim: &Dim, node: u32, place: u32) -> u32
     requires node { node < length dim.now }
     requires place { place_of dim.now node ≡ Some place }

@@ -25,7 +25,7 @@ pub struct Walk<'a> {
 }
 
 impl Walk<'_> {
-    /// Probes the regions over the leaves from dimension `d` on, behind nodes that make `code`.
+    /// Probes the regions over the leaves from dimension `d` on, after nodes that make `code`.
     #[cycle(walk)]
     pub fn over<L: Ledger>(
         &self,

@@ -1,4 +1,4 @@
--- A walk through the lines behind that of a batch.
+-- A walk through the lines after that of a batch.
 use Rattle.std.specs.Prelude.{◌≡◌, ℕ, ◌≤◌, Bool, true, false, List, [], ◌∷◌, ◌++◌, codes, drop, length, take, if◌then◌else◌, ⊤}
 use Rattle.std.specs.List.{flat_map}
 use Rattle.cube_model.specs.Tree.{Dimension}

@@ -11,7 +11,7 @@ use Rattle.schema_text.specs.Schema.{SchemaValue}
 abbrev node : ℕ → List ℕ → ℕ → Entry
 node depth name number = record { depth = depth; name = name; number = number }
 
--- two cities of a state, and cars of which there is one; a city more has the next number, but stands behind the others
+-- two cities of a state, and cars of which there is one; a city more has the next number, but stands after the others
 abbrev places : Dimension
 places = node 0 (codes "All") 0 ∷ node 1 (codes "TX") 1 ∷ node 2 (codes "Austin") 2 ∷ node 2 (codes "Dallas") 3 ∷ []
 

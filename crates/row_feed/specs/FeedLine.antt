@@ -27,7 +27,7 @@ SAID_WORDS = codes "insert" ∷ codes "change" ∷ codes "withdraw" ∷ codes "g
 abbrev pub is_said_word : List ℕ → Bool
 is_said_word field = list_any (λ word. bytes_eq field word) SAID_WORDS
 
--- the edit or the growth that the fields behind a batch's number say, or why they say none
+-- the edit or the growth that the fields after a batch's number say, or why they say none
 abbrev pub rest_given : SchemaValue → List (List ℕ) → Result Line Code
 rest_given schema fields = if is_said_word (field_at fields 0) then command_line schema fields (word_spelled (field_at fields 0)) else Err code.Command
 
@@ -87,7 +87,7 @@ IsGrowthBatch (Batch number (Ok said)) = IsGrowth said
 IsGrowthBatch (Batch number (Err refusal)) = ⊥
 IsGrowthBatch Other = ⊥
 
--- where a line is refused, this is its code; memory may be wanting for the name of a growth, and for nothing else
+-- where a line is refused, this is its code; it may be out of memory for the name of a growth, and for nothing else
 abbrev pub IsFeedFaultOf : SchemaValue → List ℕ → LineFault → Type 0
 IsFeedFaultOf schema bytes (fault.Code refusal) = feed_line_of schema bytes ≡ Err refusal
 IsFeedFaultOf schema bytes fault.Memory = IsOkAnd (feed_line_of schema bytes) IsGrowthBatch

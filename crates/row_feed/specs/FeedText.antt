@@ -67,11 +67,11 @@ row_line dims row = fields_line (codes "row") (row_fields dims row)
 abbrev pub rows_lines : List Dimension → KeptRows → List (List ℕ)
 rows_lines dims kept = rows_head kept ∷ map (row_line dims) kept.rows
 
--- the lines behind that of a batch: the rows of each fact, as the batch has them, and that these are all
+-- the lines after that of a batch: the rows of each fact, as the batch has them, and that these are all
 abbrev pub behind_lines : List Dimension → Batch → List (List ℕ)
 behind_lines dims batch = flat_map (rows_lines dims) batch.rows ++ codes "done" ∷ []
 
--- a batch: its number, what was said, and the lines behind
+-- a batch: its number, what was said, and the lines that follow
 abbrev pub batch_lines : SchemaValue → ℕ → Line → Batch → List (List ℕ)
 batch_lines schema number said batch = fields_line (codes "batch") (decimal number ∷ said_fields schema said) ∷ behind_lines schema.dims batch
 

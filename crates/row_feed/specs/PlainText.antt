@@ -12,7 +12,7 @@ use Rattle.script_text.specs.declared.line.Line.{Line}
 use Rattle.script_text.specs.declared.line.Line.TheVariants as line
 use Rattle.row_feed.specs.FeedText.{HasParent}
 
--- a line is clean, not long, not passed over, and has no LF in it
+-- a line is clean, not long, not skipped, and has no LF in it
 pub record IsPlainText (line : List ℕ) : Type 0 where
   pub clean : is_clean line ≡ true
   pub short : is_long line ≡ false

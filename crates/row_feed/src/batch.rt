@@ -34,7 +34,7 @@ pub fn write_batch(
     Ok(Bytes::from(text))
 }
 
-/// Appends the lines behind that of a batch.
+/// Appends the lines after that of a batch.
 fn append_behind(text: &mut Vec<u8>, schema: &Schema, batch: &Batch) -> Result<(), Memory>
     requires { AreRowsOf schema.now.dims batch.now.rows }
     ensures { OnOk result (text.new.items ≡ text.old.items ++ feed_bytes (behind_lines schema.now.dims batch.now)) }

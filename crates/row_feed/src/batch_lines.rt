@@ -1,4 +1,4 @@
-//! The lines behind that of a batch, one after another.
+//! The lines after that of a batch, one after another.
 ghost use Rattle.std.specs.Prelude.{◌≡◌, ◌<◌, ◌≤◌, ◌++◌, drop, length, IfOk, OnOk, OnErr};
 ghost use Rattle.cube_model.specs.Cells.{AreRows, all_cells};
 ghost use Rattle.text_lines.specs.LineText.{field_at};
@@ -12,7 +12,8 @@ use schema_text::Schema;
 use script_text::{append_number, append_row};
 use std::marker::Model;
 
-/// A walk through the lines behind that of a batch, which holds no text of its own. Contracts see the lines that are left.
+/// A walk through the lines after that of a batch, which holds no text of its own. Contracts see the lines that are
+/// left.
 #[derive(Drop)]
 pub struct BatchLines<'a> {
     space: &'a Space,
@@ -36,7 +37,7 @@ impl<'a> Model for BatchLines<'a> {
 }
 
 impl<'a> BatchLines<'a> {
-    /// The walk before the first line behind that of a batch, over the schema after it.
+    /// The walk before the first line after that of a batch, over the schema after it.
     pub fn new(schema: &'a Schema, batch: &'a Batch) -> Self
         requires { AreRowsOf schema.now.dims batch.now.rows }
         ensures { result ≡ behind_lines schema.now.dims batch.now }

@@ -3,7 +3,7 @@ use cube_base::Code;
 use cube_model::Fact;
 use script_text::Line;
 
-/// What a line of a feed says, where it stands neither in the schema nor behind the line of a batch.
+/// What a line of a feed says, where it stands neither in the schema nor after the line of a batch.
 #[derive(Debug, Drop)]
 pub enum FeedLine {
     /// A fact of the base.

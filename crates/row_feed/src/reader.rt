@@ -17,15 +17,15 @@ use text_lines::{
     FieldWalk, Fields, clean_text, field_at, field_count, is_long, is_text, number_in,
 };
 
-/// What a line of a feed says over a schema, where it stands neither in the schema nor behind the line of a batch. The first of
-/// these that holds refuses it: `Long`, it has more than 4,096 bytes; `Text`, it is not UTF-8 or has a byte below 32 but TAB,
-/// or 127: no final CR is taken off. Then, behind the word `fact`: `Fields`, their number is wrong; `Id`, `Node`, `Value` and
-/// `Parts`, as in a line of a script. Behind `based`: `Fields`, there are others. Behind `batch`: `Fields`, there are fewer
-/// than two others; `Number`, the first of them is not a number from 0 to 2^64 - 1.
+/// What a line of a feed says over a schema, where it stands neither in the schema nor after the line of a batch. The
+/// first of these that holds refuses it: `Long`, it has more than 4,096 bytes; `Text`, it is not UTF-8 or has a byte
+/// below 32 but TAB, or 127: no final CR is taken off. Then, after the word `fact`: `Fields`, their number is wrong;
+/// `Id`, `Node`, `Value` and `Parts`, as in a line of a script. After `based`: `Fields`, there are others. After
+/// `batch`: `Fields`, there are fewer than two others; `Number`, the first of them is not a number from 0 to 2^64 - 1.
 ///
-/// What stands behind that number is told with it: the edit or the growth that it says, as `read_line` reads it, or the code by
-/// which it is refused. That is `Command` where its first field is none of `insert`, `change`, `withdraw` and `grow`.
-/// No line but a growth's takes memory.
+/// What stands after that number is given with it: the edit or the growth that it says, as `read_line` reads it, or the
+/// code by which it is refused. That is `Command` where its first field is none of `insert`, `change`, `withdraw` and
+/// `grow`. No line but a growth's takes memory.
 pub fn read_feed_line(alloc: Global, schema: &Schema, line: &[u8]) -> Result<FeedLine, LineFault>
     ensures line { IfOk result (λ read. feed_line_of schema.now line.now ≡ Ok read) }
     ensures refused { IfErr result (IsFeedFaultOf schema.now line.now) }
@@ -107,7 +107,7 @@ fn read_batch(alloc: Global, schema: &Schema, line: &[u8]) -> Result<FeedLine, L
     Ok(FeedLine::Batch { number, line })
 }
 
-/// The edit or the growth that the fields behind a batch's number say, or why they say none.
+/// The edit or the growth that the fields after a batch's number say, or why they say none.
 fn read_rest(alloc: Global, schema: &Schema, rest: &[u8]) -> Result<Result<Line, Code>, Memory>
     requires short { is_long rest.now ≡ false }
     requires clean { is_clean rest.now ≡ true }
@@ -135,7 +135,7 @@ fn is_said_word(field: &[u8]) -> bool
         || is_text(field, "grow")
 }
 
-/// What stands before the first TAB of a line, and what behind it: None exactly where there is none.
+/// What stands before the first TAB of a line, and what after it: None exactly where there is none.
 fn cut(line: &[u8]) -> Option<(&[u8], &[u8])>
     ensures none { IfNone result (All (λ b. b ≢ 9) line.now) }
     ensures parts { IfSome result (λ parts. line.now ≡ parts.0.now ++ 9 ∷ parts.1.now) }

@@ -23,19 +23,19 @@ use Rattle.schema_text.specs.SchemaText.{BadLine, Draft, ReadSchema, are_places_
 
 -- The nodes so far of a dimension.
 
--- nodes that may become a dimension, their numbers aside: each line of them was accepted behind those before it
+-- nodes that may become a dimension, their numbers aside: each line of them was accepted after those before it
 pub record AreNodes (nodes : Dimension) : Type 0 where
   pub lines : first_fault [] 0 (node_lines nodes) ≡ None
   pub few : length nodes ≤ MAX_NODES
 
--- a node that may come next behind these, its number aside
+-- a node that may come next after these, its number aside
 pub record IsNextNode (before : Dimension) (node : Entry) : Type 0 where
   pub name : is_wrong_name node.name (map (λ n. n.name) before) ≡ false
   pub shallow : node.depth ≤ MAX_DEPTH
   pub depth : is_wrong_depth before node.depth ≡ false
   pub room : length before < MAX_NODES
 
--- a number that a node behind these may have
+-- a number that a node after these may have
 abbrev pub IsNextNumber : Version → Dimension → ℕ → Type 0
 IsNextNumber One nodes number = number ≡ length nodes
 IsNextNumber Two nodes number = list_any (λ n. n == number) (numbers nodes) ≡ false
@@ -59,7 +59,7 @@ IsFree Two taken number = list_any (λ n. n == number) taken ≡ false
 abbrev pub version_fault : List (List ℕ) → Option Code
 version_fault fields = first_that_holds ((is_none (version_named (field_at fields 1)), code.Number) ∷ [])
 
--- why a node of these fields is refused behind the nodes
+-- why a node of these fields is refused after the nodes
 abbrev pub node_fault : Version → Dimension → List (List ℕ) → Option Code
 node_fault version nodes fields =
     first_that_holds
@@ -75,7 +75,7 @@ policy_fault fields =
     ((is_weight_word (field_at fields 1) && not (is_name (field_at fields 2)), code.Name)
     ∷ (is_none (policy_named (field_at fields 1) (field_at fields 2)), code.Policy) ∷ [])
 
--- why a number measure of these fields is refused behind the measures, and why a distribution is
+-- why a number measure of these fields is refused after the measures, and why a distribution is
 abbrev pub number_fault : List Measure → List (List ℕ) → Option Code
 number_fault measures fields =
     first_that_holds ((is_wrong_name (field_at fields 1) (map (λ m. m.name) measures), code.Name) ∷ (nat_lt MAX_COLS (width_of_all measures + 1), code.Limit) ∷ [])
@@ -91,7 +91,7 @@ parts_fault measures fields =
 abbrev pub kind_fault : List (List ℕ) → Option Code
 kind_fault fields = first_that_holds ((has_wrong_names [] (outcomes_of fields), code.Name) ∷ (is_none (scale_of fields), code.Number) ∷ [])
 
--- why a dimension of these fields is refused behind those of these names, the last of which ends with the nodes
+-- why a dimension of these fields is refused after those of these names, the last of which ends with the nodes
 abbrev pub dimension_fault : List (List ℕ) → Dimension → List (List ℕ) → Option Code
 dimension_fault names nodes fields =
     first_that_holds
@@ -99,7 +99,8 @@ dimension_fault names nodes fields =
     ∷ (not (list_all is_numbered (ended nodes)), code.Number)
     ∷ (nat_le MAX_DIMS (length names), code.Limit) ∷ [])
 
--- why the name and the depths of a view of these fields are refused behind the views, and why a view is where the nodes end
+-- why the name and the depths of a view of these fields are refused after the views, and why a view is where the nodes
+-- end
 abbrev pub view_fields_fault : List ViewDef → List (List ℕ) → Option Code
 view_fields_fault views fields =
     first_that_holds ((is_wrong_name (field_at fields 1) (map (λ v. v.name) views), code.Name) ∷ (has_wrong_depths (depth_fields fields), code.Number) ∷ [])
@@ -138,17 +139,17 @@ open_count (Some DimensionWord) = 1
 open_count (Some Node) = 1
 open_count word = 0
 
--- nodes are there behind the line of a node, and there alone
+-- nodes are there after the line of a node, and there alone
 abbrev pub HasNodes : Option SchemaWord → Dimension → Type 0
 HasNodes (Some Node) nodes = 1 ≤ length nodes
 HasNodes word nodes = nodes ≡ []
 
--- behind the line of a view there are dimensions, and there alone views
+-- after the line of a view there are dimensions, and there alone views
 abbrev pub HasViews : Option SchemaWord → List Dimension → List ViewDef → Type 0
 HasViews (Some View) dims views = 1 ≤ length dims
 HasViews word dims views = views ≡ []
 
--- a measure that may come next behind these
+-- a measure that may come next after these
 pub record IsNextMeasure (before : List Measure) (measure : Measure) : Type 0 where
   pub name : is_wrong_name measure.name (map (λ m. m.name) before) ≡ false
   pub kind : IsKind measure.kind

@@ -61,7 +61,7 @@ end = codes "end" ∷ []
 abbrev pub small : List Line
 small = dimension ∷ node (codes "0") (codes "a") ∷ end ∷ []
 
--- measures behind a policy, with a small dimension
+-- measures after a policy, with a small dimension
 abbrev pub measured : Line → List Line → List Line
 measured of_policy measures = version (codes "1") ∷ of_policy ∷ measures ++ small
 

@@ -15,7 +15,7 @@ pub record IsKept (open_dim : OpenDim) : Type 0 where
 abbrev pub draft_of : Reader → Draft
 draft_of r = record { last = r.last; version = r.named_last.version; policy = r.policy; measures = r.measures.items; names = r.names.items; dims = r.dims.items; nodes = r.named_last.nodes.items; views = r.views.items }
 
--- a reader behind accepted lines
+-- a reader after accepted lines
 pub record IsReader (r : Reader) : Type 0 where
   pub draft : IsDraft (draft_of r)
   pub width : r.columns ≡ width_of_all r.measures.items

@@ -53,7 +53,7 @@ version_named bytes = if bytes_eq bytes (codes "1") then Some One else (if bytes
 abbrev pub is_weight_word : List ℕ → Bool
 is_weight_word bytes = bytes_eq bytes (codes "weight")
 
--- the policy that a word and the name behind it give
+-- the policy that a word and the name after it give
 abbrev pub policy_named : List ℕ → List ℕ → Option NamedPolicy
 policy_named word name =
     if bytes_eq word (codes "uniform") then Some Uniform
@@ -159,7 +159,8 @@ scale_of fields = number_in MIN_SCALE MAX_SCALE (field_at fields 2)
 abbrev pub depth_of : List (List ℕ) → Option ℕ
 depth_of fields = number_in 0 MAX_DEPTH (field_at fields 1)
 
--- the number of a node behind these: its place in version 1, in version 2 that of the last field, which is none of theirs
+-- the number of a node after these: its place in version 1, in version 2 that of the last field, which is none of
+-- theirs
 abbrev pub number_of : Version → Dimension → List (List ℕ) → Option ℕ
 number_of One nodes fields = Some (length nodes)
 number_of Two nodes fields = option_and_then (free_number nodes) (number_in 0 MAX_NUMBER (field_at fields 3))
@@ -366,7 +367,7 @@ version_text Two = codes "2"
 abbrev pub measure_name : List Measure → ℕ → List ℕ
 measure_name measures i = option_map_or (λ m. m.name) (slice_get measures i) []
 
--- what stands behind the word in the line of a policy
+-- what stands after the word in the line of a policy
 abbrev pub policy_fields : List Measure → PolicyWord → List (List ℕ)
 policy_fields measures policy_word.Uniform = codes "uniform" ∷ []
 policy_fields measures policy_word.Count = codes "count" ∷ []

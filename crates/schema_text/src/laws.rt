@@ -8,7 +8,7 @@ ghost use Rattle.schema_text.specs.Examples.{IsRefused, Says, dimension, measure
 ghost use Rattle.schema_text.specs.Schema.{IsSchema, SchemaValue};
 ghost use Rattle.schema_text.specs.SchemaText.{Draft, read_from, schema_of, schema_text};
 
-/// The text of a schema, with anything behind it, is read as that schema, and takes its own length.
+/// The text of a schema, with anything after it, is read as that schema, and takes its own length.
 pub fn what_is_written_is_read()
     ensures { (schema : SchemaValue) (rest : List ℕ) → IsSchema schema →
         schema_of (schema_text schema ++ rest) ≡ Ok (record { schema = schema; size = length (schema_text schema) }) }

@@ -20,7 +20,7 @@ use fact_records::{Kind, Measure};
 use std::alloc::Global;
 use text_lines::{field_at, field_count, number_in};
 
-/// Takes the number measure of a line with two fields behind measures of so many columns.
+/// Takes the number measure of a line with two fields after measures of so many columns.
 pub fn take_number(
     alloc: Global,
     measures: &mut Vec<Measure>,

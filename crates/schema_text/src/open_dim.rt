@@ -73,7 +73,7 @@ impl OpenDim {
         }
     }
 
-    /// Takes the node of a line that has as many fields as it wants.
+    /// Takes the node of a line that has as many fields as it needs.
     pub fn take_node(&mut self, alloc: Global, line: &[u8]) -> Result<(), LineFault>
         requires few { length self.old.nodes.items ≤ MAX_NODES }
         requires kept { IsKept self.old }
@@ -154,7 +154,7 @@ impl OpenDim {
         }
     }
 
-    /// Puts a node behind the others.
+    /// Puts a node after the others.
     fn push_node(
         &mut self,
         alloc: Global,
@@ -206,7 +206,7 @@ impl OpenDim {
     }
 }
 
-/// Whether a node of a depth may not come behind these.
+/// Whether a node of a depth may not come after these.
 fn is_wrong_depth(nodes: &[NumberedLine], depth: u64) -> bool
     ensures { result ≡ is_wrong_depth nodes.now depth }
 {

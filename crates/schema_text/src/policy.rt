@@ -49,7 +49,7 @@ pub enum NamedPolicy {
     Weight(Name),
 }
 
-/// Takes the policy of a line that has as many fields as it wants.
+/// Takes the policy of a line that has as many fields as it needs.
 pub fn take_policy(alloc: Global, policy: &mut NamedPolicy, line: &[u8]) -> Result<(), LineFault>
     ensures made { OnOk result (policy_named (field_at (fields_of line.now) 1) (field_at (fields_of line.now) 2) ≡ Some policy.new) }
     ensures accepted { OnOk result (policy_fault (fields_of line.now) ≡ None) }
@@ -59,7 +59,7 @@ pub fn take_policy(alloc: Global, policy: &mut NamedPolicy, line: &[u8]) -> Resu
     Ok(())
 }
 
-/// The policy of a line that has as many fields as it wants, or the first of the conditions that refuse it.
+/// The policy of a line that has as many fields as it needs, or the first of the conditions that refuse it.
 fn read_policy(alloc: Global, line: &[u8]) -> Result<NamedPolicy, LineFault>
     ensures read { IfOk result (λ policy. policy_named (field_at (fields_of line.now) 1) (field_at (fields_of line.now) 2) ≡ Some policy) }
     ensures accepted { OnOk result (policy_fault (fields_of line.now) ≡ None) }
@@ -76,7 +76,7 @@ fn read_policy(alloc: Global, line: &[u8]) -> Result<NamedPolicy, LineFault>
     }
 }
 
-/// The policy that a word and the name behind it give; of the name nothing is asked but for a weight.
+/// The policy that a word and the name after it give; of the name nothing is asked but for a weight.
 fn policy_named(alloc: Global, word: &[u8], name: &[u8]) -> Result<Option<NamedPolicy>, Memory>
     requires { is_weight_word word.now ≡ true → is_name name.now ≡ true }
     ensures { IfOk result (λ policy. policy ≡ policy_named word.now name.now) }

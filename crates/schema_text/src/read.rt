@@ -17,8 +17,8 @@ use text_lines::{first_line_of, is_skipped};
 /// `number|NAME`, or `parts|NAME|SCALE` with a field more for the name of each outcome; then for each dimension
 /// `dimension|NAME` and, for each node in preorder, `node|DEPTH|NAME` in version 1 or `node|DEPTH|NAME|NUMBER` in version 2;
 /// then for each view `view|NAME` with a field more for the depth of each dimension; and `end`. A final CR of a line is
-/// dropped. Lines that are then empty or begin with `#` are passed over, whatever their length and bytes. `end` needs no LF
-/// behind it.
+/// dropped. Lines that are then empty or begin with `#` are skipped, whatever their length and bytes. `end` needs no LF
+/// after it.
 ///
 /// The measures have at most 7 columns: one of numbers has one, one of distributions 2 to 7, one for each outcome. There
 /// are 1 to 6 dimensions, and in each 1 to 65,536 nodes. The first node of a dimension has depth 0; each other has a depth
@@ -26,7 +26,7 @@ use text_lines::{first_line_of, is_skipped};
 /// numbers of a dimension are distinct, below the count of its nodes, and that of a node is above its parent's. A name has
 /// 1 to 128 bytes, is UTF-8 and has no byte below 32 and no 127. No two measures have one name, no two dimensions, no two
 /// nodes of a dimension, no two outcomes of a measure, and no two views. There are at most 4 views, and a depth of one is
-/// from 0 to 8, whatever those of the nodes. The name behind `weight` is that of a measure of numbers.
+/// from 0 to 8, whatever those of the nodes. The name after `weight` is that of a measure of numbers.
 ///
 /// # Errors
 ///
@@ -45,7 +45,7 @@ use text_lines::{first_line_of, is_skipped};
 ///   or the fifth view.
 /// - `Cells`: at `end`, the product of the dimensions' leaf counts is 2^62 or more.
 /// - `Nodes`: at `end`, the product of their node counts is 2^62 or more.
-/// - `Cut`: the text ends before `end`; the line is the one behind its last.
+/// - `Cut`: the text ends before `end`; the line is the one after its last.
 ///
 /// `Memory` comes when it runs out of memory.
 pub fn read_schema(alloc: Global, text: &[u8]) -> Result<(Schema, usize), SchemaFault>

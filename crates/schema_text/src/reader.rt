@@ -98,7 +98,7 @@ impl Reader {
         Ok(())
     }
 
-    /// Takes the fields of such a line, as many as it wants; the word is set behind it.
+    /// Takes the fields of such a line, as many as it needs; the word is set after it.
     fn take_fields(&mut self, alloc: Global, line: &[u8], word: SchemaWord) -> Result<(), LineFault>
         requires reader { IsReader self.old }
         requires follows { may_follow self.old.last word ≡ true }

@@ -15,7 +15,7 @@ use std::marker::Model;
 #[derive(Clone, Copy, Debug, PartialEq, Eq)]
 pub enum SchemaFault {
     /// The first line at fault, counted from 1, and why it is refused. A text that ends before its `end` is at fault in
-    /// the line behind its last.
+    /// the line after its last.
     Bad { line: u64, code: Code },
     /// Out of memory.
     Memory,

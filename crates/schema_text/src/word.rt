@@ -110,7 +110,7 @@ pub fn is_weight_word(bytes: &[u8]) -> bool
     is_text(bytes, "weight")
 }
 
-/// Whether a line of a word may stand behind one of another; `None` stands for no line.
+/// Whether a line of a word may stand after one of another; `None` stands for no line.
 pub fn may_follow(before: Option<SchemaWord>, word: SchemaWord) -> bool
     ensures { result ≡ may_follow before word }
 {

@@ -17,7 +17,7 @@ use itoa::Buffer;
 use region_algebra::{Space, ViewDef};
 use std::alloc::Global;
 
-/// The one text of a schema that is written: its lines with LF alone, none of which is passed over. With anything behind
+/// The one text of a schema that is written: its lines with LF alone, none of which is skipped. With anything after
 /// it, it is read as the schema.
 pub fn write_schema(alloc: Global, s: &Schema) -> Result<Bytes, Memory>
     ensures text { IfOk result (λ text. text ≡ schema_text s.now) }
@@ -223,7 +223,7 @@ fn append_names(out: &mut Vec<u8>, names: &Names) -> Result<(), Memory>
     Ok(())
 }
 
-/// Appends a field behind those of the line.
+/// Appends a field after those of the line.
 fn append_field(out: &mut Vec<u8>, field: &[u8]) -> Result<(), Memory>
     ensures { OnOk result (out.new.items ≡ out.old.items ++ 9 ∷ field.now) }
 {

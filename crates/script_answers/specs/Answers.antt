@@ -109,8 +109,8 @@ abbrev pub pool_answer : SchemaValue → ℕ → List Term → Result Answer Cod
 pool_answer schema measure [] = Err Undefined
 pool_answer schema measure (term ∷ terms) = Ok (told.Quotients (pool_of (slice_get schema.measures measure) (term ∷ terms)))
 
--- The figures that terms are told: how much they count; of a number measure the sum, and that divided by the count; of a parts measure
--- the distribution.
+-- The figures that are given for terms: how much they count; of a number measure the sum, and that divided by the
+-- count; of a parts measure the distribution.
 abbrev pub figure_of : SchemaValue → Figure → List Term → Result Answer Code
 figure_of schema figure.Count terms = Ok (told.Value (one_of 0 terms))
 figure_of schema (figure.Sum measure) terms = Ok (told.Value (one_of (first_col_at schema measure) terms))
@@ -149,16 +149,16 @@ worlds_code (world_fault.Many product) = Some Many
 worlds_code world_fault.Wide = Some Wide
 worlds_code world_fault.Memory = None
 
--- What all possible worlds of facts come to in a region, or why they are not listed: their number, the sum of their weights, and the
--- total of each column, the count first.
+-- What all possible worlds of facts add up to in a region: their number, the sum of their weights, and the total of
+-- each column, the count first. Or else it says why they are not listed.
 abbrev pub worlds_answer : ℕ → List Dimension → List ℕ → List ExtendedFact → Result Answer Code
 worlds_answer columns dims region facts =
     option_map_or (λ refusal. Err refusal)
     (option_and_then worlds_code (fault_of (map placed_of facts)))
     (Ok (told.Numbers (pos (world_count facts) ∷ pos (mass facts) ∷ map (λ column. total dims region column facts) (range_with_len 0 columns))))
 
--- The answers about a region: how much its facts count, what they add up to, what their worlds come to, and the ends of what they may
--- count in one of these.
+-- The answers about a region: how much its facts count, what they add up to, what their worlds add up to, and the ends
+-- of what they may count in one of these.
 abbrev pub region_answer : RegionWord → (CellStat → ℕ) → SchemaValue → State → List ℕ → Result Answer Code
 region_answer Count weigh schema state region = figure_answer figure.Count weigh schema state region
 region_answer Terms weigh schema state region = Ok (told.Terms (record { columns = width_of_all schema.measures + 1; terms = terms_at weigh schema state region }))
@@ -170,7 +170,7 @@ abbrev pub rows_answer : Option Allocation → Result Answer Code
 rows_answer None = Err Missing
 rows_answer (Some a) = Ok (told.Rows a.den a.rows)
 
--- nothing is told where imprecise facts may lie in too many cells, those of each fact counted
+-- nothing is answered where imprecise facts may lie in too many cells, those of each fact counted
 abbrev pub unless_many : State → Answer → Result Answer Code
 unless_many state fields = if nat_lt MOST_CELLS (cells_in_all state.dims state.facts) then Err Many else Ok fields
 
@@ -196,7 +196,7 @@ quotients_in (Ok (told.Quotient ratio)) = ratio ∷ []
 quotients_in (Ok (told.Quotients ratios)) = ratios
 quotients_in other = []
 
--- a region of a table with the figure that its terms are told
+-- a region of a table with the figure that is given for its terms
 abbrev pub table_entry : SchemaValue → Figure → List ℕ × TermList → List ℕ × List Quotient
 table_entry schema asked entry = (entry.0, quotients_in (figure_of schema asked entry.1.terms))
 

@@ -1,4 +1,4 @@
-//! The figures that terms are told.
+//! The figures that are given for terms.
 ghost use Rattle.std.specs.Prelude.{◌≡◌, ◌+◌, ◌<◌, length, IfOk};
 ghost use Rattle.fact_records.specs.declared.measure_reader.MeasureKind.TheVariants as kind;
 ghost use Rattle.fact_records.specs.MeasureFields.{IsMeasureOf};
@@ -77,7 +77,7 @@ pub fn figure_of(
     }
 }
 
-/// A quotient is told where it is defined.
+/// A quotient is given where it is defined.
 fn quotient_answer(quotient: Quotient) -> Result<Answer, Code>
     ensures { result ≡ quotient_answer quotient }
 {

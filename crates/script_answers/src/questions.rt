@@ -85,7 +85,7 @@ pub fn reply(alloc: Global, cube: &Cube<PolicyWord>, question: &Question) -> Res
     }
 }
 
-/// What is told of a region.
+/// What is answered about a region.
 fn answer_of_region(
     alloc: Global,
     cube: &Cube<PolicyWord>,
@@ -104,7 +104,7 @@ fn answer_of_region(
     }
 }
 
-/// What is told of a measure over a region.
+/// What is answered about a measure over a region.
 fn answer_of_measure(
     alloc: Global,
     cube: &Cube<PolicyWord>,
@@ -136,7 +136,7 @@ fn answer_of_measure(
     }
 }
 
-/// What is told of a fact.
+/// What is answered about a fact.
 fn answer_of_id(
     alloc: Global,
     cube: &Cube<PolicyWord>,
@@ -165,8 +165,8 @@ fn rows_answer(alloc: Global, allocation: Option<&Alloc>) -> Result<Result<Answe
     }))
 }
 
-/// What all possible worlds of the facts come to in a region: `many` where there are too many to be listed, `wide` where their
-/// weights come to too much.
+/// What all possible worlds of the facts add up to in a region. The answer is `many` where there are too many to be
+/// listed, and `wide` where their weights add up to too much.
 fn worlds_answer(
     alloc: Global,
     cube: &Cube<PolicyWord>,

@@ -51,8 +51,8 @@ pub record Commits (committed : List Batch) (before after : Told) : Type 0 where
   pub content : after.content ≡ option_map (apply_all committed) before.content
   pub journal : after.journal ≡ option_map (λ earlier. earlier ++ committed) before.journal
 
--- The keeper holds what these lines make of what it held at the start. Of the lines whose replies are gathered none but the first
--- commits, so that it holds the same after the first of them as after all.
+-- The keeper holds what these lines make of what it held at the start. None but the first of the lines whose replies
+-- are gathered commits, so that it holds the same after the first of them as after all.
 pub record HasKept (weigh : CellStat → ℕ) (schema : SchemaValue) (first : State) (lines : List (List ℕ)) (start now : Told) (gathered : List (List ℕ)) : Type 0 where
   pub commits : Commits (batches weigh schema first lines) start now
   pub even : (n : ℕ) → length lines < n + length gathered → n ≤ length lines → batches weigh schema first (take n lines) ≡ batches weigh schema first lines
@@ -72,21 +72,21 @@ abbrev pub is_keep : BreakOff → Bool
 is_keep (Keep done) = true
 is_keep off = false
 
--- it breaks off within the replies that were gathered behind those of the lines before
+-- it breaks off within the replies that were gathered after those of the lines before
 pub record IsGatheredStop (done gathered : ℕ) (off : BreakOff) : Type 0 where
   pub behind : done < done_at off + gathered
   pub among : done_at off ≤ done
   pub no_keep : is_keep off ≡ false
 
--- Where a write or the keeper breaks a script off, the line at which it does lies behind those whose replies are written: of so many
--- that are done, the replies to the last few are gathered.
+-- Where a write or the keeper breaks a script off, the line at which it does lies after those whose replies are
+-- written: of so many that are done, the replies to the last few are gathered.
 abbrev pub IsBehind : ℕ → ℕ → BreakOff → Type 0
 IsBehind done gathered (Write line) = done < line + gathered
 IsBehind done gathered (SinkMemory line) = ⊤
 IsBehind done gathered (Memory some) = ⊤
 IsBehind done gathered (Keep some) = done ≤ some + gathered
 
--- where the keeper failed, the line behind those that are done commits: it is an edit or a growth that is accepted
+-- where the keeper failed, the line after those that are done commits: it is an edit or a growth that is accepted
 abbrev pub CommitsNext : (CellStat → ℕ) → SchemaValue → State → List (List ℕ) → BreakOff → Type 0
 CommitsNext weigh schema first lines (Keep done) = length (batches weigh schema first (take (done + 1) lines)) ≡ length (batches weigh schema first (take done lines)) + 1
 CommitsNext weigh schema first lines off = ⊤

@@ -59,9 +59,9 @@ abbrev pub break_off_at : SinkError → ℕ → BreakOff
 break_off_at sink_error.Failed line = Write line
 break_off_at sink_error.Memory line = SinkMemory line
 
--- How a run breaks off among its lines: a write failed, or the sink wanted memory, within the reply to a line; memory was
--- wanting when so many lines were done, and the gathered replies are written; or the keeper failed behind so many lines, whose replies
--- are written.
+-- How a run breaks off among its lines: a write failed, or the sink was out of memory, within the reply to a line; the
+-- run was out of memory when so many lines were done, and the gathered replies are written; or the keeper failed after
+-- so many lines, whose replies are written.
 abbrev pub BreaksOff : List (List ℕ) → SinkSeen → BreakOff → Type 0
 BreaksOff replies sink (Write line) = WriteFailed sink × Wrote sink.taken sink.taken_after (Broken replies line)
 BreaksOff replies sink (SinkMemory line) = NoWriteFault sink × Wrote sink.taken sink.taken_after (Broken replies line)

@@ -2,7 +2,7 @@
 use Rattle.std.specs.Prelude.{◌≡◌, ℕ, ◌+◌, ◌-◌, List, [], ◌∷◌, length, take, drop, count_by, nat_le}
 use Rattle.std.specs.List.{concat}
 
--- the end of each of these replies, which stand one after the other behind so many bytes
+-- the end of each of these replies, which follow one another after so many bytes
 abbrev pub ends_from : ℕ → List (List ℕ) → List ℕ
 ends_from start [] = []
 ends_from start (text ∷ texts) = (start + length text) ∷ ends_from (start + length text) texts
@@ -11,7 +11,7 @@ ends_from start (text ∷ texts) = (start + length text) ∷ ends_from (start + 
 abbrev pub whole_within : ℕ → List ℕ → ℕ
 whole_within bytes ends = count_by (λ end. nat_le end bytes) ends
 
--- the replies into which ends cut a text that begins behind so many bytes
+-- the replies into which ends cut a text that begins after so many bytes
 abbrev pub cut_at_ends : ℕ → List ℕ → List ℕ → List (List ℕ)
 cut_at_ends start [] text = []
 cut_at_ends start (end ∷ ends) text = take (end - start) text ∷ cut_at_ends end ends (drop (end - start) text)

@@ -40,7 +40,7 @@ abbrev pub edited : (CellStat → ℕ) → SchemaValue → State → Edit → St
 edited weigh schema state edit =
     option_map_or (λ refusal. replied state (Refused refusal)) (judge (policy_in weigh schema) (shape_of schema) state.dims edit state.facts) (accepted weigh schema state (after edit state.facts))
 
--- A growth is done unless it is refused: it answers how many facts lie otherwise then. The facts stay.
+-- A growth is done unless it is refused: it answers with the number of facts whose allocation changed. The facts stay.
 abbrev pub grown : (CellStat → ℕ) → SchemaValue → State → Grow → Step
 grown weigh schema state grow = record {
   reply = Some (Done (length (moved (policy_in weigh schema) state.dims (dims_with grow state.dims) state.facts)));

@@ -20,7 +20,8 @@ use Rattle.script_run.specs.Run.{Outcome, State, run}
 use Rattle.script_run.specs.Seen.{KeepFailed, KeeperSeen, NoKeepFault, NoReadFault, NoWriteFault, ReadFailed, SeenAll, SinkSeen, SourceSeen, Told, seen_since}
 use Rattle.script_run.specs.Written.{Answered}
 
--- What a call does that does these lines behind those that are done: the cube at work, the sink and the keeper before it and after it.
+-- What a call does that does these lines after those that are done: the cube at work, the sink and the keeper before it
+-- and after it.
 pub record DoesLines {P T : Type 0} (weigh : P → CellStat → ℕ) (more : List (List ℕ)) (old new : Working P) (sink : SinkSeen) (keeper : KeeperSeen) (result : Result T BreakOff) : Type 0 where
   pub policy : new.cube.policy ≡ old.cube.policy
   pub keeps : new.keeps ≡ old.keeps
@@ -58,7 +59,7 @@ batches_on ground lines = batches ground.weigh ground.schema ground.first lines
 pub record CommitsOn (ground : Ground) (lines : List (List ℕ)) (keeper : KeeperSeen) : Type 0 where
   pub commits : ground.keeps ≡ true → Commits (batches_on ground lines) keeper.told keeper.told_after
 
--- All lines of a text, and of what was taken behind it to the end of the input, are done and answered.
+-- All lines of a text, and of what was taken after it to the end of the input, are done and answered.
 pub record StreamedAll (ground : Ground) (text : List ℕ) (room : ℕ) (seen : SeenAll) (refused : ℕ) : Type 0 where
   pub taken : List ℕ
   pub bytes : Consumes seen.source.left seen.source.left_after taken
@@ -67,7 +68,7 @@ pub record StreamedAll (ground : Ground) (text : List ℕ) (room : ℕ) (seen : 
   pub done : Done (outcome_on ground (lines_of (text ++ taken))) seen.sink refused
   pub kept : CommitsOn ground (lines_of (text ++ taken)) seen.keeper
 
--- the n-th line ends in the last piece that was taken, or behind it
+-- the n-th line ends in the last piece that was taken, or after it
 pub record EndsInLast (text taken : List ℕ) (n : ℕ) : Type 0 where
   pub before : List ℕ
   pub last : List ℕ
@@ -75,14 +76,15 @@ pub record EndsInLast (text taken : List ℕ) (n : ℕ) : Type 0 where
   pub piece : length last ≤ PIECE_LIMIT
   pub behind : lf_count (text ++ before) < n
 
--- no piece was taken behind that in which the line ends at which a write or the keeper failed
+-- no piece was taken after that in which the line ends at which a write or the keeper failed
 abbrev pub IsNear : List ℕ → List ℕ → BreakOff → Type 0
 IsNear text taken (Write line) = (taken ≡ []) ⊎ EndsInLast text taken line
 IsNear text taken (SinkMemory line) = ⊤
 IsNear text taken (Memory done) = ⊤
 IsNear text taken (Keep done) = (taken ≡ []) ⊎ EndsInLast text taken (done + 1)
 
--- It broke off among some lines: those that end in the text and what was taken behind it, or all where that is the whole input.
+-- It broke off among some lines: those that end in the text and what was taken after it, or all where that is the whole
+-- input.
 pub record StreamBroke (ground : Ground) (text : List ℕ) (room : ℕ) (seen : SeenAll) (off : BreakOff) : Type 0 where
   pub taken : List ℕ
   pub bytes : Consumes seen.source.left seen.source.left_after taken
@@ -93,14 +95,14 @@ pub record StreamBroke (ground : Ground) (text : List ℕ) (room : ℕ) (seen : 
   pub near : IsNear text taken off
   pub kept : ground.keeps ≡ true → KeptAt ground.weigh ground.schema ground.first lines seen.keeper.told seen.keeper.told_after off
 
--- The lines that end in a text and in what was taken behind it are done and answered, so many.
+-- The lines that end in a text and in what was taken after it are done and answered, so many.
 pub record AnsweredTaken (ground : Ground) (text taken : List ℕ) (seen : SeenAll) (done : ℕ) : Type 0 where
   pub count : done ≡ lf_count (text ++ taken)
   pub write : NoWriteFault seen.sink
   pub answered : Answered (outcome_on ground (lines_of (text ++ taken))).replies done seen.sink
   pub kept : CommitsOn ground (ended_lines (text ++ taken)) seen.keeper
 
--- A read failed behind them.
+-- A read failed after them.
 pub record StreamFailed (ground : Ground) (text : List ℕ) (room : ℕ) (seen : SeenAll) (done : ℕ) : Type 0 where
   pub taken : List ℕ
   pub bytes : Consumes seen.source.left seen.source.left_after taken

@@ -32,8 +32,9 @@ seen_from start now = record {
   keeper = record { told = start.told; told_after = now.told; faults = start.keep_faults; faults_after = now.keep_faults };
 }
 
--- Some bytes were taken behind a text, and so many may still be. These lines are done, and behind them the cutter holds those that
--- end in what was taken, and the rest. No reply is gathered, and none of the outside had a fault that stopped the run.
+-- Some bytes were taken after a text, and so many may still be. These lines are done, and after them the cutter holds
+-- those that end in what was taken, and the rest. No reply is gathered, and none of the outside had a fault that
+-- stopped the run.
 pub record Streaming {P : Type 0} (weigh : P → CellStat → ℕ) (ground : Ground) (text : List ℕ) (room : ℕ) (start now : Outside) (reading : Reading) (held : List (List ℕ)) (working : Working P) : Type 0 where
   pub weighs : ground.weigh ≡ weigh working.cube.policy
   pub keeps : ground.keeps ≡ working.keeps
@@ -78,8 +79,8 @@ pub record DoesPiece {P T : Type 0} (weigh : P → CellStat → ℕ) (before aft
   pub cause : IfErr result (λ stop. is_keep_stop stop ≡ true → Rose before.keep_faults after.keep_faults)
   pub other_cause : old.keeps ≡ true → IfErr result (λ stop. is_keep_stop stop ≡ false → after.keep_faults ≡ before.keep_faults)
 
--- What a call does that does these lines, the last of a script, behind those that are done, and writes all replies: the cube at work
--- before it, and the sink and the keeper before it and after it.
+-- What a call does that does these lines, the last of a script, after those that are done, and writes all replies: the
+-- cube at work before it, and the sink and the keeper before it and after it.
 pub record EndsLines {P : Type 0} (weigh : P → CellStat → ℕ) (more : List (List ℕ)) (old : Working P) (sink : SinkSeen) (keeper : KeeperSeen) (result : Result ℕ BreakOff) : Type 0 where
   pub done : (schema : SchemaValue) (first : State) (lines : List (List ℕ)) (start : Option (List ℕ)) → HasDone (weigh old.cube.policy) schema first lines start sink.taken old
       → IfOk result (Done (run (weigh old.cube.policy) schema first (lines ++ more)) (seen_since sink start))

@@ -22,7 +22,7 @@ pub record Gathered (replies : List (List ℕ)) (done : ℕ) (written : List ℕ
   pub among : done ≤ length replies
   pub whole : (written ≡ concat (take done replies)) ⊎ (written ≡ concat (take (done - 1) replies))
 
--- the first so many replies were written, all of them, and nothing behind them
+-- the first so many replies were written, all of them, and nothing after them
 pub record Answered (replies : List (List ℕ)) (done : ℕ) (sink : SinkSeen) : Type 0 where
   pub among : done ≤ length replies
   pub bytes : Appends sink.taken sink.taken_after (concat (take done replies))

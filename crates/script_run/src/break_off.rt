@@ -9,11 +9,11 @@ use cube_base::SinkError;
 pub enum BreakOff {
     /// A write failed: the reply to this line is not whole.
     Write { line: u64 },
-    /// The sink wanted memory: the reply to this line is not whole.
+    /// The sink was out of memory: the reply to this line is not whole.
     SinkMemory { line: u64 },
     /// It ran out of memory when so many lines were done. The replies that were gathered are written.
     Memory { done: u64 },
-    /// The keeper failed at the line behind so many, which are done. Their replies are written.
+    /// The keeper failed at the line after so many, which are done. Their replies are written.
     Keep { done: u64 },
 }
 

@@ -316,7 +316,7 @@ impl ScriptRun {
         }
     }
 
-    // Writes the gathered replies, and tells that the keeper failed behind the lines that are done.
+    // Writes the gathered replies, and tells that the keeper failed after the lines that are done.
     fn keep_fault<K: Sink>(&mut self, out: &mut K) -> BreakOff
         ensures policy { self.new.cube.policy ≡ self.old.cube.policy }
         ensures keeps { self.new.keeps ≡ self.old.keeps }

@@ -21,7 +21,7 @@ unfoldable pub last_digits : ℕ → ℕ → List ℕ
 last_digits zero n = []
 last_digits (suc k) n = last_digits k (n / 10) ++ (48 + n % 10) ∷ []
 
--- how many digits stand behind the point
+-- how many digits stand after the point
 abbrev pub PLACES : ℕ
 PLACES = 9
 
@@ -66,7 +66,7 @@ pool_fields quotients = flat_map quotient_fields quotients
 
 -- Printed bounds read back.
 
--- the units that digits before a point and behind it spell
+-- the units that digits before a point and after it spell
 abbrev pub size_of_parts : List (List ℕ) → Option ℕ
 size_of_parts [] = None
 size_of_parts (whole ∷ []) = None

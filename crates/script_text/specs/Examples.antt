@@ -27,6 +27,6 @@ graded = over_small_space Count parts_and_number
 abbrev pub weighed : SchemaValue
 weighed = over_small_space (Weight 1) second_weighs
 
--- a line of a word and fields behind it, a TAB before each
+-- a line of a word and fields after it, a TAB before each
 abbrev pub line_with : List ℕ → List (List ℕ) → List ℕ
 line_with word fields = word ++ flat_map (λ field. 9 ∷ field) fields

@@ -71,7 +71,7 @@ rounds_question_given schema word fields =
 abbrev pub depths_given : List Dimension → List (List ℕ) → Result (List ℕ) Code
 depths_given dims fields = if has_wrong_depths (take (length dims) fields) then Err code.Number else Ok (depths_in (take (length dims) fields))
 
--- what every table is asked of: the depths, and the region behind them
+-- what every table is asked of: the depths, and the region after them
 abbrev pub table_given : List Dimension → List (List ℕ) → Result (List ℕ × List ℕ) Code
 table_given dims fields = result_then (λ depths. result_then (λ region. Ok (depths, region)) (region_given dims (drop (length dims) fields))) (depths_given dims fields)
 
@@ -101,7 +101,7 @@ growth_given schema fields =
     result_then (λ dim. result_then (λ parent. result_then (λ name. Ok (line.Grow (record { dim = dim; parent = parent; name = name })))
     (new_name_given schema.dims dim (field_at fields 2))) (parent_given schema.dims dim (field_at fields 1))) (dim_given schema (field_at fields 0))
 
--- what the fields behind the word of a question ask
+-- what the fields after the word of a question ask
 abbrev pub question_given : SchemaValue → AskWord → List (List ℕ) → Result Question Code
 question_given schema (OfRegion word) fields = result_then (λ region. Ok (question.OfRegion word region)) (region_given schema.dims fields)
 question_given schema (OfMeasure word) fields = measure_question_given schema word fields
@@ -111,7 +111,7 @@ question_given schema (OfRounds word) fields = rounds_question_given schema word
 question_given schema (OfTable word) fields = table_question_given schema word fields
 question_given schema (OfMeasureTable word) fields = measure_table_given schema word fields
 
--- what the fields behind a word say
+-- what the fields after a word say
 abbrev pub line_given : SchemaValue → ScriptWord → List (List ℕ) → Result Line Code
 line_given schema (OfFact word) fields = result_then (λ fact. Ok (line_of_fact word fact)) (fact_given schema.dims (shape_of schema) fields)
 line_given schema Withdraw fields = result_then (λ id. Ok (line.Edit (edit.Withdraw id))) (id_given fields)

@@ -94,7 +94,7 @@ kind_of Range = kind.Number
 kind_of Least = kind.Number
 kind_of Greatest = kind.Number
 
--- the word of what each region of a table is told
+-- the word of what is given for each region of a table
 abbrev pub each_of : MeasureTableWord → MeasureWord
 each_of Sums = Sum
 each_of Avgs = Avg

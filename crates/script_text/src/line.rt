@@ -12,7 +12,7 @@ use cube_model::{Edit, Grow, Region};
 /// What a line of a script says.
 #[derive(Debug, Drop)]
 pub enum Line {
-    /// Nothing: it is passed over.
+    /// Nothing: it is skipped.
     Nothing,
     /// An edit of the facts.
     Edit(Edit),
@@ -22,7 +22,7 @@ pub enum Line {
     Ask(Question),
 }
 
-/// What a line asks: its word, and what stands behind that.
+/// What a line asks: its word, and what stands after that.
 #[derive(Clone, Copy, Debug)]
 pub enum Question {
     /// Of a region.

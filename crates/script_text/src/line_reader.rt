@@ -27,7 +27,7 @@ use text_lines::{FieldWalk, Fields, clean_text, field_count, is_long, is_skipped
 /// from 1 to 2^63 - 1; `Node`, a field is not the name of a node of its dimension; `Measure`, a field is not the name of a
 /// measure, or of one that the word does not take: `pool` and `pools` take a measure of distributions, all others one of
 /// numbers; `Value`, the field of a number measure gives no value; `Parts`, that of a parts measure; `Name`, no view has the
-/// name. A line that lets a dimension grow is judged so, behind its number of fields: `Node`, no
+/// name. A line that lets a dimension grow is judged so, after its number of fields: `Node`, no
 /// dimension has the name, or no node of it that of the parent; `Name`, the last field is no name, or a node of the dimension has it.
 /// No other line takes memory.
 pub fn read_line(alloc: Global, schema: &Schema, line: &[u8]) -> Result<Line, LineFault>
@@ -88,7 +88,7 @@ fn count_of(schema: &Schema, word: ScriptWord) -> usize
     }
 }
 
-/// What is read of the fields behind a word.
+/// What is read of the fields after a word.
 fn read_fields(
     alloc: Global,
     schema: &Schema,

@@ -21,7 +21,7 @@ const MIN_ROUNDS: u64 = 1;
 
 const MAX_ROUNDS: u64 = 32;
 
-/// What the fields behind the word of a question ask.
+/// What the fields after the word of a question ask.
 pub fn read_question(
     schema: &Schema,
     word: AskWord,
@@ -51,7 +51,7 @@ pub fn read_question(
     }
 }
 
-/// What a measure and the nodes behind it ask. The nodes are judged first.
+/// What a measure and the nodes after it ask. The nodes are judged first.
 fn read_of_measure(
     schema: &Schema,
     word: MeasureWord,
@@ -71,7 +71,7 @@ fn read_of_measure(
     })
 }
 
-/// What a number of rounds and the nodes behind it ask.
+/// What a number of rounds and the nodes after it ask.
 fn read_of_rounds(
     schema: &Schema,
     word: RoundsWord,
@@ -120,7 +120,7 @@ fn read_of_table(
     })
 }
 
-/// What a measure and the depths and the nodes of a table behind it ask. The measure is judged last.
+/// What a measure and the depths and the nodes of a table after it ask. The measure is judged last.
 fn read_of_measure_table(
     schema: &Schema,
     word: MeasureTableWord,
@@ -141,7 +141,7 @@ fn read_of_measure_table(
     })
 }
 
-/// The depths of a table, and its region behind them.
+/// The depths of a table, and its region after them.
 fn read_table(space: &Space, fields: &mut FieldWalk<'_>) -> Result<(CutDepths, Region), Code>
     requires { length fields.old ≡ length space.now + length space.now }
     ensures table { result ≡ table_given space.now fields.old }

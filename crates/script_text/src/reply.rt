@@ -23,7 +23,7 @@ use std::alloc::Global;
 /// Regions, each with what the facts in it add up to.
 pub type ViewList = PlainList<(Region, Terms)>;
 
-/// Regions, each with the quotients that it is told.
+/// Regions, each with the quotients that are given for it.
 pub type TableList = PlainList<(Region, Pooled)>;
 
 /// The reply to a line.
@@ -33,11 +33,11 @@ pub enum Reply {
     Done(u64),
     /// A refusal.
     Refused(Code),
-    /// What a question is told, under its word.
+    /// What a question is answered, under its word.
     Told { word: AskWord, fields: Answer },
 }
 
-/// What a question is told, by the kind of its fields.
+/// What a question is answered, by the kind of its fields.
 #[derive(Debug, Drop)]
 pub enum Answer {
     /// A number: its bounds and its fraction.
@@ -66,7 +66,7 @@ pub enum Answer {
 /// Appends the text of a reply over a schema: the word and its fields with TABs between, and LF. `ok` has the number of
 /// refreshed facts, `error` the word of the code, and the word of a question the fields of its answer.
 ///
-/// A bound has nine digits behind the point, and is `-` where there is none; read back, it is the bound itself
+/// A bound has nine digits after the point, and is `-` where there is none; read back, it is the bound itself
 /// (`printed_bounds_read_back`). A fraction is `NUM/DEN`, `NUM` over 1, and `wide` where there is none. A quotient that is
 /// not defined has no fields. An error leaves the text as it was.
 pub fn append_reply(text: &mut Vec<u8>, schema: &Schema, reply: &Reply) -> Result<(), Memory>

@@ -115,7 +115,7 @@ fn append_size(text: &mut Vec<u8>, size: u128) -> Result<(), Memory>
     append_places(text, size % UNITS)
 }
 
-/// Appends the nine digits behind the point: those behind the 1 of a whole more.
+/// Appends the nine digits after the point: those after the 1 of a whole more.
 fn append_places(text: &mut Vec<u8>, rest: u128) -> Result<(), Memory>
     requires { rest < UNIT }
     ensures ok { OnOk result (text.new.items ≡ text.old.items ++ last_digits PLACES rest) }

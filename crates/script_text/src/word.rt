@@ -1,4 +1,4 @@
-//! The words that lines of a script begin with: the kinds of what stands behind them, and how each is spelled.
+//! The words that lines of a script begin with: the kinds of what stands after them, and how each is spelled.
 ghost use Rattle.std.specs.Prelude.{◌≡◌};
 ghost use Rattle.script_text.specs.ScriptWord.{each_of, kind_of, line_of_fact, spelling_of, word_among, word_spelled};
 
@@ -7,7 +7,7 @@ use ScriptWord::Asks;
 use cube_model::{Edit, Fact};
 use fact_records::MeasureKind;
 
-/// The first field of a line of a script, by what stands behind it.
+/// The first field of a line of a script, by what stands after it.
 #[derive(Clone, Copy, Debug, PartialEq, Eq)]
 pub enum ScriptWord {
     /// An id, a node of each dimension and a field of each measure.
@@ -55,7 +55,7 @@ pub enum RegionWord {
     Count,
     /// `terms|NODE..`: what the facts in a region add up to.
     Terms,
-    /// `worlds|NODE..`: what all possible worlds of the facts come to in a region.
+    /// `worlds|NODE..`: what all possible worlds of the facts add up to in a region.
     Worlds,
     /// `rangecount|NODE..`: the least and the greatest count of a region in a possible world.
     RangeCount,
@@ -222,7 +222,7 @@ impl MeasureWord {
 }
 
 impl MeasureTableWord {
-    /// The word of what each region of the table is told.
+    /// The word of what is given for each region of the table.
     pub fn each(self) -> MeasureWord
         ensures { result ≡ each_of self }
     {

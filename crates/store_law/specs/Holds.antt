@@ -27,8 +27,8 @@ content_after content lines = apply_all (batches_over content lines) content
 abbrev pub state_reached : Stored → List (List ℕ) → Option State
 state_reached content lines = option_map (λ outcome. outcome.state) (outcome_over content lines)
 
--- Over what lines leave of a content others go on as if they stood behind them: the replies stand one after the other, and the same is
--- left.
+-- Over what lines leave of a content others go on as if they stood after them: the replies stand one after the other,
+-- and the same is left.
 pub record GoesOnOver (content : Stored) (lines more : List (List ℕ)) : Type 0 where
   pub replies : replies_over content (lines ++ more) ≡ replies_over content lines ++ replies_over (content_after content lines) more
   pub left : content_after content (lines ++ more) ≡ content_after (content_after content lines) more

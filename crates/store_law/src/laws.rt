@@ -95,8 +95,8 @@ pub fn scripts_keep_stores_sound()
     ensures finds { (content : Stored) (lines : List (List ℕ)) → IsSoundContent content → (found : Finding) → Finds (content_after content lines) found → ⊥ }
 {}
 
-/// Over what a script leaves in a sound store another goes on as if it stood behind it: closing the store between them changes
-/// neither a reply nor what is kept.
+/// A script goes on over what another left in a sound store as if it stood after that one. Closing the store between
+/// them changes neither a reply nor what is kept.
 pub fn scripts_go_on_over_what_is_kept()
     ensures { (content : Stored) (lines more : List (List ℕ)) → IsSoundContent content → GoesOnOver content lines more }
 {}

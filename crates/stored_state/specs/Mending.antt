@@ -71,7 +71,7 @@ abbrev pub IsMendFault : Policy → ShapeValue → List Dimension → Stored →
 IsMendFault policy shape dims content (load_fault.Bad found) = IsMendFinding policy shape dims content found
 IsMendFault policy shape dims content load_fault.Memory = ⊤
 
--- The same beside any facts and rows made of them: the ids of kept rows that are gone, and the batch.
+-- The same beside any facts and rows made of them: the ids of kept rows that are deleted, and the batch.
 abbrev pub gone_beside : List Fact → List KeptRows → List ℕ
 gone_beside facts kept = map rows_id (filter (λ r. not (has_id r.id facts)) kept)
 

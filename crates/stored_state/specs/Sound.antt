@@ -34,12 +34,13 @@ abbrev pub id_before : List KeptFact → ℕ → ℕ
 id_before facts zero = 0
 id_before facts (suc place) = option_map_or fact_id (slice_get facts place) 0
 
--- a fact may not have the id behind one of the id before: ids ascend from 1 on
+-- a fact may not have the id after one of the id before: ids ascend from 1 on
 abbrev pub has_wrong_id : ℕ → KeptFact → Bool
 has_wrong_id before fact = nat_le fact.id before || nat_lt MAX_ID fact.id
 
--- Why a kept fact is refused that stands at a place behind one of the id before: the first of these conditions that holds. Its id is
--- wrong; its nodes are no region of the space; its values are refused, or the size of its region; or there is no room for so many.
+-- Why a kept fact is refused that stands at a place after one of the id before: the first of these conditions that
+-- holds. Its id is wrong; its nodes are no region of the space; its values are refused, or the size of its region; or
+-- there is no room for so many.
 abbrev pub fact_fault : ShapeValue → List Dimension → ℕ → ℕ → KeptFact → Option Code
 fact_fault shape dims place before fact =
     first_refusal

@@ -63,8 +63,8 @@ fn read_all(
     Ok(())
 }
 
-/// Puts the fact that a kept one tells behind the others, where it is not refused. It stands at a place behind the id before, and
-/// there is room for it where there may be so many.
+/// Puts the fact that a kept one tells after the others, where it is not refused. It stands at a place after the id
+/// before, and there is room for it where there may be so many.
 fn read_one(
     space: &Space,
     shape: &Shape,
@@ -85,7 +85,7 @@ fn read_one(
     Ok(())
 }
 
-/// The fact that a kept one tells, which stands at a place behind one of the id before, or why it is refused.
+/// The fact that a kept one tells, which stands at a place after one of the id before, or why it is refused.
 fn judge(
     space: &Space,
     shape: &Shape,
@@ -116,7 +116,7 @@ fn judge(
     })
 }
 
-/// Whether a fact behind one of the id before may not have this id.
+/// Whether a fact after one of the id before may not have this id.
 fn has_wrong_id(before: u64, id: u64) -> bool
     ensures { result ≡ (nat_le id before || nat_lt MAX_ID id) }
 {

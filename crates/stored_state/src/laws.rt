@@ -23,7 +23,7 @@ pub fn one_finding()
 {}
 
 /// Kept facts that were judged by hand. An id of 0, and one that is not above the one before, is refused at its place, also where a
-/// later one is refused too. Of several reasons the first is told.
+/// later one is refused too. The first of several reasons is reported.
 pub fn worked_facts()
     ensures ascending { map (fault_at one_number small_space (facts_of (1 ∷ 2 ∷ 5 ∷ []))) (0 ∷ 1 ∷ 2 ∷ 3 ∷ []) ≡ None ∷ None ∷ None ∷ None ∷ [] }
     ensures zero { IsFinding by_count one_number small_space (content_of (facts_of (0 ∷ 2 ∷ [])) []) (finding.Fact 0 0 code.Id) }
@@ -55,9 +55,9 @@ pub fn mending_makes_sound()
         → IsMendable policy shape dims content → changed_by (mended_batch policy dims content) ≡ 0 → IsSound policy shape dims content }
 {}
 
-/// Batches of mending that were worked out by hand, of two facts on the first cell. Rows that are kept as they must be are left; others
-/// are put, and so are missing ones; rows of no fact are gone, each entry with its id; and where the entries do not ascend, or an id
-/// stands twice, the rows of all facts are put.
+/// Batches of mending that were worked out by hand, of two facts on the first cell. Rows that are kept as they must be
+/// are left. Others are put, and so are missing ones. Rows of no fact are deleted, each entry with its id. Where the
+/// entries do not ascend, or an id stands twice, the rows of all facts are put.
 pub fn worked_mending()
     ensures sound { mended_batch by_count small_space (content_of two_facts (whole_at 1 0 ∷ whole_at 2 0 ∷ [])) ≡ batch_of [] [] }
     ensures cell { mended_batch by_count small_space (content_of two_facts (whole_at 1 0 ∷ whole_at 2 1 ∷ [])) ≡ batch_of [] (whole_at 2 0 ∷ []) }

@@ -38,10 +38,11 @@ pub struct Mending {
     pub rows: u64,
 }
 
-/// What puts the rows of a content over a space and measures right: behind its batch the content is sound. Where the kept entries
-/// ascend by id, each id once, only those are put that are not kept as the facts make them, and else all. What is not sound in the
-/// facts is answered by what is found first, and the only other error is running out of memory; the text of the schema is not looked at. Each
-/// region that facts have is spread once. Each fact is searched for once among the kept entries, and each of these among the facts.
+/// What puts the rows of a content over a space and measures right: after its batch the content is sound. Where the
+/// kept entries ascend by id, each id once, only those are put that are not kept as the facts make them, and else all.
+/// What is not sound in the facts is answered by what is found first. The only other error is running out of memory.
+/// The text of the schema is not looked at. Each region that facts have is spread once. Each fact is searched for once
+/// among the kept entries, and each of these among the facts.
 pub fn mend_rows<P: WeightPolicy + Drop>(
     alloc: Global,
     space: Space,
@@ -101,7 +102,7 @@ fn gone_beside<P: WeightPolicy + Drop>(
     Ok(gone)
 }
 
-/// Puts the id of kept rows behind others, where no fact of a state has it.
+/// Puts the id of kept rows after others, where no fact of a state has it.
 fn put_gone<P: WeightPolicy + Drop>(
     state: &State<P>,
     rows: &KeptRows,
@@ -131,7 +132,7 @@ fn wanting<P: WeightPolicy + Drop>(
     Ok(rows)
 }
 
-/// Puts the rows of a fact of a state behind others, where they are to be put.
+/// Puts the rows of a fact of a state after others, where they are to be put.
 fn put_wanting<P: WeightPolicy + Drop>(
     state: &State<P>,
     fact: &Fact,

@@ -80,7 +80,7 @@ fn compare(place: usize, kept: Option<&KeptRows>, id: u64, spread: &Alloc) -> Re
     Err(difference(place, kept, Some(anew))?)
 }
 
-/// Behind the rows of all facts nothing may be kept.
+/// After the rows of all facts nothing may be kept.
 fn check_end(place: usize, kept: Option<&KeptRows>) -> Result<(), LoadFault>
     ensures same { OnOk result (option_copied kept.entry ≡ None) }
     ensures fault { IfErr result (DiffersAt place (option_copied kept.entry) None) }

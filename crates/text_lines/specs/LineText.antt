@@ -20,7 +20,7 @@ abbrev pub is_blank : List ℕ → Bool
 is_blank [] = true
 is_blank (b ∷ line) = b == 35
 
--- the line is passed over, whatever its length and its bytes
+-- the line is skipped, whatever its length and its bytes
 abbrev pub is_skipped : List ℕ → Bool
 is_skipped line = is_blank (without_cr line)
 
@@ -31,7 +31,7 @@ is_long line = nat_lt MAX_LINE (length line)
 abbrev pub LINE_FRONT : ℕ
 LINE_FRONT = MAX_LINE + 1
 
--- the line is passed over exactly where its first bytes are, and both are long
+-- the line is skipped exactly where its first bytes are, and both are long
 pub record IsAsItsFront (line : List ℕ) : Type 0 where
   pub skipped : is_skipped line ≡ is_skipped (take LINE_FRONT line)
   pub long : is_long line ≡ true

@@ -8,12 +8,12 @@ abbrev pub lines_of : List ℕ → List (List ℕ)
 lines_of [] = []
 lines_of (b ∷ bytes) = if b == 10 then [] ∷ lines_of bytes else onto_first b (lines_of bytes)
 
--- the bytes behind the first line
+-- the bytes after the first line
 abbrev pub after_line : List ℕ → List ℕ
 after_line [] = []
 after_line (b ∷ bytes) = if b == 10 then bytes else after_line bytes
 
--- the bytes behind some lines
+-- the bytes after some lines
 abbrev pub after_lines : ℕ → List ℕ → List ℕ
 after_lines zero bytes = bytes
 after_lines (suc n) bytes = after_lines n (after_line bytes)

@@ -118,7 +118,7 @@ fn is_plain_block(bytes: &[u8], at: usize) -> bool
     others.to_bitmask() == 0
 }
 
-/// At most 16 bytes as a block, behind spaces: a short text then needs no loop over its bytes.
+/// At most 16 bytes as a block, after spaces: a short text then needs no loop over its bytes.
 fn filled(bytes: &[u8]) -> [u8; BLOCK]
     requires { length bytes.now ≤ 16 }
     ensures { result ≡ replicate (16 - length bytes.now) 32 ++ bytes.now }

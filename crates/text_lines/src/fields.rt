@@ -23,7 +23,7 @@ pub trait Fields<'a> {
 #[derive(Drop)]
 pub struct FieldWalk<'a> {
     line: &'a str,
-    // Where the next field begins: None behind the last.
+    // Where the next field begins: None after the last.
     next: Option<usize>,
 }
 
@@ -63,7 +63,7 @@ impl<'a> Fields<'a> for FieldWalk<'a> {
     }
 }
 
-/// Where the field begins behind one that ends at this place: None where the line ends too.
+/// Where the field begins after one that ends at this place: None where the line ends too.
 fn next_behind(line: &str, end: usize) -> Option<usize>
     ensures { result ≡ if nat_lt end (length line.now) then Some (end + 1) else None }
 {

@@ -10,7 +10,7 @@ pub fn one_spelling()
         (number_in least most bytes ≡ Some n) ↔ (bytes ≡ decimal n) }
 {}
 
-/// Of a line of more than 4,097 bytes the first 4,097 tell whether it is passed over, and that it is long.
+/// The first 4,097 bytes of a line that has more tell whether it is skipped, and that it is long.
 pub fn long_line_is_as_its_front()
     ensures { (line : List ℕ) → LINE_FRONT < length line → IsAsItsFront line }
 {}

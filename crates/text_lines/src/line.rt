@@ -20,7 +20,7 @@ pub fn without_cr(line: &[u8]) -> &[u8]
     }
 }
 
-/// Whether a line is passed over, whatever its length and its other bytes: but for a final CR it is empty, or it begins
+/// Whether a line is skipped, whatever its length and its other bytes: but for a final CR it is empty, or it begins
 /// with `#`.
 pub fn is_skipped(line: &[u8]) -> bool
     ensures { result ≡ is_skipped line.now }

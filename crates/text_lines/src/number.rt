@@ -28,7 +28,7 @@ fn digits_value(bytes: &[u8]) -> Option<u64>
     Some(value)
 }
 
-/// The value with one more digit behind: None exactly where the byte is none or the value does not fit.
+/// The value with one more digit at its end: None exactly where the byte is none or the value does not fit.
 fn with_digit(value: u64, byte: u8) -> Option<u64>
     ensures { result ≡ (if is_digit byte && nat_lt (value * 10 + (byte - 48)) (2 ^ 64) then Some (value * 10 + (byte - 48)) else None) }
 {

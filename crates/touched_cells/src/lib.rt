@@ -1,4 +1,4 @@
-//! The cells on which facts lie that an edit takes away and gives, and what it changes of their statistics.
+//! The cells on which the old fact and the new fact of an edit lie, and what it changes of their statistics.
 #![tactic(auto)]
 
 mod touched;

@@ -18,8 +18,8 @@ use Rattle.view_store.specs.Views.{IsEntry, ViewMap, ViewMaps, entry_at, is_in_v
 abbrev pub fact_with : ViewChange → List ℤ → ExtendedFact
 fact_with change values = record { id = 0; values = values; allocation = record { den = change.den; rows = change.rows } }
 
--- The facts that a change puts or takes away: as many as it says, with its rows. Of their values no more is told than the sums,
--- so the first of them has these, and the others have 0 in every column.
+-- The facts that a change puts or takes away: as many as it says, with its rows. Only the sums of their values are
+-- given, so the first of them has these, and the others have 0 in every column.
 abbrev pub facts_of : ViewChange → List ExtendedFact
 facts_of change = fact_with change change.cols ∷ replicate (change.facts - 1) (fact_with change (replicate (length change.cols) (pos 0)))
 

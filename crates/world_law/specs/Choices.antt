@@ -44,7 +44,7 @@ pub record IsLight (choices : List Choice) : Type 0 where
   pub some : 1 ≤ whole choices
   pub most : whole choices ≤ MAX_MASS
 
--- all choices come to what these come to where some facts stand already, with a weight and a sum
+-- all choices result in what these result in where some facts stand already, with a weight and a sum
 pub record Settles (all : List Choice) (weight : ℕ) (sum : ℤ) (left : List Choice) : Type 0 where
   pub worlds : ways all ≡ ways left
   pub mass : whole all ≡ whole left * weight

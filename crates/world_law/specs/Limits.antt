@@ -5,6 +5,6 @@ use Rattle.std.specs.Prelude.{ℕ, ◌^◌}
 abbrev pub MAX_WORLDS : ℕ
 MAX_WORLDS = 65536
 
--- the most that their weights may come to
+-- the most that their weights may add up to
 abbrev pub MAX_MASS : ℕ
 MAX_MASS = 2 ^ 60

@@ -54,7 +54,8 @@ row_counts placed = map (λ p. length p.rows) placed
 abbrev pub dens : List Placed → List ℕ
 dens placed = map (λ p. p.den) placed
 
--- why worlds are not listed: there are too many, as the product of the first numbers of rows shows; or their weights come to too much
+-- why worlds are not listed: there are too many, as the product of the first numbers of rows shows; or their weights
+-- add up to too much
 abbrev pub fault_of : List Placed → Option WorldFault
 fault_of placed =
     option_map_or (λ product. Some (world_fault.Many product)) (product_above MAX_WORLDS 1 (row_counts placed))

@@ -10,7 +10,7 @@ use crate::{Placed, WorldFault};
 /// The most worlds that are listed.
 pub const MAX_WORLDS: u64 = 65_536;
 
-/// The most that the weights of all worlds may come to.
+/// The most that the weights of all worlds may add up to.
 pub const MAX_MASS: u64 = 1 << 60;
 
 /// Why the worlds of these facts are not listed, if they are not.

@@ -58,10 +58,10 @@ pub fn ids_do_not_matter()
         → total dims region column (facts_of (map placed_of facts)) ≡ total dims region column facts }
 {}
 
-/// Worlds that were listed by hand. Of four facts one may stand in either of two cells: the world in which it stands
-/// beside the first two has weight 2, and there they are three with 1000 together; the other has weight 1, and there they
-/// are two with 400. The answer there, two over 1 and two over 3, stands for the same totals. Sixteen facts of two rows have
-/// no more worlds than are listed, and a seventeenth makes them too many.
+/// Worlds that were listed by hand. One of four facts may stand in either of two cells. The world in which it stands
+/// beside the first two has weight 2, and there they are three with 1000 together. The other has weight 1, and there
+/// they are two with 400. The answer there, two over 1 and two over 3, stands for the same totals. Sixteen facts of two
+/// rows have no more worlds than are listed, and a seventeenth makes them too many.
 pub fn worked_worlds()
     ensures none { worlds [] ≡ record { weight = 1; standing = [] } ∷ [] }
     ensures count { world_count four_spread ≡ 2 }
@@ -81,8 +81,8 @@ pub fn worked_worlds()
 
 /// The nine worlds of two facts over three cells each, listed by hand: 100 stands in cell 12, 13 or 16 with weight 1, 2 or 3,
 /// and 300 in the same cells with weight 2, 1 or 1. A region has cells 12 and 16 alone, where the first has weight 4 of 6 and
-/// the second 3 of 4. So over all worlds, each taken as often as it weighs, 24 together, its count comes to 34 and its sum to
-/// 7000, and the answer there stands for the same totals.
+/// the second 3 of 4. So over all worlds, each taken as often as it weighs, 24 together, its count is 34 and its sum is
+/// 7000. The answer there stands for the same totals.
 pub fn worked_worlds_of_three_cells()
     ensures listed { worlds two_over_three
         ≡ world_of_two 2 12 12 ∷ world_of_two 1 12 13 ∷ world_of_two 1 12 16

@@ -15,7 +15,7 @@ use cube_model::Region;
 use region_algebra::Space;
 use std::alloc::Global;
 
-/// What the worlds come to for one column. The facts of one row are passed once, and not in every world.
+/// What the worlds add up to for one column. The facts of one row are passed once, and not in every world.
 pub fn walk_column(
     alloc: Global,
     placed: &[Placed],
@@ -45,7 +45,7 @@ pub fn walk_column(
     ))
 }
 
-/// What the facts of one row come to, and the choices of the others.
+/// What the facts of one row add up to, and the choices of the others.
 #[derive(Drop)]
 struct Settled {
     /// The product of the weights of the facts of one row.

@@ -15,7 +15,7 @@ use cube_model::Region;
 use region_algebra::Space;
 use std::alloc::Global;
 
-/// What all worlds of some facts come to, in a region.
+/// What all worlds of some facts add up to, in a region.
 #[derive(Debug, Drop)]
 pub struct WorldSum {
     /// The number of worlds.
@@ -33,7 +33,7 @@ pub enum WorldFault {
     /// There are more than [`crate::MAX_WORLDS`]: the product of the first numbers of rows, up to the one with which it is
     /// above that.
     Many { product: u64 },
-    /// Their weights come to more than [`crate::MAX_MASS`].
+    /// Their weights add up to more than [`crate::MAX_MASS`].
     Wide,
     /// Out of memory.
     Memory,
@@ -55,7 +55,7 @@ impl From<Memory> for WorldFault {
 ///
 /// `Many` is answered exactly where there are more than 65,536 worlds, with the first product of the numbers of rows, in the
 /// order of the facts, that shows it. Else `Wide` is answered exactly where the product of the denominators, which is what
-/// the weights come to, is above 2^60. Running out of memory is the only other error.
+/// the weights add up to, is above 2^60. Running out of memory is the only other error.
 ///
 /// It goes through the worlds one by one for each column, and keeps none of them: it takes memory for the rows of the facts
 /// with several.
