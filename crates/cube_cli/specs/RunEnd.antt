@@ -1,6 +1,6 @@
 -- The end of a run of the program by that of its script, by whether a text was written, or by why an input or its head is not taken, a
--- store not opened or a file not imported.
-use Rattle.std.specs.Prelude.{ℕ, Result, Ok, Err}
+-- store not opened or a file not imported; and the ends of a run that has no words.
+use Rattle.std.specs.Prelude.{◌≡◌, ℕ, Result, Ok, Err, ⊤}
 use Rattle.cube_base.specs.declared.fault.SinkError.{SinkError}
 use Rattle.cube_base.specs.declared.fault.SinkError.TheVariants as sink_error
 use Rattle.cube_core.specs.declared.fault.ImportFault.{ImportFault}
@@ -27,7 +27,7 @@ use Rattle.line_cutter.specs.declared.input.InputStop.TheVariants as input_stop
 use Rattle.stored_state.specs.declared.finding.Finding.TheVariants as finding
 use Rattle.stored_state.specs.declared.finding.LoadFault.{LoadFault}
 use Rattle.stored_state.specs.declared.finding.LoadFault.TheVariants as load_fault
-use Rattle.cube_cli.specs.declared.end.End.TheVariants.{BadFeed, BadRecord, BadStore, Base, Differs, Finished, ImportRows, Order, ReadFault, TooLong, WriteFault, KeepFault, Memory, NoCube, Schema}
+use Rattle.cube_cli.specs.declared.end.End.TheVariants.{BadFeed, BadRecord, BadStore, Base, Differs, Finished, ImportRows, Order, ReadFault, TooLong, WriteFault, KeepFault, Memory, NoCube, Schema, Usage}
 
 -- the end where a script broke off
 abbrev pub end_of_break_off : BreakOff → End
@@ -110,3 +110,9 @@ end_of_import (import_fault.BadRecord bad) = BadRecord bad
 end_of_import (import_fault.Rows would) = ImportRows would
 end_of_import import_fault.KeepFault = KeepFault 0
 end_of_import import_fault.Memory = Memory 0
+
+-- an end of a run for which the words of the command line were not to be had
+abbrev pub EndsWithoutWords : End → Type 0
+EndsWithoutWords Usage = ⊤
+EndsWithoutWords (Memory done) = done ≡ 0
+EndsWithoutWords end = ⊥

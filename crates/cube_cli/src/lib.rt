@@ -19,6 +19,7 @@ mod schema_lines;
 mod store;
 mod telling;
 mod trying;
+mod words;
 
 pub use command::{Command, StoreCommand, cube};
 pub use end::{End, ErrorLine};
@@ -29,3 +30,4 @@ pub use laws::{
 pub use schema_alone::read_schema_alone;
 pub use store::InputTask;
 pub use telling::Telling;
+pub use words::words_of;
