@@ -13,7 +13,7 @@ use Rattle.cube_model.specs.Tree.{Dimension}
 use Rattle.cube_model.specs.declared.statistic.CellStat.{CellStat}
 use Rattle.cube_model.proofs.Ascending.{ascends_filter, ascends_later}
 use Rattle.alloc_rows.specs.Changed.{AreChangesAt, Change, stat_after}
-use Rattle.alloc_rows.specs.Rows.{row_of, with_row}
+use Rattle.alloc_rows.specs.Rows.{cell_row, with_row}
 use Rattle.alloc_rows.proofs.Ascending.{rows_of-ascend}
 use Rattle.alloc_rows.proofs.RowPlaces.{key}
 use Rattle.alloc_rows.proofs.Stepped.{Stepped, Stepped-all, Stepped-next, no_change, weight_after}
@@ -47,11 +47,11 @@ module _ (passed cell : ℕ) (less : passed < cell) where
       }
 
   -- and so is the row of that cell
-  ArePassed-row : (weight : ℕ) → ArePassed cell (row_of passed weight)
+  ArePassed-row : (weight : ℕ) → ArePassed cell (cell_row passed weight)
   ArePassed-row weight = record { smaller = grind (arith, nat_tests, less); not_greater = grind (arith, nat_tests, less) }
 
 -- behind passed rows a row is put into the rest
-with_row-passed : (cell weight : ℕ) (rows rest : List (ℕ × ℕ)) → ArePassed cell rows → (rows ++ (below cell rest ++ row_of cell weight)) ++ above cell rest ≡ with_row (rows ++ rest) cell weight
+with_row-passed : (cell weight : ℕ) (rows rest : List (ℕ × ℕ)) → ArePassed cell rows → (rows ++ (below cell rest ++ cell_row cell weight)) ++ above cell rest ≡ with_row (rows ++ rest) cell weight
 with_row-passed cell weight rows rest passed =
     rw (filter-append (λ (row : ℕ × ℕ). nat_lt row.0 cell) rows rest, filter-append (λ (row : ℕ × ℕ). nat_lt cell row.0) rows rest, passed.smaller, passed.not_greater)
     (simp append_assoc refl)
@@ -75,7 +75,7 @@ Passing-start weigh stats dims region changes total rows rest none stepped = rec
 pub Passing-next : (weigh : CellStat → ℕ) (stats : ℕ → CellStat) (dims : List Dimension) (region : List ℕ) (changes : List Change) (i total : ℕ) (rows rest : List (ℕ × ℕ))
     → AreChangesAt (cells_of dims region) stats changes → i < length changes → Passing weigh stats (cells_of dims region) changes i total rows rest
     → (before after next : ℕ) (put left : List (ℕ × ℕ)) → before ≡ weigh (get_or changes i no_change).1 → after ≡ weigh (get_or changes i no_change).2 → after < DEN_LIMIT → next ≡ total - before + after
-    → put ≡ rows ++ (below (get_or changes i no_change).0 rest ++ row_of (get_or changes i no_change).0 after) → left ≡ above (get_or changes i no_change).0 rest
+    → put ≡ rows ++ (below (get_or changes i no_change).0 rest ++ cell_row (get_or changes i no_change).0 after) → left ≡ above (get_or changes i no_change).0 rest
     → Passing weigh stats (cells_of dims region) changes (i + 1) next put left
 Passing-next weigh stats dims region changes i total rows rest are within so before after next put left was is small sum puts lefts =
     let cell = (get_or changes i no_change).0 in
@@ -86,8 +86,8 @@ Passing-next weigh stats dims region changes i total rows rest are within so bef
       passed = λ k from to.
           let later = (get_or changes k no_change).0 in
           let less : cell < later = ascends_later (λ (change : Change). change.0) 0 changes are.ascending i k no_change no_change (omega arith) to in
-          rw puts (ArePassed-append later rows (below cell rest ++ row_of cell after) (so.passed k (omega arith) to)
-          (ArePassed-append later (below cell rest) (row_of cell after) (ArePassed-below cell later less rest) (ArePassed-row cell later less after)));
+          rw puts (ArePassed-append later rows (below cell rest ++ cell_row cell after) (so.passed k (omega arith) to)
+          (ArePassed-append later (below cell rest) (cell_row cell after) (ArePassed-below cell later less rest) (ArePassed-row cell later less after)));
     }
 
 -- after all of them the rest is the last part

@@ -23,14 +23,14 @@ abbrev pub AreStatsIn : Policy → List Dimension → List Fact → (ℕ → Cel
 AreStatsIn policy dims facts stats cells = All (λ cell. stats cell ≡ stat_of policy dims facts cell) cells
 
 -- what is kept for each of these cells is what the facts make it
-abbrev pub AreStatsOf : Policy → List Dimension → List Fact → Places CellStat → List ℕ → Type 0
-AreStatsOf policy dims facts places cells = AreStatsIn policy dims facts (stat_at places) cells
+abbrev pub AreStatsAtCells : Policy → List Dimension → List Fact → Places CellStat → List ℕ → Type 0
+AreStatsAtCells policy dims facts places cells = AreStatsIn policy dims facts (stat_at places) cells
 
 -- The allocation is the one of a fact among any facts of which the statistics at the cells of its region are, whatever it is that a policy adds up.
 abbrev pub IsAllocationOf : (CellStat → ℕ) → List Dimension → Places CellStat → Fact → Allocation → Type 0
 IsAllocationOf weigh dims places fact a =
     (adds : List ℤ → ℕ) (facts : List Fact)
-    → AreStatsOf (record { weigh = weigh; adds = adds }) dims facts places (cells_of dims fact.region)
+    → AreStatsAtCells (record { weigh = weigh; adds = adds }) dims facts places (cells_of dims fact.region)
     → a ≡ allocation (record { weigh = weigh; adds = adds }) dims facts fact
 
 -- The same of a region: the allocation is the one of every fact there, among any facts of which these statistics are.

@@ -10,8 +10,8 @@ abbrev node : ℕ → ℕ → Entry
 node depth number = record { depth = depth; name = []; number = number }
 
 -- a root with two nodes, of three leaves and of two
-abbrev pub places : Dimension
-places = node 0 0 ∷ node 1 1 ∷ node 2 2 ∷ node 2 3 ∷ node 2 4 ∷ node 1 5 ∷ node 2 6 ∷ node 2 7 ∷ []
+abbrev pub five_places : Dimension
+five_places = node 0 0 ∷ node 1 1 ∷ node 2 2 ∷ node 2 3 ∷ node 2 4 ∷ node 1 5 ∷ node 2 6 ∷ node 2 7 ∷ []
 
 -- a root with two nodes, of two leaves each
 abbrev pub wares : Dimension
@@ -19,7 +19,7 @@ wares = node 0 0 ∷ node 1 1 ∷ node 2 2 ∷ node 2 3 ∷ node 1 4 ∷ node 2 
 
 -- of both: a cell's code is four times the place of the leaf of the first, and the place of that of the second
 abbrev pub two_dims : List Dimension
-two_dims = places ∷ wares ∷ []
+two_dims = five_places ∷ wares ∷ []
 
 -- a root with two nodes, of one leaf and of two
 abbrev pub one_dim : List Dimension

@@ -3,12 +3,12 @@ use Rattle.std.specs.Prelude.{ℕ, List, [], ◌∷◌, ◌++◌, filter, nat_lt
 use Rattle.cube_model.specs.Allocation.{Allocation}
 
 -- the row of a cell, if it weighs something
-abbrev pub row_of : ℕ → ℕ → List (ℕ × ℕ)
-row_of cell weight = if weight == 0 then [] else (cell, weight) ∷ []
+abbrev pub cell_row : ℕ → ℕ → List (ℕ × ℕ)
+cell_row cell weight = if weight == 0 then [] else (cell, weight) ∷ []
 
 -- the rows of smaller cells, then that of the cell, then those of greater cells
 abbrev pub with_row : List (ℕ × ℕ) → ℕ → ℕ → List (ℕ × ℕ)
-with_row rows cell weight = filter (λ row. nat_lt row.0 cell) rows ++ (row_of cell weight ++ filter (λ row. nat_lt cell row.0) rows)
+with_row rows cell weight = filter (λ row. nat_lt row.0 cell) rows ++ (cell_row cell weight ++ filter (λ row. nat_lt cell row.0) rows)
 
 -- what the cell of the first row weighs
 abbrev pub first_weight : (ℕ → ℕ) → List (ℕ × ℕ) → ℕ

@@ -9,7 +9,7 @@ ghost use Rattle.cell_weight.specs.Stats.{AreStats, stat_at};
 ghost use Rattle.region_algebra.specs.Space.{IsRegion};
 ghost use Rattle.alloc_rows.specs.Alloc.{AreFewAt, AreFewIn, IsSpreadOf};
 ghost use Rattle.alloc_rows.specs.Changed.{AreChangesAt, stat_after};
-ghost use Rattle.alloc_rows.specs.Rows.{first_weight, row_of, weighted_part};
+ghost use Rattle.alloc_rows.specs.Rows.{cell_row, first_weight, weighted_part};
 
 use crate::Alloc;
 use crate::spread::settle;
@@ -99,7 +99,7 @@ fn pass_cell<'a>(
     weight: u64,
 ) -> Result<&'a [(u64, u64)], Memory>
     requires { ascends_from (λ row. row.0) 0 rest.now ≡ true }
-    ensures passed { OnOk result (rows.new.items ≡ rows.old.items ++ (filter (λ row. nat_lt row.0 cell) rest.now ++ row_of cell weight)) }
+    ensures passed { OnOk result (rows.new.items ≡ rows.old.items ++ (filter (λ row. nat_lt row.0 cell) rest.now ++ cell_row cell weight)) }
     ensures left { IfOk result (λ left. left.now ≡ filter (λ row. nat_lt cell row.0) rest.now) }
 {
     let (smaller, greater) = part_at(rest, cell);

@@ -13,7 +13,7 @@ use Rattle.std.specs.Option.{IfSome, option_or, option_map_or}
 use Rattle.cube_model.specs.declared.statistic.CellStat.{CellStat}
 use Rattle.staged_map.specs.Staged.{Places, Reserves, ReservesSome, has_place}
 use Rattle.staged_map.proofs.Changes.{Reserves-next}
-use Rattle.cell_weight.specs.Stats.{AreOfDifferentCells, AreStats, Installs, IsStat, change_of, has_facts, have_places, stat_at}
+use Rattle.cell_weight.specs.Stats.{AreOfDifferentCells, AreStats, Installs, IsStat, change_of, has_facts, have_stat_places, stat_at}
 
 -- the changes before this one are installed, and the others have places
 pub record Installing (old new : Places CellStat) (changes : List (ℕ × CellStat)) (i : ℕ) : Type 0 where
@@ -25,11 +25,11 @@ keys_of-at : (changes : List (ℕ × CellStat)) (i : ℕ) (d : ℕ × CellStat) 
 keys_of-at changes i d within = get_or-map (λ (change : ℕ × CellStat). change.0) changes i d 0 within
 
 -- where all keys got places, each changed cell has one
-have_places-from : (places : Places CellStat) (changes : List (ℕ × CellStat)) → ((cell : ℕ) → list_any (eqb cell) (keys_of changes) ≡ true → has_place places cell ≡ true) → have_places places changes ≡ true
-have_places-from places [] has = refl
-have_places-from places (change ∷ changes) has =
+have_stat_places-from : (places : Places CellStat) (changes : List (ℕ × CellStat)) → ((cell : ℕ) → list_any (eqb cell) (keys_of changes) ≡ true → has_place places cell ≡ true) → have_stat_places places changes ≡ true
+have_stat_places-from places [] has = refl
+have_stat_places-from places (change ∷ changes) has =
     let first : has_place places change.0 ≡ true = has change.0 (grind (arith, common_steps, nat_tests)) in
-    let rest : have_places places changes ≡ true = have_places-from places changes (λ cell among. has cell (grind (arith, common_steps, among))) in
+    let rest : have_stat_places places changes ≡ true = have_stat_places-from places changes (λ cell among. has cell (grind (arith, common_steps, among))) in
     grind (arith, first, rest)
 
 -- what is looked up among changes and one more
@@ -102,10 +102,10 @@ module _ (old between new : Places CellStat) (changes : List (ℕ × CellStat)) 
       among k part_has = grind (arith, common_steps, part_has, before.places k, whole k, here)
 
 -- all changed cells have places
-pub have_places-reserved : (old new : Places CellStat) (changes : List (ℕ × CellStat)) (i : ℕ) → length changes ≤ i → Reserves old new (take i (keys_of changes)) → have_places new changes ≡ true
-have_places-reserved old new changes i end part =
+pub have_stat_places-reserved : (old new : Places CellStat) (changes : List (ℕ × CellStat)) (i : ℕ) → length changes ≤ i → Reserves old new (take i (keys_of changes)) → have_stat_places new changes ≡ true
+have_stat_places-reserved old new changes i end part =
     let all : take i (keys_of changes) ≡ keys_of changes = take_all i (keys_of changes) (omega (arith, length-keys_of changes)) in
-    have_places-from new changes (λ cell among. grind (arith, common_steps, part.places cell, among, all))
+    have_stat_places-from new changes (λ cell among. grind (arith, common_steps, part.places cell, among, all))
 
 IsStat-either : (change : Option CellStat) (stat : CellStat) → IsStat stat → IfSome change IsStat → IsStat (unwrap_or change stat)
 IsStat-either None stat is change_is = is

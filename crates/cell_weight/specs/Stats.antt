@@ -37,8 +37,8 @@ abbrev pub AreOfDifferentCells : List (ℕ × CellStat) → Type 0
 AreOfDifferentCells changes = IsDistinct nat_eq (keys_of changes)
 
 -- each changed cell has a place
-abbrev pub have_places : Places CellStat → List (ℕ × CellStat) → Bool
-have_places places changes = list_all (λ change. has_place places change.0) changes
+abbrev pub have_stat_places : Places CellStat → List (ℕ × CellStat) → Bool
+have_stat_places places changes = list_all (λ change. has_place places change.0) changes
 
 -- Each changed cell has its new statistics, and every other what it had. A changed cell has a place exactly where its
 -- new statistics are not zeros.

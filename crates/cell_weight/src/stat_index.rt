@@ -2,7 +2,7 @@
 ghost use Rattle.std.specs.Prelude.{◌≡◌, [], ◌∷◌, All, OnErr, OnOk, true};
 ghost use Rattle.std.specs.Map.{keys_of};
 ghost use Rattle.staged_map.specs.Staged.{Reserves, ReservesSome, has_place};
-ghost use Rattle.cell_weight.specs.Stats.{AreOfDifferentCells, AreStats, Installs, IsStat, has_facts, have_places, stat_at};
+ghost use Rattle.cell_weight.specs.Stats.{AreOfDifferentCells, AreStats, Installs, IsStat, has_facts, have_stat_places, stat_at};
 
 use cube_base::Memory;
 use cube_model::CellStat;
@@ -55,7 +55,7 @@ impl StatIndex {
     /// changed cells may have got a place.
     pub fn stage(&mut self, changes: &[(u64, CellStat)]) -> Result<(), Memory>
         ensures ok { OnOk result (Reserves self.old self.new (keys_of changes.now)) }
-        ensures ready { OnOk result (have_places self.new changes.now ≡ true) }
+        ensures ready { OnOk result (have_stat_places self.new changes.now ≡ true) }
         ensures err { OnErr result (ReservesSome self.old self.new (keys_of changes.now)) }
     {
         for (cell, _) in changes {
@@ -68,7 +68,7 @@ impl StatIndex {
     /// and have places, as `stage` gives them. Where the new statistics are zeros, the place goes too. It takes no memory.
     pub fn install(&mut self, changes: &[(u64, CellStat)])
         requires distinct { AreOfDifferentCells changes.now }
-        requires places { have_places self.old changes.now ≡ true }
+        requires places { have_stat_places self.old changes.now ≡ true }
         requires possible { All (λ change. IsStat change.1) changes.now }
         ensures { Installs self.old self.new changes.now }
     {

@@ -15,12 +15,12 @@ use Rattle.fact_fields.specs.FactRow.{value_fields}
 use Rattle.csv.specs.Records.{Row, fields_of}
 use Rattle.csv.specs.Writing.{default_writer, row_text}
 use Rattle.csv_facts.specs.ExtendedRow.{extended_text, part_text, row_record, rows_header, text_before}
-use Rattle.csv_facts.specs.RecordList.{IsLonger, IsRow, records_text}
-use Rattle.csv_facts.proofs.FieldsLeft.{IsRow-longer}
+use Rattle.csv_facts.specs.RecordList.{IsLonger, IsRecordRow, records_text}
+use Rattle.csv_facts.proofs.FieldsLeft.{IsRecordRow-longer}
 
 -- the front, the weight, the denominator and the values are the record of a row
 pub row_record-is : (schema : SchemaValue) (fact : ExtendedFact) (cell weight : ℕ) (leaves : List ℕ) (first second third last : Row) → slice_get (all_cells schema.dims) cell ≡ Some leaves
-    → IsRow (decimal fact.id ∷ names_of schema.dims leaves) first → IsLonger first (decimal weight ∷ []) second → IsLonger second (decimal fact.allocation.den ∷ []) third
+    → IsRecordRow (decimal fact.id ∷ names_of schema.dims leaves) first → IsLonger first (decimal weight ∷ []) second → IsLonger second (decimal fact.allocation.den ∷ []) third
     → IsLonger third (value_fields schema.measures fact.values) last → fields_of last ≡ row_record schema fact (cell, weight)
 row_record-is schema fact cell weight leaves first second third last at front weighed over valued =
     let id = decimal fact.id in
@@ -28,9 +28,9 @@ row_record-is schema fact cell weight leaves first second third last at front we
     let weight_field = decimal weight ∷ [] in
     let den_field = decimal fact.allocation.den ∷ [] in
     let values = value_fields schema.measures fact.values in
-    let two = IsRow-longer first second (id ∷ names) weight_field front weighed in
-    let three = IsRow-longer second third ((id ∷ names) ++ weight_field) den_field two over in
-    (IsRow-longer third last (((id ∷ names) ++ weight_field) ++ den_field) values three valued).fields_are
+    let two = IsRecordRow-longer first second (id ∷ names) weight_field front weighed in
+    let three = IsRecordRow-longer second third ((id ∷ names) ++ weight_field) den_field two over in
+    (IsRecordRow-longer third last (((id ∷ names) ++ weight_field) ++ den_field) values three valued).fields_are
     ∙ append_assoc ((id ∷ names) ++ weight_field) den_field values
     ∙ append_assoc (id ∷ names) weight_field (den_field ++ values)
     ∙ ap (λ found. id ∷ option_map_or (names_of schema.dims) found [] ++ (weight_field ++ (den_field ++ values))) (sym at)

@@ -17,7 +17,7 @@ use Rattle.fact_records.specs.Shape.{ShapeValue}
 use Rattle.fact_records.specs.Valid.{IsFactOf}
 use Rattle.schema_text.specs.Schema.{SchemaValue, shape_of}
 use Rattle.fact_sequence.specs.declared.fact_seq.FactSeq.{FactSeq}
-use Rattle.csv_facts.specs.FactFile.{behind, facts_from, facts_in, facts_with, header_of, is_header, record_given}
+use Rattle.csv_facts.specs.FactFile.{facts_from, facts_in, header_of, is_header, record_given, seq_behind, seq_with}
 
 -- a record has as many fields as there are columns
 length-header_of : (schema : SchemaValue) → length (header_of schema) ≡ 1 + length schema.names + length schema.measures
@@ -64,7 +64,7 @@ given-text schema row taken text left dims shape many same_row same_text all sam
 
 -- Some facts were read, and records are left.
 pub record IsReading (schema : SchemaValue) (all : List (List (List ℕ))) (facts : List Fact) (left : List (List (List ℕ))) : Type 0 where
-  pub same : facts_from schema 1 all ≡ behind facts (facts_from schema (length facts + 1) left)
+  pub same : facts_from schema 1 all ≡ seq_behind facts (facts_from schema (length facts + 1) left)
   pub within : All (IsFactOf (shape_of schema) schema.dims) facts
 
 pub IsReading-start : (schema : SchemaValue) (all : List (List (List ℕ))) (facts : List Fact) → facts ≡ [] → IsReading schema all facts all
@@ -76,22 +76,22 @@ IsReading-next schema all facts more left row others fact reading first given wi
     let many : length (facts ++ fact ∷ []) ≡ length facts + 1 = omega (arith, length-append facts (fact ∷ [])) in
     rw same (record {
       same =
-          reading.same ∙ ap (λ l. behind facts (facts_from schema (length facts + 1) l)) first
-          ∙ ap (λ r. behind facts (facts_with (length facts + 1) r (facts_from schema (length facts + 1 + 1) others))) (sym given)
-          ∙ ap (λ n. behind facts (behind (fact ∷ []) (facts_from schema (n + 1) others))) (sym many)
+          reading.same ∙ ap (λ l. seq_behind facts (facts_from schema (length facts + 1) l)) first
+          ∙ ap (λ r. seq_behind facts (seq_with (length facts + 1) r (facts_from schema (length facts + 1 + 1) others))) (sym given)
+          ∙ ap (λ n. seq_behind facts (seq_behind (fact ∷ []) (facts_from schema (n + 1) others))) (sym many)
           ∙ grouped facts (fact ∷ []) (facts_from schema (length (facts ++ fact ∷ []) + 1) others);
       within = All-append (IsFactOf (shape_of schema) schema.dims) facts (fact ∷ []) reading.within (All-cons (IsFactOf (shape_of schema) schema.dims) fact [] within (All-nil (IsFactOf (shape_of schema) schema.dims)));
     })
   where
-    grouped : (a b : List Fact) (seq : FactSeq) → behind a (behind b seq) ≡ behind (a ++ b) seq
+    grouped : (a b : List Fact) (seq : FactSeq) → seq_behind a (seq_behind b seq) ≡ seq_behind (a ++ b) seq
     grouped a b seq = rw (append_assoc a b seq.facts) refl
 
 -- no record is left
 pub IsReading-end : (schema : SchemaValue) (all : List (List (List ℕ))) (facts : List Fact) (left : List (List (List ℕ))) → IsReading schema all facts left → left ≡ []
     → facts_from schema 1 all ≡ record { facts = facts; bad = None }
 IsReading-end schema all facts left reading none =
-    let last : behind facts (facts_from schema (length facts + 1) []) ≡ record { facts = facts; bad = None } = rw (append-nil facts) refl in
-    reading.same ∙ ap (λ l. behind facts (facts_from schema (length facts + 1) l)) none ∙ last
+    let last : seq_behind facts (facts_from schema (length facts + 1) []) ≡ record { facts = facts; bad = None } = rw (append-nil facts) refl in
+    reading.same ∙ ap (λ l. seq_behind facts (facts_from schema (length facts + 1) l)) none ∙ last
 
 -- a file whose first record is the header, another, or none
 pub facts_in-header : (schema : SchemaValue) (all : List (List (List ℕ))) (first : List (List ℕ)) (left : List (List (List ℕ))) → all ≡ first ∷ left → is_header schema first ≡ true → facts_in schema all ≡ facts_from schema 1 left

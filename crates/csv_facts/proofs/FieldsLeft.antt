@@ -4,7 +4,7 @@ use Rattle.std.specs.Prelude.{IsSome, option_map}
 use Rattle.std.proofs.lemmas.List.{append-nil, append_assoc, length-drop}
 use Rattle.csv.specs.Records.{Row, field_at, fields_of, partial_of}
 use Rattle.csv.proofs.RecordFacts.{field-get, field-there}
-use Rattle.csv_facts.specs.RecordList.{IsLonger, IsRow}
+use Rattle.csv_facts.specs.RecordList.{IsLonger, IsRecordRow}
 
 -- a field that is there
 pub field-some : (fields : List (List ℕ)) (i : ℕ) (found : Option (Bor (List ℕ))) → option_map (λ f. f.now) found ≡ field_at fields i → i < length fields → IsSome found
@@ -34,11 +34,11 @@ IsLonger-more before row after fields more field name longer added whole is same
     subst (λ l. IsLonger before l after) (sym same) (IsLonger-next before row after fields name longer (added ∙ ap (λ f. fields_of row ++ ((partial_of row ++ f) ∷ [])) is) whole)
 
 -- a row of fields, and those behind them
-pub IsRow-none : (row : Row) → fields_of row ≡ [] → partial_of row ≡ [] → IsRow [] row
-IsRow-none row none whole = record { fields_are = none; whole = whole }
+pub IsRecordRow-none : (row : Row) → fields_of row ≡ [] → partial_of row ≡ [] → IsRecordRow [] row
+IsRecordRow-none row none whole = record { fields_are = none; whole = whole }
 
-pub IsRow-longer : (row after : Row) (fields more : List (List ℕ)) → IsRow fields row → IsLonger row more after → IsRow (fields ++ more) after
-IsRow-longer row after fields more is longer = record { fields_are = longer.fields_are ∙ ap (λ l. l ++ more) is.fields_are; whole = longer.whole }
+pub IsRecordRow-longer : (row after : Row) (fields more : List (List ℕ)) → IsRecordRow fields row → IsLonger row more after → IsRecordRow (fields ++ more) after
+IsRecordRow-longer row after fields more is longer = record { fields_are = longer.fields_are ∙ ap (λ l. l ++ more) is.fields_are; whole = longer.whole }
 
 -- one field alone behind those of a row
 pub IsLonger-one : (row after : Row) (field name : List ℕ) → partial_of row ≡ [] → fields_of after ≡ fields_of row ++ ((partial_of row ++ field) ∷ []) → partial_of after ≡ [] → field ≡ name

@@ -20,8 +20,8 @@ abbrev pub in_one_cell : ExtendedFact
 in_one_cell = record { id = 12; values = pos 100 ∷ pos 0 ∷ negsuc 6 ∷ []; allocation = record { den = 1; rows = (7, 1) ∷ [] } }
 
 -- lines, each ended by LF
-abbrev pub text_of : List (List ℕ) → List ℕ
-text_of lines = flat_map (λ line. line ++ 10 ∷ []) lines
+abbrev pub lf_lines : List (List ℕ) → List ℕ
+lf_lines lines = flat_map (λ line. line ++ 10 ∷ []) lines
 
 -- a field between double quotes
 abbrev pub in_quotes : List ℕ → List ℕ

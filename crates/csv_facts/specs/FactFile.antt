@@ -34,18 +34,18 @@ abbrev pub refused_at : ℕ → Code → FactSeq
 refused_at index refusal = record { facts = []; bad = Some (record { index = index; code = refusal }) }
 
 -- what stands before facts
-abbrev pub behind : List Fact → FactSeq → FactSeq
-behind facts seq = record { facts = facts ++ seq.facts; bad = seq.bad }
+abbrev pub seq_behind : List Fact → FactSeq → FactSeq
+seq_behind facts seq = record { facts = facts ++ seq.facts; bad = seq.bad }
 
 -- what the record of an index gives, before what the records after it do
-abbrev pub facts_with : ℕ → Result Fact Code → FactSeq → FactSeq
-facts_with index (Ok fact) later = behind (fact ∷ []) later
-facts_with index (Err refusal) later = refused_at index refusal
+abbrev pub seq_with : ℕ → Result Fact Code → FactSeq → FactSeq
+seq_with index (Ok fact) later = seq_behind (fact ∷ []) later
+seq_with index (Err refusal) later = refused_at index refusal
 
 -- the facts of records, of which the first has this index
 abbrev pub facts_from : SchemaValue → ℕ → List (List (List ℕ)) → FactSeq
 facts_from schema index [] = record { facts = []; bad = None }
-facts_from schema index (row ∷ rows) = facts_with index (record_given schema row) (facts_from schema (index + 1) rows)
+facts_from schema index (row ∷ rows) = seq_with index (record_given schema row) (facts_from schema (index + 1) rows)
 
 -- the facts of a file: the first of its records is the header
 abbrev pub facts_in : SchemaValue → List (List (List ℕ)) → FactSeq

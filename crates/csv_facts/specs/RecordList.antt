@@ -51,7 +51,7 @@ IsNext true before row after = before ≡ row ∷ after
 IsNext false before row after = before ≡ []
 
 -- a row of these fields
-pub record IsRow (fields : List (List ℕ)) (row : Row) : Type 0 where
+pub record IsRecordRow (fields : List (List ℕ)) (row : Row) : Type 0 where
   pub fields_are : fields_of row ≡ fields
   pub whole : partial_of row ≡ []
 

@@ -6,7 +6,7 @@ ghost use Rattle.csv.specs.Records.{fields_of, partial_of};
 ghost use Rattle.schema_text.specs.Schema.{IsSchema};
 ghost use Rattle.csv_facts.specs.ExtendedRow.{rows_header};
 ghost use Rattle.csv_facts.specs.FactFile.{header_of};
-ghost use Rattle.csv_facts.specs.RecordList.{IsLonger, IsRow};
+ghost use Rattle.csv_facts.specs.RecordList.{IsLonger, IsRecordRow};
 
 use csv::ByteRecord;
 use cube_base::{Memory, Name};
@@ -37,7 +37,7 @@ pub(crate) fn rows_header_row(alloc: Global, s: &Schema) -> Result<ByteRecord, M
 
 /// The front of both: `id`, the dimensions.
 fn front_row(alloc: Global, s: &Schema) -> Result<ByteRecord, Memory>
-    ensures row { IfOk result (IsRow (codes "id" ∷ s.now.names)) }
+    ensures row { IfOk result (IsRecordRow (codes "id" ∷ s.now.names)) }
     ensures schema { IsSchema s.now }
 {
     let names = s.dim_names();

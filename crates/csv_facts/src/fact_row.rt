@@ -8,7 +8,7 @@ ghost use Rattle.region_algebra.specs.Space.{IsRegion};
 ghost use Rattle.schema_text.specs.Schema.{shape_of};
 ghost use Rattle.script_text.specs.Reply.{names_of};
 ghost use Rattle.fact_fields.specs.FactRow.{record_of, value_fields};
-ghost use Rattle.csv_facts.specs.RecordList.{IsLonger, IsRow};
+ghost use Rattle.csv_facts.specs.RecordList.{IsLonger, IsRecordRow};
 
 use csv::ByteRecord;
 use cube_base::{Cols, Memory};
@@ -41,7 +41,7 @@ pub(crate) fn start_row(
     region: Region,
 ) -> Result<(), Memory>
     requires { IsRegion space.now region }
-    ensures { OnOk result (IsRow (decimal id ∷ names_of space.now region) row.new) }
+    ensures { OnOk result (IsRecordRow (decimal id ∷ names_of space.now region) row.new) }
 {
     row.clear();
     push_number(row, id)?;

@@ -3,7 +3,7 @@
 ghost use Rattle.std.specs.Prelude.{◌≡◌, ℕ, ◌+◌, ◌≤◌, List, [], ◌∷◌, ◌++◌, codes, length};
 ghost use Rattle.cube_model.specs.Allocation.{ExtendedFact};
 ghost use Rattle.schema_text.specs.Schema.{SchemaValue};
-ghost use Rattle.csv_facts.specs.Examples.{family_and_pair, in_one_cell, in_quotes, in_two_cells, text_of};
+ghost use Rattle.csv_facts.specs.Examples.{family_and_pair, in_one_cell, in_quotes, in_two_cells, lf_lines};
 ghost use Rattle.csv_facts.specs.ExtendedRow.{extended_text, part_text, rows_header, text_before};
 ghost use Rattle.csv_facts.specs.RecordList.{records_text};
 
@@ -22,7 +22,7 @@ pub fn parts_make_the_text()
 /// The text of two facts that was written by hand: one is in two cells, with two thirds and one third, the other in one. A
 /// field with a comma stands between quotes. The text of no facts is the header alone.
 pub fn worked_text()
-    ensures rows { extended_text family_and_pair (in_two_cells ∷ in_one_cell ∷ []) ≡ text_of ((codes "id,family," ++ in_quotes (codes "a,b") ++ codes ",weight,of,p,n")
+    ensures rows { extended_text family_and_pair (in_two_cells ∷ in_one_cell ∷ []) ≡ lf_lines ((codes "id,family," ++ in_quotes (codes "a,b") ++ codes ",weight,of,p,n")
         ∷ codes "4,c,b,2,3,80:20,5" ∷ codes "4,d,b,1,3,80:20,5" ∷ codes "12,g,c,1,1,100:0,-7" ∷ []) }
-    ensures none { extended_text family_and_pair [] ≡ text_of ((codes "id,family," ++ in_quotes (codes "a,b") ++ codes ",weight,of,p,n") ∷ []) }
+    ensures none { extended_text family_and_pair [] ≡ lf_lines ((codes "id,family," ++ in_quotes (codes "a,b") ++ codes ",weight,of,p,n") ∷ []) }
 {}

@@ -6,7 +6,7 @@ use Rattle.std.specs.Option.{option_map_or}
 use Rattle.std.specs.Result.{result_ok}
 use Rattle.fact_keeper.specs.declared.content.Stored.{Stored}
 use Rattle.text_lines.specs.Text.{line_text}
-use Rattle.schema_text.specs.Schema.{SchemaValue, policy_in, shape_of, weigh_of}
+use Rattle.schema_text.specs.Schema.{SchemaValue, schema_policy, shape_of, weigh_of}
 use Rattle.schema_text.specs.declared.word.PolicyWord.{PolicyWord}
 use Rattle.stored_state.specs.Sound.{IsSound, facts_told}
 use Rattle.cube_core.specs.Cube.{CubeValue}
@@ -19,19 +19,19 @@ use Rattle.cube_cli.specs.declared.telling.Telling.{Telling}
 
 -- a cube that has the schema and the facts of a content
 pub loaded_cube : (schema : SchemaValue) (policy : PolicyWord) (content : Stored) (cube : CubeValue PolicyWord) → policy ≡ schema.policy → cube.schema ≡ schema → cube.policy ≡ policy → cube.facts ≡ facts_told content
-    → IsSound (policy_in (weigh_of policy) schema) (shape_of schema) schema.dims content → HoldsSchema schema content → IsCubeOf cube content
+    → IsSound (schema_policy (weigh_of policy) schema) (shape_of schema) schema.dims content → HoldsSchema schema content → IsCubeOf cube content
 loaded_cube schema policy content cube named schema_is policy_is facts_are sound holds = record {
   holds = subst (λ s. HoldsSchema s content) (sym schema_is) holds;
   policy_is = policy_is ∙ named ∙ sym (ap (λ (s : SchemaValue). s.policy) schema_is);
   facts_are = facts_are;
-  sound = subst (λ s. IsSoundOver s content) (sym schema_is) (subst (λ p. IsSound (policy_in (weigh_of p) schema) (shape_of schema) schema.dims content) named sound);
+  sound = subst (λ s. IsSoundOver s content) (sym schema_is) (subst (λ p. IsSound (schema_policy (weigh_of p) schema) (shape_of schema) schema.dims content) named sound);
 }
 
 -- what is told of it is what is told of the content
 pub text_same : (telling : Telling) (cube : CubeValue PolicyWord) (content : Stored) → IsCubeOf cube content
-    → text_told telling (policy_in (weigh_of cube.policy) cube.schema) cube.schema cube.facts ≡ text_told telling (policy_of cube.schema) cube.schema (facts_told content)
+    → text_told telling (schema_policy (weigh_of cube.policy) cube.schema) cube.schema cube.facts ≡ text_told telling (policy_of cube.schema) cube.schema (facts_told content)
 text_same telling cube content is =
-    ap (λ p. text_told telling (policy_in (weigh_of p) cube.schema) cube.schema cube.facts) is.policy_is
+    ap (λ p. text_told telling (schema_policy (weigh_of p) cube.schema) cube.schema cube.facts) is.policy_is
     ∙ ap (λ fs. text_told telling (policy_of cube.schema) cube.schema fs) is.facts_are
 
 -- what is made with the schema of a content

@@ -22,7 +22,7 @@ use Rattle.text_lines.specs.LineText.{field_at, is_clean, is_long}
 use Rattle.text_lines.specs.Text.{fields_of}
 use Rattle.feed_run.specs.declared.feed_stop.FeedStop.{FeedStop}
 use Rattle.feed_run.specs.declared.feed_stop.FeedStop.TheVariants as feed_stop
-use Rattle.feed_run.specs.Following.{AtStart, Base, Between, InBase, InSchema, Moved, Place, Within, Work, base_batch, base_line_judged, base_refusal, based_judged, based_over, batch_judged, batch_line_judged, differs, fact_judged, first_difference, has_word, in_schema, line_done, moved_to, refusal_in, said_judged, schema_judged, step_at, version_judged, where_it_may, within, work_of}
+use Rattle.feed_run.specs.Following.{AtStart, Base, Between, InBase, InSchema, Moved, Place, Within, Work, base_batch, base_line_judged, base_refusal, based_judged, based_over, batch_judged, batch_line_judged, differs, fact_judged, first_difference, has_word, in_schema, line_done, moved_to, refusal_in, said_judged, schema_judged, step_at, version_judged, where_it_may, within_batch, work_of}
 
 -- to a place, where nothing is committed
 abbrev pub to : Place → Moved
@@ -153,7 +153,7 @@ module _ (base : Option Base) (Q : Place → Moved → Type 0) (each : HoldsOfSt
         by_read (Ok feed.Based) is = none_holds (Between work) _
         by_read (Ok feed.Other) is = none_holds (Between work) _
 
-    within_holds : (batch : Batch) (left : List (List ℕ)) (bytes : List ℕ) → Holds (Within work batch left) (within n work batch left bytes)
+    within_holds : (batch : Batch) (left : List (List ℕ)) (bytes : List ℕ) → Holds (Within work batch left) (within_batch n work batch left bytes)
     within_holds batch [] bytes = none_holds (Within work batch []) _
     within_holds batch (expected ∷ left) bytes = either (bytes_eq expected bytes)
       where

@@ -11,15 +11,15 @@ use Rattle.cube_model.specs.Tree.{Dimension}
 use Rattle.fact_groups.proofs.Ascending.{pairs-first, pairs-rest}
 use Rattle.fact_keeper.specs.declared.content.KeptFact.{KeptFact}
 use Rattle.fact_keeper.specs.Batch.{fact_id}
-use Rattle.fact_keeper.specs.Order.{IsAscending}
+use Rattle.fact_keeper.specs.Order.{AscendsBy}
 use Rattle.fact_keeper.proofs.Puts.{ascending_from_adjacent}
-use Rattle.fact_records.specs.FactList.{IsAscending as AreInOrder}
+use Rattle.fact_records.specs.FactList.{IsAscending}
 use Rattle.fact_records.specs.Shape.{ShapeValue}
 use Rattle.stored_state.specs.Sound.{AreGood, fact_fault, fact_told, id_before}
 use Rattle.stored_state.proofs.Judging.{IsGood, good-fact}
 
 -- what is made of items in order is in order
-pub pairs-map : {X Y : Type 0} (f : X → Y) (key : Y → ℕ) (xs : List X) → AllPairs (λ a b. key (f a) < key (f b)) xs → IsAscending key (map f xs)
+pub pairs-map : {X Y : Type 0} (f : X → Y) (key : Y → ℕ) (xs : List X) → AllPairs (λ a b. key (f a) < key (f b)) xs → AscendsBy key (map f xs)
 pairs-map f key [] up = λ i j d before within. absurd (omega (arith, within))
 pairs-map f key (x ∷ xs) up =
     AllPairs-cons (λ a b. key a < key b) (f x) (map f xs) (All-map (λ b. key (f x) < key b) f xs (pairs-first (λ a b. key (f a) < key (f b)) x xs up))
@@ -37,9 +37,9 @@ module _ (shape : ShapeValue) (dims : List Dimension) (kept : List KeptFact) (go
       let less : fact_id (get_or kept i d) < fact_id (get_or kept (suc i) d) = subst (λ n. n < fact_id (get_or kept (suc i) d)) before next.above in
       grind (arith, nat_tests, less)
 
-  pub good-ascends : IsAscending fact_id kept
+  pub good-ascends : AscendsBy fact_id kept
   good-ascends = ascending_from_adjacent fact_id kept adjacent
 
   -- and so are the facts that they tell
-  pub told-ascends : AreInOrder (map fact_told kept)
+  pub told-ascends : IsAscending (map fact_told kept)
   told-ascends = pairs-map fact_told (λ f. f.id) kept good-ascends

@@ -3,7 +3,7 @@ use Rattle.std.proofs.Common.{◌≡◌, ℕ, Bool, false, List, [], refl, sym, 
 use Rattle.std.specs.Prelude.{◌≢◌}
 use Rattle.fact_keeper.specs.declared.content.Stored.{Stored}
 use Rattle.fact_keeper.specs.Batch.{empty_content}
-use Rattle.schema_text.specs.Schema.{SchemaValue, policy_in, shape_of, weigh_of}
+use Rattle.schema_text.specs.Schema.{SchemaValue, schema_policy, shape_of, weigh_of}
 use Rattle.schema_text.specs.declared.word.PolicyWord.{PolicyWord}
 use Rattle.stored_state.specs.Mending.{IsMendFault, IsMendFinding}
 use Rattle.stored_state.specs.Sound.{IsFinding, IsLoadFault}
@@ -29,7 +29,7 @@ use Rattle.cube_cli.specs.Kinds.{IsAmong, is_of_rows}
 use Rattle.cube_cli.specs.RunEnd.{end_of_load, end_of_open, load_fault_of}
 use Rattle.cube_cli.specs.SchemaAlone.{HasCauseAlone}
 use Rattle.cube_cli.specs.Seen.{Holds, IsUntouched, WasNotCalled}
-use Rattle.cube_cli.specs.Steps.{HoldsSchema, NotOpened, Opened}
+use Rattle.cube_cli.specs.Steps.{HoldsSchema, NotOpened, OpenedWith}
 use Rattle.cube_cli.specs.Store.{Finds, FindsBy}
 use Rattle.cube_cli.proofs.First.{IsStill, bad_store, keep_fault, left_all, no_cube, wants_memory}
 use Rattle.cube_cli.proofs.Known.{of_given}
@@ -77,24 +77,24 @@ module _ (line : List ℕ) (command : StoreCommand) (may : MayStop command) (see
 
   -- a content was loaded, and is not that of a cube
   module _ (schema : SchemaValue) (policy : PolicyWord) (content : Stored) (given : Holds seen.keeper (λ kept. content ≡ kept)) (holds : HoldsSchema schema content) (named : policy ≡ schema.policy) (uncalled : WasNotCalled seen.keeper) where
-    finds_as : (found : Finding) → IsFinding (policy_in (weigh_of policy) schema) (shape_of schema) schema.dims content found → Finds content found
+    finds_as : (found : Finding) → IsFinding (schema_policy (weigh_of policy) schema) (shape_of schema) schema.dims content found → Finds content found
     finds_as found is =
-        subst (λ r. FindsBy r content found) (sym holds.schema_is) (subst (λ p. IsFinding (policy_in (weigh_of p) schema) (shape_of schema) schema.dims content found) named is)
+        subst (λ r. FindsBy r content found) (sym holds.schema_is) (subst (λ p. IsFinding (schema_policy (weigh_of p) schema) (shape_of schema) schema.dims content found) named is)
 
-    bad_content : (found : Finding) → IsAmong (ends_of (Some (Store command))) (BadStore found) → IsFinding (policy_in (weigh_of policy) schema) (shape_of schema) schema.dims content found
+    bad_content : (found : Finding) → IsAmong (ends_of (Some (Store command))) (BadStore found) → IsFinding (schema_policy (weigh_of policy) schema) (shape_of schema) schema.dims content found
         → SaysAsked line (Some (Store command)) seen (BadStore found)
     bad_content found among is =
         bad_store seen (left_all seen still uncalled.kept) (ends_of (Some (Store command))) (doing_of line (Some (Store command))) (Fits (Some (Store command))) found among
         (record { read = still.read.count; write = still.write; keep = uncalled.count })
         (of_given seen.keeper.told.content content (λ kept. (kept ≢ empty_content) × Finds kept found) given (holds.some, finds_as found is))
 
-    not_loaded : (fault : LoadFault) → ((found : Finding) → IsAmong (ends_of (Some (Store command))) (BadStore found)) → IsLoadFault (policy_in (weigh_of policy) schema) (shape_of schema) schema.dims content fault
+    not_loaded : (fault : LoadFault) → ((found : Finding) → IsAmong (ends_of (Some (Store command))) (BadStore found)) → IsLoadFault (schema_policy (weigh_of policy) schema) (shape_of schema) schema.dims content fault
         → SaysAsked line (Some (Store command)) seen (end_of_load fault)
     not_loaded (load_fault.Bad found) among is = bad_content found (among found) is
     not_loaded load_fault.Memory among is = not_opened (open_stop.Load load_fault.Memory) (λ none. absurd (cc none)) (uncalled.kept, uncalled.count)
 
     not_mended : (fault : LoadFault) → ((found : Finding) → is_of_rows found ≡ false → IsAmong (ends_of (Some (Store command))) (BadStore found))
-        → IsMendFault (policy_in (weigh_of policy) schema) (shape_of schema) schema.dims content fault → SaysAsked line (Some (Store command)) seen (end_of_load fault)
+        → IsMendFault (schema_policy (weigh_of policy) schema) (shape_of schema) schema.dims content fault → SaysAsked line (Some (Store command)) seen (end_of_load fault)
     not_mended (load_fault.Bad (finding.Schema at why)) among is = absurd is
     not_mended (load_fault.Bad (finding.Fact place id why)) among is = bad_content (finding.Fact place id why) (among (finding.Fact place id why) refl) is
     not_mended (load_fault.Bad (finding.TooManyRows would)) among is = bad_content (finding.TooManyRows would) (among (finding.TooManyRows would) refl) is
@@ -124,7 +124,7 @@ pub tell_not_opened : (telling : Telling) (seen : SeenAll) → IsStill seen → 
 tell_not_opened telling seen still stop is = not_opened [] (Tell telling) (may_tell telling) seen still stop (λ none. refl) is
 
 module _ (seen : SeenAll) (still : IsStill seen) (schema : SchemaValue) (policy : PolicyWord) (content : Stored) (given : Holds seen.keeper (λ kept. content ≡ kept)) (holds : HoldsSchema schema content) (named : policy ≡ schema.policy) (uncalled : WasNotCalled seen.keeper)
-    (fault : LoadFault) (is : IsLoadFault (policy_in (weigh_of policy) schema) (shape_of schema) schema.dims content fault) where
+    (fault : LoadFault) (is : IsLoadFault (schema_policy (weigh_of policy) schema) (shape_of schema) schema.dims content fault) where
   pub input_not_loaded : (task : InputTask) → SaysOf (Some (Store (Input task))) seen (end_of_load fault)
   input_not_loaded task = not_loaded [] (Input task) (may_input task) seen still schema policy content given holds named uncalled fault (may_find task) is
 
@@ -142,12 +142,12 @@ pub rebuild_not_opened : (seen : SeenAll) → IsStill seen → (stop : OpenStop)
 rebuild_not_opened seen still stop is = not_opened [] Rebuild may_rebuild seen still stop (λ none. refl) is
 
 pub rebuild_not_mended : (seen : SeenAll) → IsStill seen → (schema : SchemaValue) (policy : PolicyWord) (content : Stored) → Holds seen.keeper (λ kept. content ≡ kept) → HoldsSchema schema content → policy ≡ schema.policy → WasNotCalled seen.keeper
-    → (fault : LoadFault) → IsMendFault (policy_in (weigh_of policy) schema) (shape_of schema) schema.dims content fault → SaysOf (Some (Store Rebuild)) seen (end_of_load fault)
+    → (fault : LoadFault) → IsMendFault (schema_policy (weigh_of policy) schema) (shape_of schema) schema.dims content fault → SaysOf (Some (Store Rebuild)) seen (end_of_load fault)
 rebuild_not_mended seen still schema policy content given holds named uncalled fault is =
     not_mended [] Rebuild may_rebuild seen still schema policy content given holds named uncalled fault rebuild_finds is
 
 -- a store was loaded, and holds this schema
-pub holds_schema : (schema : SchemaValue) (content : Stored) (keeper : KeeperSeen) → Opened schema content keeper → HoldsSchema schema content
+pub holds_schema : (schema : SchemaValue) (content : Stored) (keeper : KeeperSeen) → OpenedWith schema content keeper → HoldsSchema schema content
 holds_schema schema content keeper opened = record { schema_is = opened.schema_is; some = opened.some }
 
 -- or its text is not read as a schema alone

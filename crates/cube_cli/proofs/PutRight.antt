@@ -10,7 +10,7 @@ use Rattle.fact_keeper.specs.declared.keeper.KeepError.{KeepError}
 use Rattle.fact_keeper.specs.declared.keeper.KeepError.TheVariants as keep_error
 use Rattle.fact_keeper.specs.Keeper.{CountsKeepFault}
 use Rattle.line_cutter.specs.Input.{INPUT_LIMIT, TakesAtMost}
-use Rattle.schema_text.specs.Schema.{SchemaValue, policy_in, shape_of, weigh_of}
+use Rattle.schema_text.specs.Schema.{SchemaValue, schema_policy, shape_of, weigh_of}
 use Rattle.schema_text.specs.declared.word.PolicyWord.{PolicyWord}
 use Rattle.script_run.specs.Kept.{Commits}
 use Rattle.script_run.specs.Seen.{NoKeepFault, SeenAll}
@@ -35,14 +35,14 @@ use Rattle.cube_cli.proofs.Known.{of_given, took_nothing}
 
 -- what puts the rows of a content right, by a policy that is the schema's
 pub mending_of : (mending : Mending) (schema : SchemaValue) (policy : PolicyWord) (content : Stored) → policy ≡ schema.policy → HoldsSchema schema content
-    → mending.batch ≡ mended_batch (policy_in (weigh_of policy) schema) schema.dims content → mending.facts ≡ length content.facts → mending.rows ≡ rows_counted (policy_in (weigh_of policy) schema) schema.dims content
-    → IsMendable (policy_in (weigh_of policy) schema) (shape_of schema) schema.dims content → IsMendingOf mending schema content
+    → mending.batch ≡ mended_batch (schema_policy (weigh_of policy) schema) schema.dims content → mending.facts ≡ length content.facts → mending.rows ≡ rows_counted (schema_policy (weigh_of policy) schema) schema.dims content
+    → IsMendable (schema_policy (weigh_of policy) schema) (shape_of schema) schema.dims content → IsMendingOf mending schema content
 mending_of mending schema policy content named holds batch facts rows mendable = record {
   holds = holds;
-  mendable = subst (λ p. IsMendable (policy_in (weigh_of p) schema) (shape_of schema) schema.dims content) named mendable;
-  batch_is = subst (λ p. mending.batch ≡ mended_batch (policy_in (weigh_of p) schema) schema.dims content) named batch;
+  mendable = subst (λ p. IsMendable (schema_policy (weigh_of p) schema) (shape_of schema) schema.dims content) named mendable;
+  batch_is = subst (λ p. mending.batch ≡ mended_batch (schema_policy (weigh_of p) schema) schema.dims content) named batch;
   facts_are = facts;
-  rows_are = subst (λ p. mending.rows ≡ rows_counted (policy_in (weigh_of p) schema) schema.dims content) named rows;
+  rows_are = subst (λ p. mending.rows ≡ rows_counted (schema_policy (weigh_of p) schema) schema.dims content) named rows;
 }
 
 -- what is told by it is what is told of the content

@@ -2,7 +2,7 @@
 use Rattle.std.proofs.Common.{◌≡◌, ◌<◌, ◌≤◌, ℕ, List, [], ◌∷◌, length, refl, sym, ap, ◌∙◌, subst, true, false, le-ltb, lt-ltb, Option, Some, None, Result, Err}
 use Rattle.std.specs.Prelude.{codes, if◌then◌else◌}
 use Rattle.cube_base.specs.declared.fault.SinkError.{SinkError}
-use Rattle.cube_core.specs.Cube.{CubeValue, rows_in}
+use Rattle.cube_core.specs.Cube.{CubeValue, cube_rows}
 use Rattle.cube_core.specs.Import.{CountsImportFault, IsImportFaultOf, import_difference_in, import_refreshed_in, imported, refused_in_cube}
 use Rattle.cube_core.specs.declared.fault.ImportFault.{ImportFault}
 use Rattle.cube_core.specs.declared.fault.ImportFault.TheVariants as import_fault
@@ -13,7 +13,7 @@ use Rattle.fact_sequence.specs.declared.fact_seq.BadRecord.{BadRecord as RecordA
 use Rattle.fact_sequence.specs.declared.fact_seq.FactSeq.{FactSeq}
 use Rattle.line_cutter.specs.Input.{INPUT_LIMIT, StopsReading, Taken}
 use Rattle.line_cutter.specs.declared.input.InputStop.{InputStop}
-use Rattle.schema_text.specs.Schema.{SchemaValue, policy_in, weigh_of}
+use Rattle.schema_text.specs.Schema.{SchemaValue, schema_policy, weigh_of}
 use Rattle.schema_text.specs.declared.word.PolicyWord.{PolicyWord}
 use Rattle.stored_state.specs.Sound.{facts_told}
 use Rattle.script_run.specs.Kept.{Commits}
@@ -25,7 +25,7 @@ use Rattle.cube_cli.specs.declared.end.End.TheVariants.{BadRecord, ImportRows, M
 use Rattle.cube_cli.specs.declared.store.InputTask.TheVariants.{Import}
 use Rattle.cube_cli.specs.Doing.{Fits, OneWork, ends_of, file_work, import_work}
 use Rattle.cube_cli.specs.End.{SaysOf}
-use Rattle.cube_cli.specs.Files.{IsAccepted, count_line, import_batch, imported_line, refused_file, rows_with, seq_of}
+use Rattle.cube_cli.specs.Files.{IsAccepted, count_line, import_batch, imported_line, refused_file, row_count_with_file, seq_of}
 use Rattle.cube_cli.specs.RunEnd.{end_of_import, end_of_stop, end_of_write}
 use Rattle.cube_cli.specs.Seen.{DidNothing, Holds}
 use Rattle.cube_cli.specs.Steps.{IsCubeOf, WritesText}
@@ -57,7 +57,7 @@ module _ (cube : CubeValue PolicyWord) (content : Stored) (is : IsCubeOf cube co
     goes = record { content_is = given; fitting = fitting; input_is = taken; unread = λ is. absurd (cc is); unkept = λ is. absurd (cc is); read = read }
 
     abbrev policy : Policy
-    policy = policy_in (weigh_of cube.policy) cube.schema
+    policy = schema_policy (weigh_of cube.policy) cube.schema
 
     abbrev work : OneWork
     work = file_work policy cube.schema cube.facts file
@@ -65,26 +65,26 @@ module _ (cube : CubeValue PolicyWord) (content : Stored) (is : IsCubeOf cube co
     work_is : import_work file content ≡ work
     work_is =
         work_with content cube.schema (λ schema. file_work (policy_of schema) schema (facts_told content) file) is.holds.schema_is
-        ∙ sym (ap (λ p. file_work (policy_in (weigh_of p) cube.schema) cube.schema cube.facts file) is.policy_is ∙ ap (λ fs. file_work (policy_of cube.schema) cube.schema fs file) is.facts_are)
+        ∙ sym (ap (λ p. file_work (schema_policy (weigh_of p) cube.schema) cube.schema cube.facts file) is.policy_is ∙ ap (λ fs. file_work (policy_of cube.schema) cube.schema fs file) is.facts_are)
 
     refusal_is : (refusal : Option End) → work.refusal ≡ refusal → (import_work file content).refusal ≡ refusal
     refusal_is refusal here = ap (λ (w : OneWork). w.refusal) work_is ∙ here
 
     -- and read
     module _ (seq : FactSeq) (seq_is : seq ≡ seq_of cube.schema file) where
-      refused_with : (answer : Option RecordAt) → refused_in_cube cube seq ≡ answer → (import_work file content).refusal ≡ refused_file answer (rows_with policy cube.schema cube.facts file)
+      refused_with : (answer : Option RecordAt) → refused_in_cube cube seq ≡ answer → (import_work file content).refusal ≡ refused_file answer (row_count_with_file policy cube.schema cube.facts file)
       refused_with answer here =
-          refusal_is (refused_file answer (rows_with policy cube.schema cube.facts file))
-          (ap (λ r. refused_file r (rows_with policy cube.schema cube.facts file)) (subst (λ s. refused_in_cube cube s ≡ answer) seq_is here))
+          refusal_is (refused_file answer (row_count_with_file policy cube.schema cube.facts file))
+          (ap (λ r. refused_file r (row_count_with_file policy cube.schema cube.facts file)) (subst (λ s. refused_in_cube cube s ≡ answer) seq_is here))
 
-      rows_are : row_count (rows_in weigh_of (imported seq.facts cube)) ≡ rows_with policy cube.schema cube.facts file
-      rows_are = ap (λ (s : FactSeq). row_count (rows_in weigh_of (imported s.facts cube))) seq_is
+      rows_are : row_count (cube_rows weigh_of (imported seq.facts cube)) ≡ row_count_with_file policy cube.schema cube.facts file
+      rows_are = ap (λ (s : FactSeq). row_count (cube_rows weigh_of (imported s.facts cube))) seq_is
 
-      none_refused : refused_in_cube cube seq ≡ None → row_count (rows_in weigh_of (imported seq.facts cube)) ≤ MAX_ROWS → (import_work file content).refusal ≡ None
-      none_refused accepted few = refused_with None accepted ∙ few-none (rows_with policy cube.schema cube.facts file) (subst (λ n. n ≤ MAX_ROWS) rows_are few)
+      none_refused : refused_in_cube cube seq ≡ None → row_count (cube_rows weigh_of (imported seq.facts cube)) ≤ MAX_ROWS → (import_work file content).refusal ≡ None
+      none_refused accepted few = refused_with None accepted ∙ few-none (row_count_with_file policy cube.schema cube.facts file) (subst (λ n. n ≤ MAX_ROWS) rows_are few)
 
       -- all its facts were put, and the reply says so
-      pub import_kept : {T : Type 0} (result : Result T SinkError) (refreshed : List ℕ) → refused_in_cube cube seq ≡ None → row_count (rows_in weigh_of (imported seq.facts cube)) ≤ MAX_ROWS
+      pub import_kept : {T : Type 0} (result : Result T SinkError) (refreshed : List ℕ) → refused_in_cube cube seq ≡ None → row_count (cube_rows weigh_of (imported seq.facts cube)) ≤ MAX_ROWS
           → refreshed ≡ import_refreshed_in weigh_of cube seq.facts → Commits (import_difference_in weigh_of cube seq.facts ∷ []) seen.keeper.told seen.keeper.told_after → NoKeepFault seen.keeper
           → WritesText (count_line (codes "imported") (length seq.facts) (length refreshed)) seen.sink result → SaysOf (Some (Store (Input Import))) seen (end_of_write result 0 1)
       import_kept result refreshed accepted few refreshes commits keep text =

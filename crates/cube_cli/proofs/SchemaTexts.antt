@@ -13,7 +13,7 @@ use Rattle.text_lines.specs.Text.{after_lines, lines_of}
 use Rattle.text_lines.proofs.LineTexts.{IsAsItsFront-long}
 use Rattle.line_cutter.specs.Pieces.{ended_lines, front, lf_count, line_end}
 use Rattle.line_cutter.proofs.Ended.{ended_lines-length, line_end-behind, lines_of-ended}
-use Rattle.schema_text.specs.SchemaText.{BadLine, Draft, ReadLines, ReadSchema, blank_draft, is_end, line_fault, read_from, schema_of, sized, with_line}
+use Rattle.schema_text.specs.SchemaText.{BadLine, Draft, ReadLines, ReadSchema, blank_draft, draft_line_fault, is_end, read_from, schema_of, sized, with_line}
 use Rattle.schema_text.proofs.Ends.{length-without_cr}
 use Rattle.cube_cli.specs.SchemaLines.{HasSchemaLines, has_end, schema_bytes, schema_lines}
 
@@ -118,7 +118,7 @@ EndsAt-later : (k : ℕ) (line : List ℕ) (lines : List (List ℕ)) → is_end 
 EndsAt-later k line lines goes (Ok read) at = record { count_is = rw goes (omega (arith, at.count_is)); some = rw goes at.some }
 EndsAt-later k line lines goes (Err bad) at = tt
 
-accepted-step : (draft : Draft) (k : ℕ) (line : List ℕ) (lines : List (List ℕ)) (skips ends : Bool) (fault : Option Code) → is_skipped line ≡ skips → is_end line ≡ ends → line_fault draft line ≡ fault
+accepted-step : (draft : Draft) (k : ℕ) (line : List ℕ) (lines : List (List ℕ)) (skips ends : Bool) (fault : Option Code) → is_skipped line ≡ skips → is_end line ≡ ends → draft_line_fault draft line ≡ fault
     → ((draft : Draft) → IfOk (read_from draft (k + 1) lines) (λ (read : ReadLines). EndsAt (k + 1) lines read.lines))
     → IfOk (read_from draft k (line ∷ lines)) (λ (read : ReadLines). EndsAt k (line ∷ lines) read.lines)
 accepted-step draft k line lines true true fault skips ends is_fault later = cc (stays line ends)
@@ -130,7 +130,7 @@ accepted-step draft k line lines false false None stands goes is_fault later =
 
 accepted : (draft : Draft) (k : ℕ) (lines : List (List ℕ)) → IfOk (read_from draft k lines) (λ (read : ReadLines). EndsAt k lines read.lines)
 accepted draft k [] = tt
-accepted draft k (line ∷ lines) = accepted-step draft k line lines (is_skipped line) (is_end line) (line_fault draft line) refl refl refl (λ draft. accepted draft (k + 1) lines)
+accepted draft k (line ∷ lines) = accepted-step draft k line lines (is_skipped line) (is_end line) (draft_line_fault draft line) refl refl refl (λ draft. accepted draft (k + 1) lines)
 
 pub accepted_at : (lines : List (List ℕ)) (read : ReadLines) → read_from blank_draft 0 lines ≡ Ok read → EndsAt 0 lines read.lines
 accepted_at lines read is = subst (λ result. IfOk result (λ (read : ReadLines). EndsAt 0 lines read.lines)) is (accepted blank_draft 0 lines)

@@ -18,13 +18,13 @@ use Rattle.text_lines.specs.LineText.{is_skipped, without_cr}
 use Rattle.text_lines.specs.Text.{after_lines, fields_of, lines_of}
 use Rattle.schema_text.specs.declared.word.SchemaWord.{SchemaWord}
 use Rattle.schema_text.specs.declared.word.SchemaWord.TheVariants.{Cube, Policy, Number, Parts, Dimension as DimensionWord, Node, View, End}
-use Rattle.schema_text.specs.Draft.{AreNodes, IsDraft, end_fault, size_fault, word_in}
-use Rattle.schema_text.specs.SchemaText.{BadLine, Draft, ReadLines, ReadSchema, blank_draft, depth_fields, dims_of, ended, has_many_cells, has_many_regions, has_no_room, has_wrong_count, has_wrong_depth, has_wrong_depths, has_wrong_name, has_wrong_number, has_wrong_policy, is_end, lacks_measure, line_fault, may_follow, node_of_fields, policy_among, read_from, schema_of, schema_of_draft, sized, with_line, with_word, word_fault}
+use Rattle.schema_text.specs.Draft.{AreNodes, IsDraft, end_fault, size_code, word_in}
+use Rattle.schema_text.specs.SchemaText.{BadLine, Draft, ReadLines, ReadSchema, blank_draft, depth_fields, dims_of, draft_line_fault, ended, has_many_cells, has_many_regions, has_no_room, has_wrong_count, has_wrong_depth, has_wrong_depths, has_wrong_name, has_wrong_policy, is_end, lacks_measure, line_has_wrong_number, may_follow, node_of_fields, policy_among, read_from, schema_of, schema_of_draft, sized, with_line, with_word, word_fault}
 use Rattle.schema_text.proofs.Drafts.{is_name-right}
 use Rattle.schema_text.proofs.DraftSteps.{IsDraft-word}
-use Rattle.schema_text.proofs.Ends.{line_fault-end}
+use Rattle.schema_text.proofs.Ends.{draft_line_fault-end}
 use Rattle.schema_text.proofs.LineFaults.{end-one_field, other_word}
-use Rattle.schema_text.proofs.LineWords.{HasWord, HasWord-in, line_fault-none, line_fault-word, with_line-word}
+use Rattle.schema_text.proofs.LineWords.{HasWord, HasWord-in, draft_line_fault-none, draft_line_fault-word, with_line-word}
 use Rattle.schema_text.proofs.NodesMore.{AreNodes-none}
 use Rattle.schema_text.proofs.ViewsMore.{AreViews-none}
 
@@ -49,7 +49,7 @@ dims_of-trees draft has numbered = All-append IsTree draft.dims (ended draft.nod
 record IsRight (draft : Draft) (fields : List (List ℕ)) (word : SchemaWord) : Type 0 where
   count : has_wrong_count draft.version (length draft.names) fields word ≡ false
   name : has_wrong_name draft fields word ≡ false
-  number : has_wrong_number draft fields word ≡ false
+  number : line_has_wrong_number draft fields word ≡ false
 
 four-fail : (a b c d : Bool) (rest : List (Bool × Code)) → first_that_holds ((a, code.Fields) ∷ (b, code.Name) ∷ (c, code.Policy) ∷ (d, code.Number) ∷ rest) ≡ None → (a ≡ false) × (b ≡ false) × (d ≡ false)
 four-fail true b c d rest none = cc
@@ -61,7 +61,7 @@ four-fail false false false false rest none = (refl, refl, refl)
 right : (draft : Draft) (fields : List (List ℕ)) (word : SchemaWord) → word_fault draft fields word ≡ None → IsRight draft fields word
 right draft fields word accepted =
     let none =
-    four-fail (has_wrong_count draft.version (length draft.names) fields word) (has_wrong_name draft fields word) (has_wrong_policy draft fields word) (has_wrong_number draft fields word)
+    four-fail (has_wrong_count draft.version (length draft.names) fields word) (has_wrong_name draft fields word) (has_wrong_policy draft fields word) (line_has_wrong_number draft fields word)
     ((has_wrong_depth draft fields word, code.Depth) ∷ (has_no_room draft fields word, code.Limit) ∷ (lacks_measure draft fields word, code.Policy) ∷ (has_many_cells draft fields word, code.Cells) ∷ (has_many_regions draft fields word, code.Nodes) ∷ []) accepted in
     record { count = none.0; name = none.1; number = none.2 }
 
@@ -93,17 +93,17 @@ HasTrees-word draft fields View has follows goes_on accepted =
     }
 HasTrees-word draft fields End has follows goes_on accepted = absurd (goes_on refl)
 
-HasTrees-line : (draft : Draft) (line : List ℕ) → HasTrees draft → line_fault draft line ≡ None → is_end line ≡ false → HasTrees (with_line draft line)
+HasTrees-line : (draft : Draft) (line : List ℕ) → HasTrees draft → draft_line_fault draft line ≡ None → is_end line ≡ false → HasTrees (with_line draft line)
 HasTrees-line draft line has accepted other = by_word (word_in draft.last line) refl
   where
     by_word : (found : Result SchemaWord Code) → word_in draft.last line ≡ found → HasTrees (with_line draft line)
     by_word (Err reason) is =
-        let refused = line_fault-none draft line reason is in
+        let refused = draft_line_fault-none draft line reason is in
         cc
     by_word (Ok word) is =
         let its : HasWord draft.last line word = HasWord-in draft.last line word is in
         let fields = fields_of (without_cr line) in
-        let judged : word_fault draft fields word ≡ None = sym (line_fault-word draft line word its) ∙ accepted in
+        let judged : word_fault draft fields word ≡ None = sym (draft_line_fault-word draft line word its) ∙ accepted in
         let goes_on : word ≢ End = other_word draft.version (length draft.names) fields word (right draft fields word judged).count (λ ends. end-one_field line other (its.named ∙ ap (λ w. Some w) ends)) in
         subst HasTrees (sym (with_line-word draft line word its)) (HasTrees-word draft fields word has its.follows goes_on judged)
 
@@ -114,14 +114,14 @@ numbered-end false wrong lacks rest none = cc
 numbered-end true true lacks rest none = cc
 numbered-end true false lacks rest none = refl
 
-schema_of_draft-trees : (draft : Draft) (line : List ℕ) → HasTrees draft → line_fault draft line ≡ None → is_end line ≡ true → All IsTree (dims_of draft)
+schema_of_draft-trees : (draft : Draft) (line : List ℕ) → HasTrees draft → draft_line_fault draft line ≡ None → is_end line ≡ true → All IsTree (dims_of draft)
 schema_of_draft-trees draft line has accepted ends =
-    let none : end_fault draft ≡ None = sym (line_fault-end draft line ends) ∙ accepted in
+    let none : end_fault draft ≡ None = sym (draft_line_fault-end draft line ends) ∙ accepted in
     dims_of-trees draft has
-    (not-false (list_all is_numbered (ended draft.nodes)) (numbered-end (may_follow draft.last End) (not (list_all is_numbered (ended draft.nodes))) (is_none (policy_among draft.measures draft.policy)) (size_fault (dims_of draft)) none))
+    (not-false (list_all is_numbered (ended draft.nodes)) (numbered-end (may_follow draft.last End) (not (list_all is_numbered (ended draft.nodes))) (is_none (policy_among draft.measures draft.policy)) (size_code (dims_of draft)) none))
 
 -- what a line does, by how it is judged
-by_line : (draft : Draft) (k : ℕ) (line : List ℕ) (lines : List (List ℕ)) (read : ReadLines) (skipped : Bool) (fault : Option Code) (ends : Bool) → line_fault draft line ≡ fault → is_end line ≡ ends → HasTrees draft
+by_line : (draft : Draft) (k : ℕ) (line : List ℕ) (lines : List (List ℕ)) (read : ReadLines) (skipped : Bool) (fault : Option Code) (ends : Bool) → draft_line_fault draft line ≡ fault → is_end line ≡ ends → HasTrees draft
     → (read_from draft (k + 1) lines ≡ Ok read → All IsTree read.schema.dims)
     → (HasTrees (with_line draft line) → read_from (with_line draft line) (k + 1) lines ≡ Ok read → All IsTree read.schema.dims)
     → (if skipped then read_from draft (k + 1) lines
@@ -139,7 +139,7 @@ by_line draft k line lines read false None false fault_is ends_is has skip more 
 read_from-trees : (draft : Draft) (k : ℕ) (lines : List (List ℕ)) (read : ReadLines) → HasTrees draft → read_from draft k lines ≡ Ok read → All IsTree read.schema.dims
 read_from-trees draft k [] read has e = cc
 read_from-trees draft k (line ∷ lines) read has e =
-    by_line draft k line lines read (is_skipped line) (line_fault draft line) (is_end line) refl refl has
+    by_line draft k line lines read (is_skipped line) (draft_line_fault draft line) (is_end line) refl refl has
     (λ e. read_from-trees draft (k + 1) lines read has e) (λ next e. read_from-trees (with_line draft line) (k + 1) lines read next e) e
 
 HasTrees-blank : HasTrees blank_draft

@@ -25,7 +25,7 @@ use Rattle.fact_records.specs.FactList.{IsAscending}
 use Rattle.fact_records.specs.Judge.{judge}
 use Rattle.fact_records.specs.Shape.{ShapeValue, width_of_all}
 use Rattle.region_algebra.specs.Space.{IsRegion, is_region}
-use Rattle.schema_text.specs.Schema.{SchemaValue, policy_in, shape_of, weigh_of}
+use Rattle.schema_text.specs.Schema.{SchemaValue, schema_policy, shape_of, weigh_of}
 use Rattle.schema_text.specs.SchemaText.{BadLine, ReadSchema, schema_of}
 use Rattle.script_text.specs.declared.line.Line.{Line}
 use Rattle.script_text.specs.declared.line.Line.TheVariants as line
@@ -49,7 +49,7 @@ use Rattle.fact_groups.specs.Edits.{given}
 use Rattle.fact_groups.proofs.Ascending.{ascends-from_pairs}
 use Rattle.fact_groups.proofs.Edits.{All-after, pairs-after}
 use Rattle.stored_state.specs.Sound.{AreGood, fact_fault, fact_told, has_wrong_id, id_before}
-use Rattle.script_run.specs.Run.{State, accepted, edited, empty_state, grown, growth, replied, rows_at, run, schema_at, step, step_from, step_of}
+use Rattle.script_run.specs.Run.{State, accepted, edit_step, empty_state, growth, growth_step, replied, rows_at, run, schema_at, step, step_from, step_of}
 use Rattle.cube_cli.specs.Trying.{script_of}
 use Rattle.cube_cli.specs.Expectations.{AddsUpAfterEachLine, AddsUpOverStore, AfterEachLine, AfterEachLineOver, AtEachRegion, ComponentsAfterEachLine, ComponentsOverStore, ExpectsAfterEachLine, ExpectsOverStore, HasComponents, HasEnds, HasTables, HoldsAroundLine, RangesAfterEachLine, RangesOverStore, Saying, StateSaying, TablesAfterEachLine, TablesOverStore, state_after, state_over_after}
 use Rattle.cube_cli.specs.SchemaAlone.{schema_alone, tail_line, without_tail}
@@ -71,28 +71,28 @@ on_given P (Change fact) here = here
 on_given P (Withdraw id) here = tt
 
 module _ (weigh : CellStat → ℕ) (schema : SchemaValue) where
-  edited-sound : (state : State) (edit : Edit) → IsSound state → OnFact (λ fact. IsRegion state.dims fact.region) (line.Edit edit) → IsSound (edited weigh schema state edit).state
-  edited-sound state edit sound here = judged (judge (policy_in weigh schema) (shape_of schema) state.dims edit state.facts)
+  edit_step-sound : (state : State) (edit : Edit) → IsSound state → OnFact (λ fact. IsRegion state.dims fact.region) (line.Edit edit) → IsSound (edit_step weigh schema state edit).state
+  edit_step-sound state edit sound here = judged (judge (schema_policy weigh schema) (shape_of schema) state.dims edit state.facts)
     where
       judged : (refusal : Option Code) → IsSound (option_map_or (λ refusal. replied state (reply.Refused refusal)) refusal (accepted weigh schema state (after edit state.facts))).state
       judged (Some refusal) = sound
       judged None = record { trees = sound.trees; named = All-after (λ f. IsRegion state.dims f.region) edit state.facts sound.named (on_given (λ f. IsRegion state.dims f.region) edit here); ordered = pairs-after edit state.facts sound.ordered }
 
   growth-sound : (state : State) (grow : Grow) → IsSound state → IsLeafOf state.dims grow → IsSound (growth weigh schema state grow).state
-  growth-sound state grow sound leaf = judged (judge_growth (policy_in weigh schema) state.dims state.facts grow) refl
+  growth-sound state grow sound leaf = judged (judge_growth (schema_policy weigh schema) state.dims state.facts grow) refl
     where
-      judged : (refusal : Option Code) → judge_growth (policy_in weigh schema) state.dims state.facts grow ≡ refusal
-          → IsSound (option_map_or (λ refusal. replied state (reply.Refused refusal)) refusal (grown weigh schema state grow)).state
+      judged : (refusal : Option Code) → judge_growth (schema_policy weigh schema) state.dims state.facts grow ≡ refusal
+          → IsSound (option_map_or (λ refusal. replied state (reply.Refused refusal)) refusal (growth_step weigh schema state grow)).state
       judged (Some refusal) is = sound
       judged None is = record {
-        trees = trees-grown state.dims grow sound.trees leaf (policy_in weigh schema) state.facts is;
+        trees = trees-grown state.dims grow sound.trees leaf (schema_policy weigh schema) state.facts is;
         named = named-grown state.dims grow sound.trees leaf state.facts sound.named;
         ordered = sound.ordered;
       }
 
   said-sound : (state : State) (said : Line) → IsSound state → OnFact (λ fact. IsRegion state.dims fact.region) said → ((grow : Grow) → said ≡ line.Grow grow → IsLeafOf state.dims grow)
       → IsSound (step_of weigh schema state said).state
-  said-sound state (line.Edit edit) sound here leaf = edited-sound state edit sound here
+  said-sound state (line.Edit edit) sound here leaf = edit_step-sound state edit sound here
   said-sound state (line.Grow grow) sound here leaf = growth-sound state grow sound (leaf grow refl)
   said-sound state line.Nothing sound here leaf = sound
   said-sound state (line.Ask asked) sound here leaf = sound
@@ -124,7 +124,7 @@ at_each_region : (Says : Saying) → IsLaw Says → IsStateLaw (AtEachRegion Say
 at_each_region Says law schema state sound = λ region named.
     let weigh = weigh_of schema.policy in
     law (width_of_all schema.measures) state.dims region (rows_at weigh schema state) sound.trees named
-    (shared-extended (policy_in weigh (schema_at schema state)) state.dims state.facts sound.trees sound.named)
+    (shared-extended (schema_policy weigh (schema_at schema state)) state.dims state.facts sound.trees sound.named)
 
 -- the laws: of expectations, of children, of ranges, of components and of tables
 expecting : IsStateLaw (AtEachRegion AreExpected)

@@ -6,7 +6,7 @@ use Rattle.drill_run.specs.Doing.{drill_of}
 use Rattle.drill_run.specs.Summary.{summary_of}
 use Rattle.fact_keeper.specs.Batch.{empty_content}
 use Rattle.fact_keeper.specs.declared.content.Stored.{Stored}
-use Rattle.schema_text.specs.Schema.{policy_in, weigh_of}
+use Rattle.schema_text.specs.Schema.{schema_policy, weigh_of}
 use Rattle.schema_text.specs.declared.word.PolicyWord.{PolicyWord}
 use Rattle.stored_state.specs.Sound.{facts_told}
 use Rattle.script_run.specs.Kept.{Commits}
@@ -31,11 +31,11 @@ use Rattle.cube_cli.proofs.Known.{of_any, of_given}
 module _ (seen : SeenAll) (unread : WasNotRead seen.source) (uncalled : WasNotCalled seen.keeper) where
   -- the text that tells of a cube was to be written
   pub told : {T : Type 0} (telling : Telling) (cube : CubeValue PolicyWord) (content : Stored) → IsCubeOf cube content → Holds seen.keeper (λ kept. content ≡ kept) → (result : Result T SinkError)
-      → WritesText (text_told telling (policy_in (weigh_of cube.policy) cube.schema) cube.schema cube.facts) seen.sink result → SaysOf (Some (Store (Tell telling))) seen (end_of_write result 0 0)
+      → WritesText (text_told telling (schema_policy (weigh_of cube.policy) cube.schema) cube.schema cube.facts) seen.sink result → SaysOf (Some (Store (Tell telling))) seen (end_of_write result 0 0)
   told telling cube content is given result text =
       let fitting : Holds seen.keeper IsSoundContent = of_given seen.keeper.told.content content IsSoundContent given (sound_content content cube.schema is.holds.schema_is is.sound) in
       let goes : GoesOn false false true IsSoundContent content [] seen = record { content_is = given; fitting = fitting; input_is = refl; unread = λ no. unread.read; unkept = λ no. uncalled.kept; read = unread.count } in
-      let work_is : telling_work telling [] content ≡ text_work (text_told telling (policy_in (weigh_of cube.policy) cube.schema) cube.schema cube.facts) =
+      let work_is : telling_work telling [] content ≡ text_work (text_told telling (schema_policy (weigh_of cube.policy) cube.schema) cube.schema cube.facts) =
       work_with content cube.schema (λ schema. text_work (text_told telling (policy_of schema) schema (facts_told content))) is.holds.schema_is ∙ sym (ap text_work (text_same telling cube content is)) in
       written (ends_of (Some (Store (Tell telling)))) false true false true 0 0 (telling_work telling) IsSoundContent seen content [] goes result refl refl refl uncalled.count
       (record {

@@ -23,7 +23,7 @@ use Rattle.cube_cli.specs.declared.end.End.{End}
 use Rattle.cube_cli.specs.declared.end.End.TheVariants as ends
 use Rattle.cube_cli.specs.declared.store.InputTask.TheVariants.{Run, Import, Lead}
 use Rattle.cube_cli.specs.declared.telling.Telling.{Telling}
-use Rattle.cube_cli.specs.Files.{import_batch, imported_line, mending_batches, rebuilt_line, refused_file, refused_over, rows_with, text_told}
+use Rattle.cube_cli.specs.Files.{import_batch, imported_line, mending_batches, rebuilt_line, refused_file, refused_over, row_count_with_file, text_told}
 use Rattle.cube_cli.specs.Kinds.{EndKind, Finished, Usage, Schema, NoCube, HasCube, BadStore, BadFacts, ReadFault, WriteFault, KeepFault, Memory, TooLong, BadRecord, ImportRows, BadFeed, Order, Base, Differs}
 use Rattle.cube_cli.specs.RunEnd.{end_of_feed}
 use Rattle.cube_cli.specs.SchemaAlone.{schema_alone}
@@ -176,7 +176,7 @@ init_work input content = record {
 -- a file of facts, put into those of a content whose schema is read
 abbrev pub file_work : Policy → SchemaValue → List Fact → List ℕ → OneWork
 file_work policy schema facts file = record {
-  refusal = refused_file (refused_over schema facts file) (rows_with policy schema facts file);
+  refusal = refused_file (refused_over schema facts file) (row_count_with_file policy schema facts file);
   text = imported_line policy schema facts file;
   kept = import_batch policy schema facts file ∷ [];
 }

@@ -20,11 +20,11 @@ two_cities policy measures =
 abbrev pub texas : List ℕ
 texas = two_cities (codes "uniform" ∷ []) []
 
-abbrev pub graded : List ℕ
-graded = two_cities (codes "uniform" ∷ []) (line_text (codes "parts") (codes "Quality" ∷ codes "100" ∷ codes "good" ∷ codes "bad" ∷ []))
+abbrev pub graded_text : List ℕ
+graded_text = two_cities (codes "uniform" ∷ []) (line_text (codes "parts") (codes "Quality" ∷ codes "100" ∷ codes "good" ∷ codes "bad" ∷ []))
 
-abbrev pub weighed : List ℕ
-weighed = two_cities (codes "weight" ∷ codes "Hours" ∷ []) (line_text (codes "number") (codes "Hours" ∷ []))
+abbrev pub weighed_text : List ℕ
+weighed_text = two_cities (codes "weight" ∷ codes "Hours" ∷ []) (line_text (codes "number") (codes "Hours" ∷ []))
 
 -- a fact in a city, one somewhere in the state, and the count at the city
 abbrev pub city_and_state : List ℕ
@@ -65,7 +65,7 @@ refused_and_skipped_replies =
 -- a fact in a city with its parts, one somewhere in the state, parts that do not add up to 100, and the parts at the city
 abbrev pub parts_of_outcomes : List ℕ
 parts_of_outcomes =
-    graded
+    graded_text
     ++ line_text (codes "insert") (codes "1" ∷ codes "Austin" ∷ codes "80:20" ∷ [])
     ++ line_text (codes "insert") (codes "2" ∷ codes "TX" ∷ codes "50:50" ∷ [])
     ++ line_text (codes "insert") (codes "3" ∷ codes "TX" ∷ codes "80:21" ∷ [])
@@ -82,7 +82,7 @@ parts_of_outcomes_replies =
 -- three hours in a city, one in the other, some in the state, hours below 0, and how the state's fact is spread
 abbrev pub hours : List ℕ
 hours =
-    weighed
+    weighed_text
     ++ line_text (codes "insert") (codes "1" ∷ codes "Austin" ∷ codes "3" ∷ [])
     ++ line_text (codes "insert") (codes "2" ∷ codes "Dallas" ∷ codes "1" ∷ [])
     ++ line_text (codes "insert") (codes "3" ∷ codes "TX" ∷ codes "5" ∷ [])
@@ -143,13 +143,13 @@ told_in_fractions_replies =
     ++ line_text (codes "error") (codes "measure" ∷ [])
 
 -- with a number, where cities weigh as much as they have facts
-abbrev pub counted : List ℕ
-counted = two_cities (codes "count" ∷ []) (line_text (codes "number") (codes "Hours" ∷ []))
+abbrev pub counted_text : List ℕ
+counted_text = two_cities (codes "count" ∷ []) (line_text (codes "number") (codes "Hours" ∷ []))
 
 -- two facts in a city, one in the other, and one somewhere in the state: all worlds of these at the first city
 abbrev pub listed_worlds : List ℕ
 listed_worlds =
-    counted
+    counted_text
     ++ line_text (codes "insert") (codes "1" ∷ codes "Austin" ∷ codes "100" ∷ [])
     ++ line_text (codes "insert") (codes "2" ∷ codes "Austin" ∷ codes "300" ∷ [])
     ++ line_text (codes "insert") (codes "3" ∷ codes "Dallas" ∷ codes "50" ∷ [])

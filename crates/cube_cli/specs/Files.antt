@@ -52,28 +52,28 @@ abbrev pub seq_of : SchemaValue → List ℕ → FactSeq
 seq_of schema file = facts_in schema (records_of file)
 
 -- facts with those of a file
-abbrev pub facts_with : SchemaValue → List Fact → List ℕ → List Fact
-facts_with schema facts file = put_all (seq_of schema file).facts facts
+abbrev pub facts_with_file : SchemaValue → List Fact → List ℕ → List Fact
+facts_with_file schema facts file = put_all (seq_of schema file).facts facts
 
 -- the first record of a file that is refused over facts
 abbrev pub refused_over : SchemaValue → List Fact → List ℕ → Option RecordAt
 refused_over schema facts file = refused_in (shape_of schema) schema.dims facts (seq_of schema file)
 
 -- how many rows all of them have
-abbrev pub rows_with : Policy → SchemaValue → List Fact → List ℕ → ℕ
-rows_with policy schema facts file = row_count (extended policy schema.dims (facts_with schema facts file))
+abbrev pub row_count_with_file : Policy → SchemaValue → List Fact → List ℕ → ℕ
+row_count_with_file policy schema facts file = row_count (extended policy schema.dims (facts_with_file schema facts file))
 
 -- the batch of a file, and the reply to it: the number of its facts, and how many facts are new or have another allocation than before
 abbrev pub import_batch : Policy → SchemaValue → List Fact → List ℕ → Batch
 import_batch policy schema facts file = difference_with policy schema.dims (seq_of schema file).facts facts
 
 abbrev pub imported_line : Policy → SchemaValue → List Fact → List ℕ → List ℕ
-imported_line policy schema facts file = count_line (codes "imported") (length (seq_of schema file).facts) (length (refreshed policy schema.dims facts (facts_with schema facts file)))
+imported_line policy schema facts file = count_line (codes "imported") (length (seq_of schema file).facts) (length (refreshed policy schema.dims facts (facts_with_file schema facts file)))
 
 -- No record of a file is refused, and there are not too many rows.
 pub record IsAccepted (policy : Policy) (schema : SchemaValue) (facts : List Fact) (file : List ℕ) : Type 0 where
   pub accepted : refused_over schema facts file ≡ None
-  pub few : rows_with policy schema facts file ≤ MAX_ROWS
+  pub few : row_count_with_file policy schema facts file ≤ MAX_ROWS
 
 -- the end of a file that is not accepted: its first record that is refused, or else the number of rows that would be too many
 abbrev pub refused_file : Option RecordAt → ℕ → Option End

@@ -25,9 +25,9 @@ Gathers made waiting sink (Ok _) = OnItsWay made waiting sink
 Gathers {T = T} made waiting sink (Err error) = WritesText {T = T} made sink (Err error)
 
 -- what was made may go on, or it was not written, where more was to come
-abbrev pub MakesRoom : {T : Type 0} → List ℕ → List ℕ → List ℕ → SinkSeen → Result T SinkError → Type 0
-MakesRoom made next waiting sink (Ok _) = OnItsWay made waiting sink
-MakesRoom {T = T} made next waiting sink (Err error) = WritesText {T = T} (made ++ next) sink (Err error)
+abbrev pub MakesRoomForMore : {T : Type 0} → List ℕ → List ℕ → List ℕ → SinkSeen → Result T SinkError → Type 0
+MakesRoomForMore made next waiting sink (Ok _) = OnItsWay made waiting sink
+MakesRoomForMore {T = T} made next waiting sink (Err error) = WritesText {T = T} (made ++ next) sink (Err error)
 
 -- a fact with its rows, which are those of its id among all
 pub record IsRowsOf (all : List ExtendedFact) (fact : Fact) (whole : ExtendedFact) : Type 0 where

@@ -28,7 +28,7 @@ WritesText text sink (Err Failed) = WriteFailed sink × TakesPart sink.taken sin
 WritesText text sink (Err Memory) = NoWriteFault sink × (WroteNothing sink ⊎ TakesPart sink.taken sink.taken_after text)
 
 -- A store was loaded: this is its content, in which there is something, and the schema that its text holds alone.
-pub record Opened (schema : SchemaValue) (content : Stored) (keeper : KeeperSeen) : Type 0 where
+pub record OpenedWith (schema : SchemaValue) (content : Stored) (keeper : KeeperSeen) : Type 0 where
   pub told : Holds keeper (λ kept. content ≡ kept)
   pub schema_is : schema_alone content.schema ≡ Ok schema
   pub some : content ≢ empty_content

@@ -2,13 +2,13 @@
 ghost use Rattle.std.specs.Prelude.{◌≡◌, ◌≤◌, ◌++◌, ◌∷◌, [], List, ℕ, length, IfErr, IfOk, OnOk};
 ghost use Rattle.cube_base.specs.Outside.{SinkTold};
 ghost use Rattle.cube_base.specs.declared.fault.SinkError.TheVariants as sink_error;
-ghost use Rattle.cube_core.specs.Cube.{rows_in};
+ghost use Rattle.cube_core.specs.Cube.{cube_rows};
 ghost use Rattle.cube_model.specs.Allocation.{ExtendedFact};
 ghost use Rattle.csv_facts.specs.ExtendedRow.{extended_text};
 ghost use Rattle.fact_records.specs.Valid.{IsFactOf};
 ghost use Rattle.schema_text.specs.Schema.{shape_of, weigh_of};
 ghost use Rattle.script_run.specs.Seen.{sink_seen};
-ghost use Rattle.cube_cli.specs.Rows.{Gathers, IsRowsOf, MakesRoom, OnItsWay, since};
+ghost use Rattle.cube_cli.specs.Rows.{Gathers, IsRowsOf, MakesRoomForMore, OnItsWay, since};
 ghost use Rattle.cube_cli.specs.Steps.{WritesText};
 
 use crate::saying::write_line;
@@ -31,7 +31,7 @@ pub fn write_all_rows<K: Sink>(
     cube: &Cube<PolicyWord>,
     out: &mut K,
 ) -> Result<(), SinkError>
-    ensures { WritesText (extended_text cube.now.schema (rows_in weigh_of cube.now)) (sink_seen K.tells out.old out.new) result }
+    ensures { WritesText (extended_text cube.now.schema (cube_rows weigh_of cube.now)) (sink_seen K.tells out.old out.new) result }
 {
     let mut text = Vec::new(alloc);
     let header = write_rows_header(alloc, cube.schema());
@@ -52,7 +52,7 @@ fn gather_all<K: Sink>(
     out: &mut K,
 ) -> Result<(), SinkError>
     ensures { (start : SinkTold) → OnItsWay (extended_text cube.now.schema []) text.old.items (since start (K.tells out.old)) →
-        Gathers (extended_text cube.now.schema (rows_in weigh_of cube.now)) text.new.items (since start (K.tells out.new)) result }
+        Gathers (extended_text cube.now.schema (cube_rows weigh_of cube.now)) text.new.items (since start (K.tells out.new)) result }
 {
     for fact in cube.facts().iter() {
         if let Err(error) = gather_fact(alloc, cube, fact, text, out) {
@@ -71,7 +71,7 @@ fn gather_fact<K: Sink>(
     out: &mut K,
 ) -> Result<(), SinkError>
     requires { IsFactOf (shape_of cube.now.schema) cube.now.schema.dims fact.now }
-    ensures { (start : SinkTold) (before : List ExtendedFact) (whole : ExtendedFact) → IsRowsOf (rows_in weigh_of cube.now) fact.now whole
+    ensures { (start : SinkTold) (before : List ExtendedFact) (whole : ExtendedFact) → IsRowsOf (cube_rows weigh_of cube.now) fact.now whole
         → OnItsWay (extended_text cube.now.schema before) text.old.items (since start (K.tells out.old)) →
         Gathers (extended_text cube.now.schema (before ++ whole ∷ [])) text.new.items (since start (K.tells out.new)) result }
 {
@@ -113,7 +113,7 @@ fn gather<K: Sink>(
 // Writes what waits where it would be long with so many bytes more.
 fn make_room<K: Sink>(text: &mut Vec<u8>, more: usize, out: &mut K) -> Result<(), SinkError>
     ensures { (start : SinkTold) (made next : List ℕ) → 1 ≤ length next → OnItsWay made text.old.items (since start (K.tells out.old)) →
-        MakesRoom made next text.new.items (since start (K.tells out.new)) result }
+        MakesRoomForMore made next text.new.items (since start (K.tells out.new)) result }
 {
     if text.len().saturating_add(more) <= GATHERED {
         return Ok(());

@@ -13,7 +13,7 @@ ghost use Rattle.cube_cli.specs.End.{SaysOf};
 ghost use Rattle.cube_cli.specs.Loaded.{LoadedOnce, NamedAt, OpenedBy};
 ghost use Rattle.cube_cli.specs.Seen.{Holds};
 ghost use Rattle.cube_cli.specs.RunEnd.{load_fault_of};
-ghost use Rattle.cube_cli.specs.Steps.{HoldsSchema, IsCubeOf, NotOpened, Opened};
+ghost use Rattle.cube_cli.specs.Steps.{HoldsSchema, IsCubeOf, NotOpened, OpenedWith};
 
 use crate::End;
 use crate::importing::import_file;
@@ -75,7 +75,7 @@ pub fn open_store<Q: Keeper>(
     name: &str,
     keeper: &mut Q,
 ) -> Result<(Schema, Stored), OpenStop>
-    ensures opened { IfOk result (λ store. Opened store.0 store.1 (keeper_seen Q.tells keeper.old keeper.new)) }
+    ensures opened { IfOk result (λ store. OpenedWith store.0 store.1 (keeper_seen Q.tells keeper.old keeper.new)) }
     ensures open { IfOk result (λ _. IsTrue (Q.tells keeper.new).is_open) }
     ensures open_empty { IfErr result (λ stop. stop ≡ open_stop.NoCube → IsTrue (Q.tells keeper.new).is_open) }
     ensures not_opened { IfErr result (NotOpened (keeper_seen Q.tells keeper.old keeper.new)) }

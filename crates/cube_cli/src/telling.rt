@@ -1,6 +1,6 @@
 //! The commands that report what a store holds.
 ghost use Rattle.std.specs.Prelude.{◌≡◌, Some};
-ghost use Rattle.schema_text.specs.Schema.{policy_in, weigh_of};
+ghost use Rattle.schema_text.specs.Schema.{schema_policy, weigh_of};
 ghost use Rattle.script_run.specs.Seen.{KeeperSeen, SourceSeen, keeper_seen, sink_seen};
 ghost use Rattle.cube_cli.specs.declared.command.Command.TheVariants as command;
 ghost use Rattle.cube_cli.specs.declared.command.StoreCommand.TheVariants as store_command;
@@ -84,7 +84,7 @@ fn write_told<K: Sink>(
     cube: &Cube<PolicyWord>,
     out: &mut K,
 ) -> Result<(), SinkError>
-    ensures { WritesText (text_told telling (policy_in (weigh_of cube.now.policy) cube.now.schema) cube.now.schema cube.now.facts) (sink_seen K.tells out.old out.new) result }
+    ensures { WritesText (text_told telling (schema_policy (weigh_of cube.now.policy) cube.now.schema) cube.now.schema cube.now.facts) (sink_seen K.tells out.old out.new) result }
 {
     match telling {
         Telling::Check => {

@@ -11,7 +11,7 @@ use Rattle.cube_model.specs.Allocation.{Policy, extended, row_count}
 use Rattle.cube_model.specs.Limits.{MAX_ROWS}
 use Rattle.cube_model.specs.Tree.{Dimension}
 use Rattle.cube_state.specs.State.{HasFacts, StateValue, policy_in}
-use Rattle.edit_plan.specs.Whole.{IsAllFaultOf, facts_with, rows_with}
+use Rattle.edit_plan.specs.Whole.{IsAllFaultOf, facts_with_new, rows_with_new}
 use Rattle.edit_plan.specs.declared.fault.PlanAllFault.{PlanAllFault}
 use Rattle.edit_plan.specs.declared.fault.PlanAllFault.TheVariants as plan_all_fault
 use Rattle.fact_records.specs.Accepted.{region_refusal}
@@ -19,7 +19,7 @@ use Rattle.fact_records.specs.New.{AreNew, put_all}
 use Rattle.fact_records.specs.Shape.{ShapeValue, policy_over}
 use Rattle.fact_records.specs.Valid.{AreValid, IsValid}
 use Rattle.cube_core.specs.Growth.{has_large_region}
-use Rattle.cube_core.specs.Respread.{IsOver, IsRespreadFault, KeepRegions, facts_refusal, fault_of_plan_all}
+use Rattle.cube_core.specs.Respread.{IsRespreadFault, IsStateOver, KeepRegions, facts_refusal, fault_of_plan_all}
 use Rattle.cube_core.proofs.Respreading.{new-anew, put-anew}
 
 -- where no fact is too large, their rows alone may be too many
@@ -56,13 +56,13 @@ pub record IsFresh {P : Type 0} (later : List Dimension) (state fresh : StateVal
   pub facts : fresh.facts ≡ []
 
 module _ {P : Type 0} (weigh : P → CellStat → ℕ) (later : List Dimension) (state fresh : StateValue P) (is : IsFresh later state fresh) (valid : AreValid state.shape state.dims state.facts) (run : List Fact) (all : run ≡ state.facts) where
-  facts-same : facts_with fresh run ≡ state.facts
+  facts-same : facts_with_new fresh run ≡ state.facts
   facts-same = ap (put_all run) is.facts ∙ ap (λ fs. put_all fs []) all ∙ put-anew state.facts valid.ascending
 
   policy-same : policy_in weigh fresh ≡ policy_in weigh state
   policy-same = ap (λ p. policy_over (weigh p) fresh.shape) is.policy ∙ ap (policy_over (weigh state.policy)) is.shape
 
-  rows-same : row_count (rows_with weigh fresh run) ≡ row_count (extended (policy_in weigh state) later state.facts)
+  rows-same : row_count (rows_with_new weigh fresh run) ≡ row_count (extended (policy_in weigh state) later state.facts)
   rows-same =
       ap (λ fs. row_count (extended (policy_in weigh fresh) fresh.dims fs)) facts-same
       ∙ ap (λ dims. row_count (extended (policy_in weigh fresh) dims state.facts)) is.dims
@@ -79,7 +79,7 @@ module _ {P : Type 0} (weigh : P → CellStat → ℕ) (later : List Dimension) 
         (subst (AreNew state.shape later []) (sym all) over)))
 
     -- and are accepted, or have too many rows
-    pub few-told : row_count (rows_with weigh fresh run) ≤ MAX_ROWS → facts_refusal (policy_in weigh state) later state.facts ≡ None
+    pub few-told : row_count (rows_with_new weigh fresh run) ≤ MAX_ROWS → facts_refusal (policy_in weigh state) later state.facts ≡ None
     few-told few = none-refused (policy_in weigh state) later state.facts small (subst (λ n. n ≤ MAX_ROWS) rows-same few)
 
     pub fault-told : (fault : PlanAllFault) → IsAllFaultOf weigh fresh run fault → IsRespreadFault weigh state later (fault_of_plan_all fault)
@@ -89,7 +89,7 @@ module _ {P : Type 0} (weigh : P → CellStat → ℕ) (later : List Dimension) 
     fault-told plan_all_fault.Memory told = tt
 
   -- with them it is the other over the dimensions
-  pub over-told : (leaves : List Fact) (new : StateValue P) → leaves ≡ facts_with fresh run → HasFacts leaves fresh new → IsOver later state new
+  pub over-told : (leaves : List Fact) (new : StateValue P) → leaves ≡ facts_with_new fresh run → HasFacts leaves fresh new → IsStateOver later state new
   over-told leaves new leaves_are has = record {
     policy = has.policy ∙ is.policy;
     dims = has.dims ∙ is.dims;

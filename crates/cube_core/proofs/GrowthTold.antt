@@ -7,15 +7,14 @@ use Rattle.cube_model.specs.declared.statistic.CellStat.{CellStat}
 use Rattle.cube_model.specs.Accepted.{first_refusal, has_many_rows}
 use Rattle.cube_model.specs.Allocation.{Policy, extended}
 use Rattle.cube_model.specs.Tree.{Dimension}
-use Rattle.cube_state.specs.State.{StateValue}
-use Rattle.cube_state.specs.State.{policy_in as state_policy_in}
+use Rattle.cube_state.specs.State.{StateValue, policy_in}
 use Rattle.fact_keeper.specs.declared.content.Batch.{Batch}
 use Rattle.fact_keeper.specs.declared.keeper.KeepError.{KeepError}
 use Rattle.fact_keeper.specs.declared.keeper.KeepError.TheVariants as keep_error
 use Rattle.fact_keeper.specs.Keeper.{CountsKeepFault}
 use Rattle.fact_records.specs.Shape.{ShapeValue}
 use Rattle.schema_text.specs.Growth.{dims_with}
-use Rattle.schema_text.specs.Schema.{SchemaValue, over_dims, policy_in}
+use Rattle.schema_text.specs.Schema.{SchemaValue, over_dims, schema_policy}
 use Rattle.cube_model.specs.declared.tree.Grow.{Grow}
 use Rattle.cube_core.specs.Cube.{CountsEditFault, CubeValue, IsStateOf, fault_of_keeper}
 use Rattle.cube_core.specs.Growth.{IsGrowthFaultOf, growth_difference_in, has_large_region, judge_growth, judge_growth_in, moved, moved_in, space_refusal}
@@ -42,25 +41,25 @@ module _ {P : Type 0} (weigh : P → CellStat → ℕ) (schema : SchemaValue) (s
     (later : SchemaValue)
     (is : later ≡ over_dims schema (dims_with grow schema.dims)) where
   -- the facts are judged as the state judges them
-  pub none-judged : space_refusal schema.dims grow ≡ None → facts_refusal (state_policy_in weigh state) later.dims state.facts ≡ None → judge_growth_in weigh cube grow ≡ None
+  pub none-judged : space_refusal schema.dims grow ≡ None → facts_refusal (policy_in weigh state) later.dims state.facts ≡ None → judge_growth_in weigh cube grow ≡ None
   none-judged accepted told =
       ap (λ (c : CubeValue P). judge_growth_in weigh c grow) (sym same)
-      ∙ judged-facts (policy_in (weigh state.policy) schema) schema.dims state.facts grow accepted
+      ∙ judged-facts (schema_policy (weigh state.policy) schema) schema.dims state.facts grow accepted
       ∙ sym (all-same weigh schema state of (λ (p : Policy) (shape : ShapeValue) dims. facts_refusal p (dims_with grow schema.dims) state.facts))
-      ∙ ap (λ (s : SchemaValue). facts_refusal (state_policy_in weigh state) s.dims state.facts) (sym is)
+      ∙ ap (λ (s : SchemaValue). facts_refusal (policy_in weigh state) s.dims state.facts) (sym is)
       ∙ told
 
   -- what it refreshes, and what it changes of what is kept
-  pub moved-told : (ids : List ℕ) → ids ≡ moved (state_policy_in weigh state) state.dims later.dims state.facts → ids ≡ moved_in weigh cube grow
+  pub moved-told : (ids : List ℕ) → ids ≡ moved (policy_in weigh state) state.dims later.dims state.facts → ids ≡ moved_in weigh cube grow
   moved-told ids told =
       told
-      ∙ ap (λ (s : SchemaValue). moved (state_policy_in weigh state) state.dims s.dims state.facts) is
+      ∙ ap (λ (s : SchemaValue). moved (policy_in weigh state) state.dims s.dims state.facts) is
       ∙ all-same weigh schema state of (λ (p : Policy) (shape : ShapeValue) dims. moved p dims (dims_with grow schema.dims) state.facts)
       ∙ ap (λ (c : CubeValue P). moved_in weigh c grow) same
 
-  pub batch-told : (batch : Batch) → batch ≡ batch_to (state_policy_in weigh state) state.dims later state.facts → batch ≡ growth_difference_in weigh cube grow
+  pub batch-told : (batch : Batch) → batch ≡ batch_to (policy_in weigh state) state.dims later state.facts → batch ≡ growth_difference_in weigh cube grow
   batch-told batch told =
       told
-      ∙ ap (λ (s : SchemaValue). batch_to (state_policy_in weigh state) state.dims s state.facts) is
+      ∙ ap (λ (s : SchemaValue). batch_to (policy_in weigh state) state.dims s state.facts) is
       ∙ all-same weigh schema state of (λ (p : Policy) (shape : ShapeValue) dims. batch_to p dims (over_dims schema (dims_with grow schema.dims)) state.facts)
       ∙ ap (λ (c : CubeValue P). growth_difference_in weigh c grow) same

@@ -22,7 +22,7 @@ use Rattle.fact_groups.proofs.Ascending.{ascends-from_pairs}
 use Rattle.fact_keeper.specs.declared.content.KeptRows.{KeptRows}
 use Rattle.fact_records.specs.Shape.{policy_over}
 use Rattle.cube_core.specs.Growth.{lies_the_same, moved}
-use Rattle.cube_core.specs.Respread.{IsOver, all_moved, ids_moved, rows_moved}
+use Rattle.cube_core.specs.Respread.{IsStateOver, all_moved, ids_moved, rows_moved}
 
 module _ (policy : Policy) (dims later : List Dimension) (facts : List Fact) where
   abbrev otherwise : Fact → Bool
@@ -108,7 +108,7 @@ module _ (policy : Policy) (dims later : List Dimension) (facts : List Fact) whe
     rows-moved = rows-some facts (find-itself facts up)
 
 -- the fact of an id in a state, and in one that is the same over later dimensions
-module _ {P : Type 0} (weigh : P → CellStat → ℕ) (state later : StateValue P) (over : IsOver later.dims state later) (fact : Fact) (there : find (λ f. f.id == fact.id) state.facts ≡ Some fact) where
+module _ {P : Type 0} (weigh : P → CellStat → ℕ) (state later : StateValue P) (over : IsStateOver later.dims state later) (fact : Fact) (there : find (λ f. f.id == fact.id) state.facts ≡ Some fact) where
   policy_same : policy_in weigh later ≡ policy_in weigh state
   policy_same = ap (λ p. policy_over (weigh p) later.shape) over.policy ∙ ap (policy_over (weigh state.policy)) over.shape
 

@@ -15,7 +15,7 @@ use Rattle.fact_records.specs.FactList.{IsAscending}
 use Rattle.fact_records.specs.Shape.{width_of_all}
 use Rattle.schema_text.specs.Schema.{IsSchema, SchemaValue, shape_of}
 use Rattle.world_law.specs.declared.placed.Placed.{Placed}
-use Rattle.world_law.specs.Placed.{IsPlaced, placed_of}
+use Rattle.world_law.specs.Placed.{IsPlacedFact, placed_of}
 use Rattle.cube_core.specs.Cube.{AreFactsOf}
 use Rattle.cube_core.proofs.Moderation.{small_values}
 use Rattle.cube_core.proofs.Rows.{AreRows-allocation, allocation-le, extended-among, few_cells, rows_among}
@@ -111,7 +111,7 @@ module _ (policy : Policy) (schema : SchemaValue) (facts : List Fact) (valid : A
           small = values.small;
         }
 
-    pub placed-fit : (placed : List Placed) → placed ≡ map placed_of (extended policy schema.dims facts) → All IsAllocated placed → All (IsPlaced schema.dims columns) placed
+    pub placed-fit : (placed : List Placed) → placed ≡ map placed_of (extended policy schema.dims facts) → All IsAllocated placed → All (IsPlacedFact schema.dims columns) placed
     placed-fit placed all allocated =
         let fit : All (IsFitting columns) placed = rw (all, placed-among) (All-map (IsFitting columns) placed_of (map row facts) (All-map (λ (e : ExtendedFact). IsFitting columns (placed_of e)) row facts fitting)) in
         λ k d lt. let is = fit k d lt in record { allocation = allocated k d lt; cells = is.cells; few = is.few; width = is.width; small = is.small }

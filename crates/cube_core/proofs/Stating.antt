@@ -10,11 +10,10 @@ use Rattle.fact_keeper.specs.declared.content.Batch.{Batch}
 use Rattle.fact_records.specs.Shape.{ShapeValue, policy_over, width_of_all}
 use Rattle.fact_records.specs.Valid.{AreValid}
 use Rattle.edit_plan.specs.Plan.{difference}
-use Rattle.cube_state.specs.State.{StateValue}
-use Rattle.cube_state.specs.State.{policy_in as state_policy_in, terms_in as state_terms_in}
+use Rattle.cube_state.specs.State.{StateValue, policy_in, terms_in}
 use Rattle.edit_plan.specs.Whole.{difference_with}
-use Rattle.schema_text.specs.Schema.{SchemaValue, policy_in, shape_of}
-use Rattle.cube_core.specs.Cube.{AreFactsOf, CubeValue, IsStateOf, answer_in, difference_in}
+use Rattle.schema_text.specs.Schema.{SchemaValue, schema_policy, shape_of}
+use Rattle.cube_core.specs.Cube.{AreFactsOf, CubeValue, IsStateOf, cube_answer, difference_in}
 use Rattle.cube_core.specs.Import.{import_difference_in}
 
 -- the cube of a schema and a state
@@ -23,21 +22,21 @@ cube_of schema state = record { policy = state.policy; schema = schema; facts = 
 
 module _ {P : Type 0} (weigh : P → CellStat → ℕ) (schema : SchemaValue) (state : StateValue P) (of : IsStateOf schema state) where
   abbrev policy : Policy
-  policy = policy_in (weigh state.policy) schema
+  policy = schema_policy (weigh state.policy) schema
 
   -- what is made of a policy, the measures and the dimensions
-  pub all-same : {X : Type 0} (f : Policy → ShapeValue → List Dimension → X) → f (state_policy_in weigh state) state.shape state.dims ≡ f policy (shape_of schema) schema.dims
+  pub all-same : {X : Type 0} (f : Policy → ShapeValue → List Dimension → X) → f (policy_in weigh state) state.shape state.dims ≡ f policy (shape_of schema) schema.dims
   all-same f =
       ap (λ (p : Policy). f p state.shape state.dims) (ap (policy_over (weigh state.policy)) of.shape_is) ∙ ap (λ shape. f policy shape state.dims) of.shape_is ∙ ap (λ dims. f policy (shape_of schema) dims) of.dims_are
 
-  pub terms-same : (region : List ℕ) → state_terms_in weigh state region ≡ record { columns = width_of_all schema.measures + 1; terms = answer_in weigh (cube_of schema state) region }
+  pub terms-same : (region : List ℕ) → terms_in weigh state region ≡ record { columns = width_of_all schema.measures + 1; terms = cube_answer weigh (cube_of schema state) region }
   terms-same region = all-same (λ (p : Policy) shape dims. record { columns = width_of_all shape.measures + 1; terms = answer (width_of_all shape.measures) dims (extended p dims state.facts) region })
 
   -- the batch of a plan is what an edit changes, and what new facts do
-  pub difference-told : (cube : CubeValue P) → cube_of schema state ≡ cube → (edit : Edit) (batch : Batch) → batch ≡ difference (state_policy_in weigh state) state.dims edit state.facts → batch ≡ difference_in weigh cube edit
+  pub difference-told : (cube : CubeValue P) → cube_of schema state ≡ cube → (edit : Edit) (batch : Batch) → batch ≡ difference (policy_in weigh state) state.dims edit state.facts → batch ≡ difference_in weigh cube edit
   difference-told cube is edit batch planned = planned ∙ all-same (λ (p : Policy) (shape : ShapeValue) dims. difference p dims edit state.facts) ∙ ap (λ c. difference_in weigh c edit) is
 
-  pub import-told : (cube : CubeValue P) → cube_of schema state ≡ cube → (new : List Fact) (batch : Batch) → batch ≡ difference_with (state_policy_in weigh state) state.dims new state.facts → batch ≡ import_difference_in weigh cube new
+  pub import-told : (cube : CubeValue P) → cube_of schema state ≡ cube → (new : List Fact) (batch : Batch) → batch ≡ difference_with (policy_in weigh state) state.dims new state.facts → batch ≡ import_difference_in weigh cube new
   import-told cube is new batch planned = planned ∙ all-same (λ (p : Policy) (shape : ShapeValue) dims. difference_with p dims new state.facts) ∙ ap (λ c. import_difference_in weigh c new) is
 
   pub valid-same : AreValid state.shape state.dims state.facts → AreFactsOf schema state.facts

@@ -17,12 +17,11 @@ use Rattle.group_sum.specs.Terms.{TermList}
 use Rattle.region_algebra.specs.Space.{IsRegion}
 use Rattle.schema_text.specs.Schema.{IsSchema, SchemaValue, shape_of}
 use Rattle.view_store.specs.Cuts.{entries_of}
-use Rattle.cube_state.specs.State.{StateValue}
-use Rattle.cube_state.specs.State.{terms_in as state_terms_in}
+use Rattle.cube_state.specs.State.{StateValue, terms_in}
 use Rattle.cube_state.specs.Tables.{table_at, table_regions}
 use Rattle.cube_state.proofs.TableLaw.{tables-merge}
-use Rattle.cube_core.specs.Cube.{AreFactsOf, CubeValue, IsStateOf, answer_in, rows_in, rows_over}
-use Rattle.cube_core.specs.View.{table_over, terms_in}
+use Rattle.cube_core.specs.Cube.{AreFactsOf, CubeValue, IsStateOf, cube_answer, cube_rows, rows_over}
+use Rattle.cube_core.specs.View.{cube_terms, table_over}
 use Rattle.cube_core.proofs.Moderation.{answer-moderate, few-rows, small-rows}
 use Rattle.cube_core.proofs.Stating.{all-same, cube_of, terms-same, valid-same}
 
@@ -53,7 +52,7 @@ pub record AreTabled {P : Type 0} (weigh : P → CellStat → ℕ) (cube : CubeV
   pub columns : All (λ entry. entry.1.columns ≡ width_of_all cube.schema.measures + 1) list
   pub some : All (λ entry. 1 ≤ length entry.1.terms) list
   pub moderate : All (λ entry. IsModerate entry.1.terms) list
-  pub merged : merge_all (width_of_all cube.schema.measures) (map (λ entry. entry.1.terms) list) ≡ answer_in weigh cube region
+  pub merged : merge_all (width_of_all cube.schema.measures) (map (λ entry. entry.1.terms) list) ≡ cube_answer weigh cube region
 
 module _ {P : Type 0} (weigh : P → CellStat → ℕ) (schema : SchemaValue) (state : StateValue P) (of : IsStateOf schema state) (bound : (s : CellStat) → IsStat s → weigh state.policy s ≤ 1 + s.count * MAX_VALUE)
     (is : IsSchema schema) (valid : AreValid state.shape state.dims state.facts) (depths region : List ℕ) where
@@ -65,15 +64,15 @@ module _ {P : Type 0} (weigh : P → CellStat → ℕ) (schema : SchemaValue) (s
       all-same weigh schema state of (λ (p : Policy) (shape : ShapeValue) (dims : List Dimension).
       entries_of (λ r. record { columns = width_of_all shape.measures + 1; terms = answer (width_of_all shape.measures) dims (extended p dims state.facts) r }) (table_regions dims depths region))
 
-  all-moderate : (r : List ℕ) → IsModerate (terms_in weigh cube r).terms
+  all-moderate : (r : List ℕ) → IsModerate (cube_terms weigh cube r).terms
   all-moderate r =
       let facts : AreFactsOf schema state.facts = valid-same weigh schema state of valid in
-      answer-moderate (width_of_all schema.measures) schema.dims (rows_in weigh cube)
+      answer-moderate (width_of_all schema.measures) schema.dims (cube_rows weigh cube)
       (small-rows (weigh state.policy) bound (shape_of schema) schema.dims state.facts is.shape is.trees facts)
       (few-rows (weigh state.policy) bound (shape_of schema) schema.dims state.facts is.shape is.trees facts) r
 
   tabled : (list : List (List ℕ × TermList)) → list ≡ table_at weigh state depths region → All (λ entry. IsRegion state.dims entry.0) list
-      → merge_all (width_of_all state.shape.measures) (map (λ entry. entry.1.terms) list) ≡ (state_terms_in weigh state region).terms → AreTabled weigh cube depths region list
+      → merge_all (width_of_all state.shape.measures) (map (λ entry. entry.1.terms) list) ≡ (terms_in weigh state region).terms → AreTabled weigh cube depths region list
   tabled list entries regions merged =
       let told : list ≡ table_over (weigh cube.policy) cube.schema cube.facts depths region = entries ∙ table-same in
       record {
@@ -81,11 +80,11 @@ module _ {P : Type 0} (weigh : P → CellStat → ℕ) (schema : SchemaValue) (s
         regions = subst (λ dims. All (λ (entry : List ℕ × TermList). IsRegion dims entry.0) list) of.dims_are regions;
         columns =
             subst (All (λ (entry : List ℕ × TermList). entry.1.columns ≡ width_of_all schema.measures + 1)) (sym told)
-            (entries-each (terms_in weigh cube) (λ terms. terms.columns ≡ width_of_all schema.measures + 1) (λ r. refl) (table_regions schema.dims depths region));
-        some = subst (All (λ (entry : List ℕ × TermList). 1 ≤ length entry.1.terms)) (sym told) (entries-some (terms_in weigh cube) (table_regions schema.dims depths region));
+            (entries-each (cube_terms weigh cube) (λ terms. terms.columns ≡ width_of_all schema.measures + 1) (λ r. refl) (table_regions schema.dims depths region));
+        some = subst (All (λ (entry : List ℕ × TermList). 1 ≤ length entry.1.terms)) (sym told) (entries-some (cube_terms weigh cube) (table_regions schema.dims depths region));
         moderate =
             subst (All (λ (entry : List ℕ × TermList). IsModerate entry.1.terms)) (sym told)
-            (entries-each (terms_in weigh cube) (λ terms. IsModerate terms.terms) all-moderate (table_regions schema.dims depths region));
+            (entries-each (cube_terms weigh cube) (λ terms. IsModerate terms.terms) all-moderate (table_regions schema.dims depths region));
         merged =
             ap (λ (shape : ShapeValue). merge_all (width_of_all shape.measures) (map (λ (entry : List ℕ × TermList). entry.1.terms) list)) (sym of.shape_is)
             ∙ merged ∙ ap (λ (l : TermList). l.terms) (terms-same weigh schema state of region);
@@ -94,7 +93,7 @@ module _ {P : Type 0} (weigh : P → CellStat → ℕ) (schema : SchemaValue) (s
   -- so what holds of such a list holds of the table that the state of a cube answers
   pub tabled-ok : {E : Type 0} (whole : CubeValue P) → cube ≡ whole → (result : Result (List (List ℕ × TermList)) E) → IfOk result (λ list. list ≡ table_at weigh state depths region)
       → IfOk result (λ list. All (λ entry. IsRegion state.dims entry.0) list)
-      → IfOk result (λ list. merge_all (width_of_all state.shape.measures) (map (λ entry. entry.1.terms) list) ≡ (state_terms_in weigh state region).terms)
+      → IfOk result (λ list. merge_all (width_of_all state.shape.measures) (map (λ entry. entry.1.terms) list) ≡ (terms_in weigh state region).terms)
       → (Q : List (List ℕ × TermList) → Type 0) → ((list : List (List ℕ × TermList)) → AreTabled weigh whole depths region list → Q list) → IfOk result Q
   tabled-ok whole same (Err e) entries regions merged Q holds = tt
   tabled-ok whole same (Ok list) entries regions merged Q holds = holds list (subst (λ c. AreTabled weigh c depths region list) same (tabled list entries regions merged))

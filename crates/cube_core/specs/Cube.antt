@@ -23,7 +23,7 @@ use Rattle.fact_keeper.specs.declared.keeper.KeepError.TheVariants as keep_error
 use Rattle.fact_records.specs.Judge.{fact_refusal, judge}
 use Rattle.fact_records.specs.Shape.{width_of_all}
 use Rattle.fact_records.specs.Valid.{AreValid}
-use Rattle.schema_text.specs.Schema.{SchemaValue, policy_in, shape_of}
+use Rattle.schema_text.specs.Schema.{SchemaValue, schema_policy, shape_of}
 use Rattle.cube_core.specs.declared.fault.EditFault.{EditFault}
 use Rattle.cube_core.specs.declared.fault.EditFault.TheVariants as edit_fault
 
@@ -43,23 +43,23 @@ AreFactsOf schema facts = AreValid (shape_of schema) schema.dims facts
 
 -- the rows of facts
 abbrev pub rows_over : (CellStat → ℕ) → SchemaValue → List Fact → List ExtendedFact
-rows_over weigh schema facts = extended (policy_in weigh schema) schema.dims facts
+rows_over weigh schema facts = extended (schema_policy weigh schema) schema.dims facts
 
 -- the rows of a cube's facts
-abbrev pub rows_in : {P : Type 0} → (P → CellStat → ℕ) → CubeValue P → List ExtendedFact
-rows_in weigh cube = rows_over (weigh cube.policy) cube.schema cube.facts
+abbrev pub cube_rows : {P : Type 0} → (P → CellStat → ℕ) → CubeValue P → List ExtendedFact
+cube_rows weigh cube = rows_over (weigh cube.policy) cube.schema cube.facts
 
 -- what these add up to in a region
-abbrev pub answer_in : {P : Type 0} → (P → CellStat → ℕ) → CubeValue P → List ℕ → List Term
-answer_in weigh cube region = answer (width_of_all cube.schema.measures) cube.schema.dims (rows_in weigh cube) region
+abbrev pub cube_answer : {P : Type 0} → (P → CellStat → ℕ) → CubeValue P → List ℕ → List Term
+cube_answer weigh cube region = answer (width_of_all cube.schema.measures) cube.schema.dims (cube_rows weigh cube) region
 
 -- why an edit of a cube is refused
-abbrev pub judge_in : {P : Type 0} → (P → CellStat → ℕ) → CubeValue P → Edit → Option Code
-judge_in weigh cube edit = judge (policy_in (weigh cube.policy) cube.schema) (shape_of cube.schema) cube.schema.dims edit cube.facts
+abbrev pub cube_judgement : {P : Type 0} → (P → CellStat → ℕ) → CubeValue P → Edit → Option Code
+cube_judgement weigh cube edit = judge (schema_policy (weigh cube.policy) cube.schema) (shape_of cube.schema) cube.schema.dims edit cube.facts
 
 -- the ids that an edit of a cube refreshes
-abbrev pub refreshed_in : {P : Type 0} → (P → CellStat → ℕ) → CubeValue P → Edit → List ℕ
-refreshed_in weigh cube edit = refreshed (policy_in (weigh cube.policy) cube.schema) cube.schema.dims cube.facts (after edit cube.facts)
+abbrev pub cube_refreshed : {P : Type 0} → (P → CellStat → ℕ) → CubeValue P → Edit → List ℕ
+cube_refreshed weigh cube edit = refreshed (schema_policy (weigh cube.policy) cube.schema) cube.schema.dims cube.facts (after edit cube.facts)
 
 -- A state is one of a schema: its space, measures and views are the schema's.
 pub record IsStateOf {P : Type 0} (schema : SchemaValue) (state : StateValue P) : Type 0 where
@@ -69,18 +69,18 @@ pub record IsStateOf {P : Type 0} (schema : SchemaValue) (state : StateValue P) 
 
 -- what an edit of a cube changes of what is kept
 abbrev pub difference_in : {P : Type 0} → (P → CellStat → ℕ) → CubeValue P → Edit → Batch
-difference_in weigh cube edit = difference (policy_in (weigh cube.policy) cube.schema) cube.schema.dims edit cube.facts
+difference_in weigh cube edit = difference (schema_policy (weigh cube.policy) cube.schema) cube.schema.dims edit cube.facts
 
 -- the most steps of an edit of a cube
 abbrev pub step_bound_in : {P : Type 0} → (P → CellStat → ℕ) → CubeValue P → Edit → ℕ
-step_bound_in weigh cube edit = step_limit (policy_in (weigh cube.policy) cube.schema) cube.schema.dims edit cube.facts
+step_bound_in weigh cube edit = step_limit (schema_policy (weigh cube.policy) cube.schema) cube.schema.dims edit cube.facts
 
 -- Why an edit of a cube fails. Where it is refused for the number of rows, that number is reported, else the code. Out
 -- of memory is said only where the fact is not refused.
 abbrev pub IsFaultOf : {P : Type 0} → (P → CellStat → ℕ) → CubeValue P → Edit → EditFault → Type 0
-IsFaultOf weigh cube edit (edit_fault.Code refusal) = (judge_in weigh cube edit ≡ Some refusal) × (refusal ≢ code.Rows)
-IsFaultOf weigh cube edit (edit_fault.Rows would) = (judge_in weigh cube edit ≡ Some code.Rows) × (would ≡ row_count (rows_in weigh (edited edit cube)))
-IsFaultOf weigh cube edit edit_fault.KeepFault = judge_in weigh cube edit ≡ None
+IsFaultOf weigh cube edit (edit_fault.Code refusal) = (cube_judgement weigh cube edit ≡ Some refusal) × (refusal ≢ code.Rows)
+IsFaultOf weigh cube edit (edit_fault.Rows would) = (cube_judgement weigh cube edit ≡ Some code.Rows) × (would ≡ row_count (cube_rows weigh (edited edit cube)))
+IsFaultOf weigh cube edit edit_fault.KeepFault = cube_judgement weigh cube edit ≡ None
 IsFaultOf weigh cube edit edit_fault.Memory = fact_refusal (shape_of cube.schema) cube.schema.dims edit cube.facts ≡ None
 
 -- what refuses an edit where it is planned, and where it is kept

@@ -18,8 +18,8 @@ abbrev pub by_value : Policy
 by_value = policy_over weigh_sum one_weight
 
 -- a fact of these values on the first cell
-abbrev pub fact_of : ℕ → List ℤ → Fact
-fact_of id values = record { id = id; region = 2 ∷ 2 ∷ []; cols = values }
+abbrev pub fact_on_first_cell : ℕ → List ℤ → Fact
+fact_on_first_cell id values = record { id = id; region = 2 ∷ 2 ∷ []; cols = values }
 
 -- the values -1, and two parts that add up to 100, and to more
 abbrev pub below_0 : List ℤ
@@ -43,5 +43,5 @@ abbrev pub term_with : ℕ → ℕ → ℕ → Term
 term_with den count sum = record { den = den; count = count; sums = pos sum ∷ [] }
 
 -- rows as they are kept
-abbrev pub rows_of : ℕ → ℕ → List (ℕ × ℕ) → KeptRows
-rows_of id den rows = record { id = id; den = den; rows = rows }
+abbrev pub rows_as_kept : ℕ → ℕ → List (ℕ × ℕ) → KeptRows
+rows_as_kept id den rows = record { id = id; den = den; rows = rows }

@@ -18,10 +18,10 @@ use Rattle.region_algebra.specs.Growth.{grow_fault}
 use Rattle.region_algebra.specs.declared.growth.GrowFault.{GrowFault}
 use Rattle.region_algebra.specs.declared.growth.GrowFault.TheVariants as growth_fault
 use Rattle.schema_text.specs.Growth.{dims_with}
-use Rattle.schema_text.specs.Schema.{SchemaValue, over_dims, policy_in}
+use Rattle.schema_text.specs.Schema.{SchemaValue, over_dims, schema_policy}
 use Rattle.schema_text.specs.SchemaText.{schema_text}
 use Rattle.cube_model.specs.declared.tree.Grow.{Grow}
-use Rattle.cube_core.specs.Cube.{CubeValue, rows_in}
+use Rattle.cube_core.specs.Cube.{CubeValue, cube_rows}
 use Rattle.cube_core.specs.declared.fault.EditFault.{EditFault}
 use Rattle.cube_core.specs.declared.fault.EditFault.TheVariants as edit_fault
 
@@ -68,24 +68,24 @@ growth_difference policy schema later facts = record {
 }
 
 -- the cube after a growth
-abbrev pub grown : {P : Type 0} → Grow → CubeValue P → CubeValue P
-grown grow cube = record cube { schema = over_dims cube.schema (dims_with grow cube.schema.dims) }
+abbrev pub grown_cube : {P : Type 0} → Grow → CubeValue P → CubeValue P
+grown_cube grow cube = record cube { schema = over_dims cube.schema (dims_with grow cube.schema.dims) }
 
 -- why a growth of a cube is refused, the ids that it refreshes, and what it changes of what is kept
 abbrev pub judge_growth_in : {P : Type 0} → (P → CellStat → ℕ) → CubeValue P → Grow → Option Code
-judge_growth_in weigh cube grow = judge_growth (policy_in (weigh cube.policy) cube.schema) cube.schema.dims cube.facts grow
+judge_growth_in weigh cube grow = judge_growth (schema_policy (weigh cube.policy) cube.schema) cube.schema.dims cube.facts grow
 
 abbrev pub moved_in : {P : Type 0} → (P → CellStat → ℕ) → CubeValue P → Grow → List ℕ
-moved_in weigh cube grow = moved (policy_in (weigh cube.policy) cube.schema) cube.schema.dims (dims_with grow cube.schema.dims) cube.facts
+moved_in weigh cube grow = moved (schema_policy (weigh cube.policy) cube.schema) cube.schema.dims (dims_with grow cube.schema.dims) cube.facts
 
 abbrev pub growth_difference_in : {P : Type 0} → (P → CellStat → ℕ) → CubeValue P → Grow → Batch
-growth_difference_in weigh cube grow = growth_difference (policy_in (weigh cube.policy) cube.schema) cube.schema (dims_with grow cube.schema.dims) cube.facts
+growth_difference_in weigh cube grow = growth_difference (schema_policy (weigh cube.policy) cube.schema) cube.schema (dims_with grow cube.schema.dims) cube.facts
 
 -- Why a growth of a cube fails. Where it is refused for the number of rows, that number is reported, else the code. Out
 -- of memory is the free answer, of which nothing is said.
 abbrev pub IsGrowthFaultOf : {P : Type 0} → (P → CellStat → ℕ) → CubeValue P → Grow → EditFault → Type 0
 IsGrowthFaultOf weigh cube grow (edit_fault.Code refusal) = (judge_growth_in weigh cube grow ≡ Some refusal) × (refusal ≢ code.Rows)
-IsGrowthFaultOf weigh cube grow (edit_fault.Rows would) = (judge_growth_in weigh cube grow ≡ Some code.Rows) × (would ≡ row_count (rows_in weigh (grown grow cube)))
+IsGrowthFaultOf weigh cube grow (edit_fault.Rows would) = (judge_growth_in weigh cube grow ≡ Some code.Rows) × (would ≡ row_count (cube_rows weigh (grown_cube grow cube)))
 IsGrowthFaultOf weigh cube grow edit_fault.KeepFault = judge_growth_in weigh cube grow ≡ None
 IsGrowthFaultOf weigh cube grow edit_fault.Memory = ⊤
 

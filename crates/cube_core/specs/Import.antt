@@ -16,8 +16,8 @@ use Rattle.fact_records.specs.New.{put_all}
 use Rattle.fact_sequence.specs.declared.fact_seq.BadRecord.{BadRecord}
 use Rattle.fact_sequence.specs.declared.fact_seq.FactSeq.{FactSeq}
 use Rattle.fact_sequence.specs.Refused.{refused_in}
-use Rattle.schema_text.specs.Schema.{policy_in, shape_of}
-use Rattle.cube_core.specs.Cube.{CubeValue, rows_in}
+use Rattle.schema_text.specs.Schema.{schema_policy, shape_of}
+use Rattle.cube_core.specs.Cube.{CubeValue, cube_rows}
 use Rattle.cube_core.specs.declared.fault.ImportFault.{ImportFault}
 use Rattle.cube_core.specs.declared.fault.ImportFault.TheVariants as import_fault
 
@@ -31,19 +31,19 @@ refused_in_cube cube seq = refused_in (shape_of cube.schema) cube.schema.dims cu
 
 -- the ids that new facts refresh
 abbrev pub import_refreshed_in : {P : Type 0} → (P → CellStat → ℕ) → CubeValue P → List Fact → List ℕ
-import_refreshed_in weigh cube new = refreshed (policy_in (weigh cube.policy) cube.schema) cube.schema.dims cube.facts (put_all new cube.facts)
+import_refreshed_in weigh cube new = refreshed (schema_policy (weigh cube.policy) cube.schema) cube.schema.dims cube.facts (put_all new cube.facts)
 
 -- what they change of what is kept
 abbrev pub import_difference_in : {P : Type 0} → (P → CellStat → ℕ) → CubeValue P → List Fact → Batch
-import_difference_in weigh cube new = difference_with (policy_in (weigh cube.policy) cube.schema) cube.schema.dims new cube.facts
+import_difference_in weigh cube new = difference_with (schema_policy (weigh cube.policy) cube.schema) cube.schema.dims new cube.facts
 
 -- Why a file is not put. Out of memory is the free answer, of which nothing is said.
 abbrev pub IsImportFaultOf : {P : Type 0} → (P → CellStat → ℕ) → CubeValue P → FactSeq → ImportFault → Type 0
 IsImportFaultOf weigh cube seq (import_fault.BadRecord bad) = refused_in_cube cube seq ≡ Some bad
 IsImportFaultOf weigh cube seq (import_fault.Rows would) =
-    (refused_in_cube cube seq ≡ None) × ((would ≡ row_count (rows_in weigh (imported seq.facts cube))) × (MAX_ROWS < would))
+    (refused_in_cube cube seq ≡ None) × ((would ≡ row_count (cube_rows weigh (imported seq.facts cube))) × (MAX_ROWS < would))
 IsImportFaultOf weigh cube seq import_fault.KeepFault =
-    (refused_in_cube cube seq ≡ None) × (row_count (rows_in weigh (imported seq.facts cube)) ≤ MAX_ROWS)
+    (refused_in_cube cube seq ≡ None) × (row_count (cube_rows weigh (imported seq.facts cube)) ≤ MAX_ROWS)
 IsImportFaultOf weigh cube seq import_fault.Memory = ⊤
 
 -- what refuses an import where it is planned, and where it is kept

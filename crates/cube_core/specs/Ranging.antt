@@ -6,9 +6,8 @@ use Rattle.cube_model.specs.Allocation.{Policy, allocation}
 use Rattle.cube_model.specs.Cells.{cells_of}
 use Rattle.cube_model.specs.Facts.{is_precise}
 use Rattle.cube_model.specs.Tree.{Dimension}
-use Rattle.cube_state.specs.State.{StateValue}
-use Rattle.cube_state.specs.State.{policy_in as state_policy_in}
-use Rattle.schema_text.specs.Schema.{SchemaValue, policy_in}
+use Rattle.cube_state.specs.State.{StateValue, policy_in}
+use Rattle.schema_text.specs.Schema.{SchemaValue, schema_policy}
 use Rattle.world_range.specs.declared.extreme.Extreme.{Extreme}
 use Rattle.world_range.specs.Picks.{pick}
 
@@ -23,7 +22,7 @@ imprecise_picks policy dims facts extreme region column = map (pair_of policy di
 
 -- the same over a schema, and in a state
 abbrev pub picks_over : (CellStat → ℕ) → SchemaValue → List Fact → Extreme → List ℕ → ℕ → List (ℕ × ℕ)
-picks_over weigh schema facts extreme region column = imprecise_picks (policy_in weigh schema) schema.dims facts extreme region column
+picks_over weigh schema facts extreme region column = imprecise_picks (schema_policy weigh schema) schema.dims facts extreme region column
 
 abbrev pub picks_in : {P : Type 0} → (P → CellStat → ℕ) → StateValue P → Extreme → List ℕ → ℕ → List (ℕ × ℕ)
-picks_in weigh state extreme region column = imprecise_picks (state_policy_in weigh state) state.dims state.facts extreme region column
+picks_in weigh state extreme region column = imprecise_picks (policy_in weigh state) state.dims state.facts extreme region column

@@ -29,7 +29,7 @@ pub record KeepRegions (dims later : List Dimension) : Type 0 where
   pub regions : (region : List ℕ) → IsRegion dims region → IsRegion later region
 
 -- the second state is the first over these dimensions
-pub record IsOver {P : Type 0} (later : List Dimension) (old new : StateValue P) : Type 0 where
+pub record IsStateOver {P : Type 0} (later : List Dimension) (old new : StateValue P) : Type 0 where
   pub policy : new.policy ≡ old.policy
   pub dims : new.dims ≡ later
   pub shape : new.shape ≡ old.shape

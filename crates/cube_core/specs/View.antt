@@ -29,8 +29,8 @@ abbrev pub view_in : {P : Type 0} → (P → CellStat → ℕ) → CubeValue P �
 view_in weigh cube view = view_over (weigh cube.policy) cube.schema cube.facts view
 
 -- and what these add up to in a region
-abbrev pub terms_in : {P : Type 0} → (P → CellStat → ℕ) → CubeValue P → List ℕ → TermList
-terms_in weigh cube region = terms_over (weigh cube.policy) cube.schema cube.facts region
+abbrev pub cube_terms : {P : Type 0} → (P → CellStat → ℕ) → CubeValue P → List ℕ → TermList
+cube_terms weigh cube region = terms_over (weigh cube.policy) cube.schema cube.facts region
 
 -- The table of a region at depths: each region of the product of its members where the facts have terms, with them, in the order of
 -- the product.

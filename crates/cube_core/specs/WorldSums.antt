@@ -9,18 +9,18 @@ use Rattle.world_law.specs.declared.sum.WorldFault.TheVariants as world_fault
 use Rattle.world_law.specs.declared.sum.WorldSum.{WorldSum}
 use Rattle.world_law.specs.Placed.{fault_of, placed_of}
 use Rattle.world_law.specs.Worlds.{mass, total, world_count}
-use Rattle.cube_core.specs.Cube.{CubeValue, rows_in}
+use Rattle.cube_core.specs.Cube.{CubeValue, cube_rows}
 
 -- a cube's facts with their allocations
 abbrev pub placed_in : {P : Type 0} → (P → CellStat → ℕ) → CubeValue P → List Placed
-placed_in weigh cube = map placed_of (rows_in weigh cube)
+placed_in weigh cube = map placed_of (cube_rows weigh cube)
 
 -- what their worlds add up to: the number, the mass, and the total of each column, the count first
 abbrev pub world_sum_in : {P : Type 0} → (P → CellStat → ℕ) → CubeValue P → List ℕ → WorldSum
 world_sum_in weigh cube region = record {
-  worlds = world_count (rows_in weigh cube);
-  mass = mass (rows_in weigh cube);
-  totals = map (λ column. total cube.schema.dims region column (rows_in weigh cube)) (range_with_len 0 (width_of_all cube.schema.measures + 1));
+  worlds = world_count (cube_rows weigh cube);
+  mass = mass (cube_rows weigh cube);
+  totals = map (λ column. total cube.schema.dims region column (cube_rows weigh cube)) (range_with_len 0 (width_of_all cube.schema.measures + 1));
 }
 
 -- why worlds are not listed; out of memory, which may be met before they are judged, says nothing

@@ -6,7 +6,7 @@ ghost use Rattle.cube_model.specs.Allocation.{allocation_of, row_count};
 ghost use Rattle.cube_model.specs.Ascending.{ascends_from};
 ghost use Rattle.cube_model.specs.Cells.{AreRows};
 ghost use Rattle.cube_model.specs.Limits.{MAX_ROWS};
-ghost use Rattle.cube_state.specs.State.{rows_in as state_rows_in, withdrawn};
+ghost use Rattle.cube_state.specs.State.{rows_in, withdrawn};
 ghost use Rattle.exact_fraction.specs.Moderate.{IsModerate};
 ghost use Rattle.fact_keeper.specs.Batch.{apply_batch};
 ghost use Rattle.fact_keeper.specs.Keeper.{StaysOpen};
@@ -14,11 +14,11 @@ ghost use Rattle.fact_records.specs.Outcomes.{AllAddUp};
 ghost use Rattle.fact_records.specs.Shape.{width_of_all};
 ghost use Rattle.fact_records.specs.Valid.{IsEditOver, IsPlaced};
 ghost use Rattle.region_algebra.specs.Space.{IsRegion};
-ghost use Rattle.schema_text.specs.Schema.{policy_in, shape_of, view_named};
+ghost use Rattle.schema_text.specs.Schema.{schema_policy, shape_of, view_named};
 ghost use Rattle.stored_state.specs.Sound.{IsLoadFault, IsSound, facts_told};
 ghost use Rattle.world_law.specs.Additive.{AddUpOverChildren};
 ghost use Rattle.world_law.specs.Placed.{fault_of};
-ghost use Rattle.cube_core.specs.Cube.{AreFactsOf, CountsEditFault, IsBounded, IsFaultOf, answer_in, difference_in, edited, judge_in, refreshed_in, rows_in, step_bound_in};
+ghost use Rattle.cube_core.specs.Cube.{AreFactsOf, CountsEditFault, IsBounded, IsFaultOf, cube_answer, cube_judgement, cube_refreshed, cube_rows, difference_in, edited, step_bound_in};
 ghost use Rattle.cube_core.specs.Import.{CountsImportFault, IsImportFaultOf, import_difference_in, import_refreshed_in, imported, refused_in_cube};
 ghost use Rattle.cube_core.specs.Expected.{AreExpected};
 ghost use Rattle.cube_core.specs.View.{view_in};
@@ -126,8 +126,8 @@ impl<P: WeightPolicy + Drop> Cube<P> {
         ensures schema { IfOk result (λ cube. cube.schema ≡ schema) }
         ensures policy { IfOk result (λ cube. cube.policy ≡ policy) }
         ensures facts { IfOk result (λ cube. cube.facts ≡ facts_told stored.now) }
-        ensures sound { OnOk result (IsSound (policy_in (P.weigh policy) schema) (shape_of schema) schema.dims stored.now) }
-        ensures fault { IfErr result (IsLoadFault (policy_in (P.weigh policy) schema) (shape_of schema) schema.dims stored.now) }
+        ensures sound { OnOk result (IsSound (schema_policy (P.weigh policy) schema) (shape_of schema) schema.dims stored.now) }
+        ensures fault { IfErr result (IsLoadFault (schema_policy (P.weigh policy) schema) (shape_of schema) schema.dims stored.now) }
     {
         let space = match schema.space().copy() {
             Ok(space) => space,
@@ -170,14 +170,14 @@ impl<P: WeightPolicy + Drop> Cube<P> {
     pub fn facts(&self) -> &FactList
         ensures facts { result.now.facts ≡ self.now.facts }
         ensures valid { AreFactsOf self.now.schema self.now.facts }
-        ensures few_rows { row_count (rows_in P.weigh self.now) ≤ MAX_ROWS }
+        ensures few_rows { row_count (cube_rows P.weigh self.now) ≤ MAX_ROWS }
     {
         self.state.facts()
     }
 
     /// The number of rows of all facts. It takes no memory.
     pub fn row_count(&self) -> u64
-        ensures rows { result ≡ row_count (rows_in P.weigh self.now) }
+        ensures rows { result ≡ row_count (cube_rows P.weigh self.now) }
         ensures few { result ≤ MAX_ROWS }
     {
         self.state.row_count()
@@ -185,7 +185,7 @@ impl<P: WeightPolicy + Drop> Cube<P> {
 
     /// The allocation of the fact of an id: None exactly where there is none. It takes no memory.
     pub fn rows(&self, id: u64) -> Option<&Alloc>
-        ensures rows { option_copied result ≡ allocation_of id (rows_in P.weigh self.now) }
+        ensures rows { option_copied result ≡ allocation_of id (cube_rows P.weigh self.now) }
         ensures cells { IfSome (option_copied result) (λ a. AreRows self.now.schema.dims a.rows) }
     {
         look_up::<Brand, P>(&self.state, id, Blank::new(1))
@@ -212,8 +212,8 @@ impl<P: WeightPolicy + Drop> Cube<P> {
         requires over { IsEditOver self.old.schema.dims edit.now }
         requires open { IsTrue (K.tells keeper.old).is_open }
         ensures facts { OnOk result (self.new ≡ edited edit.now self.old) }
-        ensures accepted { OnOk result (judge_in P.weigh self.old edit.now ≡ None) }
-        ensures refreshed { IfOk result (λ receipt. receipt.refreshed ≡ refreshed_in P.weigh self.old edit.now) }
+        ensures accepted { OnOk result (cube_judgement P.weigh self.old edit.now ≡ None) }
+        ensures refreshed { IfOk result (λ receipt. receipt.refreshed ≡ cube_refreshed P.weigh self.old edit.now) }
         ensures ascending { IfOk result (λ receipt. ascends_from (λ id. id) 1 receipt.refreshed ≡ true) }
         ensures removed { IfOk result (λ receipt. receipt.removed ≡ withdrawn edit.now) }
         ensures content { OnOk result ((K.tells keeper.new).content ≡ option_map (apply_batch (difference_in P.weigh self.old edit.now)) (K.tells keeper.old).content) }
@@ -250,7 +250,7 @@ impl<P: WeightPolicy + Drop> Cube<P> {
         requires open { IsTrue (K.tells keeper.old).is_open }
         ensures facts { OnOk result (self.new ≡ imported seq.now.facts self.old) }
         ensures accepted { OnOk result (refused_in_cube self.old seq.now ≡ None) }
-        ensures few { OnOk result (row_count (rows_in P.weigh (imported seq.now.facts self.old)) ≤ MAX_ROWS) }
+        ensures few { OnOk result (row_count (cube_rows P.weigh (imported seq.now.facts self.old)) ≤ MAX_ROWS) }
         ensures refreshed { IfOk result (λ receipt. receipt.refreshed ≡ import_refreshed_in P.weigh self.old seq.now.facts) }
         ensures ascending { IfOk result (λ receipt. ascends_from (λ id. id) 1 receipt.refreshed ≡ true) }
         ensures removed { IfOk result (λ receipt. receipt.removed ≡ None) }
@@ -288,12 +288,12 @@ impl<P: WeightPolicy + Drop> Cube<P> {
     pub fn answer(&self, r: Region) -> Result<Terms, Memory>
         requires { IsRegion self.now.schema.dims r }
         ensures columns { IfOk result (λ terms. terms.columns ≡ width_of_all self.now.schema.measures + 1) }
-        ensures terms { IfOk result (λ terms. terms.terms ≡ answer_in P.weigh self.now r) }
+        ensures terms { IfOk result (λ terms. terms.terms ≡ cube_answer P.weigh self.now r) }
         ensures moderate { IfOk result (λ terms. IsModerate terms.terms) }
         ensures distributions { IfOk result (λ terms. AllAddUp self.now.schema.measures terms.terms) }
         ensures bounded { IfOk result (λ terms. All IsBounded terms.terms) }
-        ensures expectations { IfOk result (λ terms. AreExpected (width_of_all self.now.schema.measures) self.now.schema.dims r (rows_in P.weigh self.now) terms.terms) }
-        ensures children { IfOk result (λ terms. AddUpOverChildren (width_of_all self.now.schema.measures) self.now.schema.dims r (rows_in P.weigh self.now) terms.terms) }
+        ensures expectations { IfOk result (λ terms. AreExpected (width_of_all self.now.schema.measures) self.now.schema.dims r (cube_rows P.weigh self.now) terms.terms) }
+        ensures children { IfOk result (λ terms. AddUpOverChildren (width_of_all self.now.schema.measures) self.now.schema.dims r (cube_rows P.weigh self.now) terms.terms) }
     {
         // What a schema says of itself, and a state of its facts.
         let _ = self.schema.space();
@@ -365,7 +365,7 @@ pub(crate) fn look_up<L: Ledger, P: WeightPolicy + Drop>(
     requires name { blank.name ≡ L.name }
     requires parts { blank.parts ≡ L.parts }
     requires some { 0 < L.parts }
-    ensures rows { option_copied result ≡ allocation_of id (state_rows_in P.weigh state.now) }
+    ensures rows { option_copied result ≡ allocation_of id (rows_in P.weigh state.now) }
     ensures cells { IfSome (option_copied result) (λ a. AreRows state.now.dims a.rows) }
 {
     let mut steps = Steps::<L>::new(blank);

@@ -7,8 +7,8 @@ ghost use Rattle.fact_keeper.specs.Keeper.{StaysOpen};
 ghost use Rattle.schema_text.specs.Growth.{IsGrowOf, dims_with};
 ghost use Rattle.schema_text.specs.Schema.{over_dims};
 ghost use Rattle.cube_core.specs.Cube.{CountsEditFault};
-ghost use Rattle.cube_core.specs.Growth.{IsGrowthFaultOf, grown, growth_difference_in, judge_growth_in, moved, moved_in, space_refusal};
-ghost use Rattle.cube_core.specs.Respread.{IsOver, IsRespreadFault, IsSpaceFault, KeepRegions, batch_to, facts_refusal};
+ghost use Rattle.cube_core.specs.Growth.{IsGrowthFaultOf, grown_cube, growth_difference_in, judge_growth_in, moved, moved_in, space_refusal};
+ghost use Rattle.cube_core.specs.Respread.{IsRespreadFault, IsSpaceFault, IsStateOver, KeepRegions, batch_to, facts_refusal};
 
 use crate::EditFault;
 use crate::cube::{Cube, Receipt};
@@ -34,7 +34,7 @@ impl<P: WeightPolicy + Drop + Copy> Cube<P> {
     pub fn grow<K: Keeper>(&mut self, grow: &Grow, keeper: &mut K) -> Result<Receipt, EditFault>
         requires there { IsGrowOf self.old.schema.dims grow.now }
         requires open { IsTrue (K.tells keeper.old).is_open }
-        ensures grown { OnOk result (self.new ≡ grown grow.now self.old) }
+        ensures grown { OnOk result (self.new ≡ grown_cube grow.now self.old) }
         ensures accepted { OnOk result (judge_growth_in P.weigh self.old grow.now ≡ None) }
         ensures refreshed { IfOk result (λ receipt. receipt.refreshed ≡ moved_in P.weigh self.old grow.now) }
         ensures ascending { IfOk result (λ receipt. ascends_from (λ id. id) 1 receipt.refreshed ≡ true) }
@@ -100,7 +100,7 @@ fn growth_to<P: WeightPolicy + Drop + Copy>(
 ) -> Result<Growth<P>, EditFault>
     requires { KeepRegions state.now.dims schema.dims }
     ensures schema { IfOk result (λ growth. growth.schema ≡ schema) }
-    ensures over { IfOk result (λ growth. IsOver schema.dims state.now growth.state) }
+    ensures over { IfOk result (λ growth. IsStateOver schema.dims state.now growth.state) }
     ensures refreshed { IfOk result (λ growth. growth.refreshed ≡ moved (policy_in P.weigh state.now) state.now.dims schema.dims state.now.facts) }
     ensures ascending { IfOk result (λ growth. ascends_from (λ id. id) 1 growth.refreshed ≡ true) }
     ensures batch { IfOk result (λ growth. growth.batch ≡ batch_to (policy_in P.weigh state.now) state.now.dims schema state.now.facts) }

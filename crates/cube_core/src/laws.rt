@@ -13,7 +13,7 @@ ghost use Rattle.fact_records.specs.Examples.{number_and_parts, one_number};
 ghost use Rattle.fact_records.specs.Judge.{judge};
 ghost use Rattle.alloc_rows.specs.Examples.{fact_at, four_facts, two_dims};
 ghost use Rattle.world_law.specs.Worlds.{total, worlds};
-ghost use Rattle.cube_core.specs.Examples.{below_0, by_value, fact_of, four_rows, one_weight, row_alone, rows_of, term_with, whole_parts, wrong_parts};
+ghost use Rattle.cube_core.specs.Examples.{below_0, by_value, fact_on_first_cell, four_rows, one_weight, row_alone, rows_as_kept, term_with, whole_parts, wrong_parts};
 
 /// Rows, answers, refreshed facts and refusals that were worked out by hand. A fact somewhere in three cells is spread over
 /// the two where facts lie, as the counts say, and evenly over all three where no fact lies. So its allocation changes
@@ -42,7 +42,7 @@ pub fn worked_cube()
           schema = None;
           gone = [];
           facts = kept_fact (fact_at 5 (2 ∷ 2 ∷ []) 7) ∷ kept_fact (fact_at 6 (4 ∷ 2 ∷ []) 1) ∷ [];
-          rows = rows_of 4 5 ((0, 3) ∷ (4, 1) ∷ (8, 1) ∷ []) ∷ rows_of 5 1 ((0, 1) ∷ []) ∷ rows_of 6 1 ((8, 1) ∷ []) ∷ [];
+          rows = rows_as_kept 4 5 ((0, 3) ∷ (4, 1) ∷ (8, 1) ∷ []) ∷ rows_as_kept 5 1 ((0, 1) ∷ []) ∷ rows_as_kept 6 1 ((8, 1) ∷ []) ∷ [];
         } }
     ensures accepted { judge by_count one_number two_dims (Put (fact_at 5 (0 ∷ 0 ∷ []) 7)) four_facts ≡ None }
     ensures moved { judge by_count one_number two_dims (Change (fact_at 3 (4 ∷ 2 ∷ []) 50)) four_facts ≡ None }
@@ -50,8 +50,8 @@ pub fn worked_cube()
     ensures exists { judge by_count one_number two_dims (Put (fact_at 4 (0 ∷ 0 ∷ []) 7)) four_facts ≡ Some code.Exists }
     ensures not_there { judge by_count one_number two_dims (Change (fact_at 5 (2 ∷ 2 ∷ []) 1)) four_facts ≡ Some code.Missing }
     ensures missing { judge by_count one_number two_dims (Withdraw 5) four_facts ≡ Some code.Missing }
-    ensures parts { judge by_count number_and_parts two_dims (Put (fact_of 5 wrong_parts)) four_facts ≡ Some code.Parts }
-    ensures whole { judge by_count number_and_parts two_dims (Put (fact_of 5 whole_parts)) four_facts ≡ None }
+    ensures parts { judge by_count number_and_parts two_dims (Put (fact_on_first_cell 5 wrong_parts)) four_facts ≡ Some code.Parts }
+    ensures whole { judge by_count number_and_parts two_dims (Put (fact_on_first_cell 5 whole_parts)) four_facts ≡ None }
     ensures steps { step_limit by_count two_dims (Change (fact_at 3 (4 ∷ 2 ∷ []) 50)) four_facts ≡ 24 }
 {}
 
@@ -64,7 +64,7 @@ pub fn worked_sums()
         ≡ Some (record { den = 451; rows = (0, 401) ∷ (4, 50) ∷ [] }) }
     ensures refreshed { refreshed by_value two_dims four_facts (after (Change (fact_at 2 (2 ∷ 2 ∷ []) 301)) four_facts) ≡ 4 ∷ [] }
     ensures own { refreshed by_value two_dims four_facts (after (Change (fact_at 4 (1 ∷ 2 ∷ []) 601)) four_facts) ≡ [] }
-    ensures negative { judge by_value one_weight two_dims (Put (fact_of 5 below_0)) four_facts ≡ Some code.Value }
+    ensures negative { judge by_value one_weight two_dims (Put (fact_on_first_cell 5 below_0)) four_facts ≡ Some code.Value }
     ensures zero { judge by_value one_weight two_dims (Put (fact_at 5 (2 ∷ 2 ∷ []) 0)) four_facts ≡ None }
-    ensures not_weighed { judge by_count one_number two_dims (Put (fact_of 5 below_0)) four_facts ≡ None }
+    ensures not_weighed { judge by_count one_number two_dims (Put (fact_on_first_cell 5 below_0)) four_facts ≡ None }
 {}

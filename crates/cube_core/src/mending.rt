@@ -1,7 +1,7 @@
 //! The rows of a stored content put right over a schema.
 ghost use Rattle.std.specs.Prelude.{◌≡◌, IfErr, IfOk, OnOk, length};
 ghost use Rattle.fact_keeper.specs.Batch.{apply_batch};
-ghost use Rattle.schema_text.specs.Schema.{policy_in, shape_of};
+ghost use Rattle.schema_text.specs.Schema.{schema_policy, shape_of};
 ghost use Rattle.stored_state.specs.Mending.{IsMendFault, IsMendable, mended, mended_batch};
 ghost use Rattle.stored_state.specs.Sound.{IsSound, rows_counted};
 
@@ -24,13 +24,13 @@ impl<P: WeightPolicy + Drop> Cube<P> {
         stored: &Stored,
         policy: P,
     ) -> Result<Mending, LoadFault>
-        ensures batch { IfOk result (λ m. m.batch ≡ mended_batch (policy_in (P.weigh policy) schema.now) schema.now.dims stored.now) }
+        ensures batch { IfOk result (λ m. m.batch ≡ mended_batch (schema_policy (P.weigh policy) schema.now) schema.now.dims stored.now) }
         ensures facts { IfOk result (λ m. m.facts ≡ length stored.now.facts) }
-        ensures rows { IfOk result (λ m. m.rows ≡ rows_counted (policy_in (P.weigh policy) schema.now) schema.now.dims stored.now) }
-        ensures applied { IfOk result (λ m. apply_batch m.batch stored.now ≡ mended (policy_in (P.weigh policy) schema.now) schema.now.dims stored.now) }
-        ensures sound { OnOk result (IsSound (policy_in (P.weigh policy) schema.now) (shape_of schema.now) schema.now.dims (mended (policy_in (P.weigh policy) schema.now) schema.now.dims stored.now)) }
-        ensures mendable { OnOk result (IsMendable (policy_in (P.weigh policy) schema.now) (shape_of schema.now) schema.now.dims stored.now) }
-        ensures fault { IfErr result (IsMendFault (policy_in (P.weigh policy) schema.now) (shape_of schema.now) schema.now.dims stored.now) }
+        ensures rows { IfOk result (λ m. m.rows ≡ rows_counted (schema_policy (P.weigh policy) schema.now) schema.now.dims stored.now) }
+        ensures applied { IfOk result (λ m. apply_batch m.batch stored.now ≡ mended (schema_policy (P.weigh policy) schema.now) schema.now.dims stored.now) }
+        ensures sound { OnOk result (IsSound (schema_policy (P.weigh policy) schema.now) (shape_of schema.now) schema.now.dims (mended (schema_policy (P.weigh policy) schema.now) schema.now.dims stored.now)) }
+        ensures mendable { OnOk result (IsMendable (schema_policy (P.weigh policy) schema.now) (shape_of schema.now) schema.now.dims stored.now) }
+        ensures fault { IfErr result (IsMendFault (schema_policy (P.weigh policy) schema.now) (shape_of schema.now) schema.now.dims stored.now) }
     {
         let space = schema.space().copy()?;
         let shape = match schema.shape().copy() {

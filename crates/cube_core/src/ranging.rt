@@ -3,7 +3,7 @@ ghost use Rattle.std.specs.Prelude.{◌≡◌, ◌<◌, ◌≤◌, ◌+ℤ◌, �
 ghost use Rattle.cube_model.specs.Allocation.{allocation};
 ghost use Rattle.cube_model.specs.Cells.{all_cells, cells_of, is_among};
 ghost use Rattle.cube_model.specs.Facts.{is_precise};
-ghost use Rattle.cube_state.specs.State.{policy_in, rows_in as state_rows_in};
+ghost use Rattle.cube_state.specs.State.{policy_in, rows_in};
 ghost use Rattle.fact_records.specs.FactList.{fact_of};
 ghost use Rattle.fact_records.specs.Shape.{width_of_all};
 ghost use Rattle.region_algebra.specs.Inside.{cells_inside};
@@ -11,7 +11,7 @@ ghost use Rattle.region_algebra.specs.Space.{IsRegion};
 ghost use Rattle.world_range.specs.Ends.{AreEnds};
 ghost use Rattle.world_range.specs.Picks.{end_of};
 ghost use Rattle.world_range.specs.declared.extreme.Extreme.TheVariants.{Greatest, Least};
-ghost use Rattle.cube_core.specs.Cube.{rows_in};
+ghost use Rattle.cube_core.specs.Cube.{cube_rows};
 ghost use Rattle.cube_core.specs.Ranging.{picks_in, picks_over};
 
 use crate::Cube;
@@ -42,9 +42,9 @@ impl<P: WeightPolicy + Drop> Cube<P> {
     pub fn ends(&self, r: Region, column: u32) -> Result<Ends, Memory>
         requires region { IsRegion self.now.schema.dims r }
         requires column { column ≤ width_of_all self.now.schema.measures }
-        ensures least { IfOk result (λ ends. ends.least ≡ end_of Least (cells_of self.now.schema.dims r) column (rows_in P.weigh self.now)) }
-        ensures greatest { IfOk result (λ ends. ends.greatest ≡ end_of Greatest (cells_of self.now.schema.dims r) column (rows_in P.weigh self.now)) }
-        ensures law { AreEnds self.now.schema.dims r column (rows_in P.weigh self.now) }
+        ensures least { IfOk result (λ ends. ends.least ≡ end_of Least (cells_of self.now.schema.dims r) column (cube_rows P.weigh self.now)) }
+        ensures greatest { IfOk result (λ ends. ends.greatest ≡ end_of Greatest (cells_of self.now.schema.dims r) column (cube_rows P.weigh self.now)) }
+        ensures law { AreEnds self.now.schema.dims r column (cube_rows P.weigh self.now) }
     {
         // What a schema says of itself, and a state of its facts.
         let _ = self.schema.space();
@@ -59,7 +59,7 @@ impl<P: WeightPolicy + Drop> Cube<P> {
     pub fn picks(&self, extreme: Extreme, r: Region, column: u32) -> Result<Picks, Memory>
         requires region { IsRegion self.now.schema.dims r }
         requires column { column ≤ width_of_all self.now.schema.measures }
-        ensures sum { IfOk result (λ picked. picked.sum ≡ end_of extreme (cells_of self.now.schema.dims r) column (rows_in P.weigh self.now)) }
+        ensures sum { IfOk result (λ picked. picked.sum ≡ end_of extreme (cells_of self.now.schema.dims r) column (cube_rows P.weigh self.now)) }
         ensures picks { IfOk result (λ picked. picked.picks ≡ picks_over (P.weigh self.now.policy) self.now.schema self.now.facts extreme r column) }
         ensures cells { IfOk result (λ picked. All (λ pick. pick.1 < length (all_cells self.now.schema.dims)) picked.picks) }
     {
@@ -77,7 +77,7 @@ fn picks_of<P: WeightPolicy + Drop>(
 ) -> Result<Picks, Memory>
     requires region { IsRegion state.now.dims r }
     requires column { column ≤ width_of_all state.now.shape.measures }
-    ensures sum { IfOk result (λ picked. picked.sum ≡ end_of extreme (cells_of state.now.dims r) column (state_rows_in P.weigh state.now)) }
+    ensures sum { IfOk result (λ picked. picked.sum ≡ end_of extreme (cells_of state.now.dims r) column (rows_in P.weigh state.now)) }
     ensures picks { IfOk result (λ picked. picked.picks ≡ picks_in P.weigh state.now extreme r column) }
     ensures cells { IfOk result (λ picked. All (λ pick. pick.1 < length (all_cells state.now.dims)) picked.picks) }
 {

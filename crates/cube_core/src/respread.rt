@@ -6,7 +6,7 @@ ghost use Rattle.cube_state.specs.State.{policy_in};
 ghost use Rattle.fact_records.specs.FactList.{fact_of};
 ghost use Rattle.region_algebra.specs.Space.{IsRegion};
 ghost use Rattle.cube_core.specs.Growth.{has_large_region, moved};
-ghost use Rattle.cube_core.specs.Respread.{IsOver, IsRespreadFault, KeepRegions, all_moved, facts_refusal, ids_moved, rows_moved};
+ghost use Rattle.cube_core.specs.Respread.{IsRespreadFault, IsStateOver, KeepRegions, all_moved, facts_refusal, ids_moved, rows_moved};
 
 use crate::EditFault;
 use crate::cube::look_up;
@@ -32,7 +32,7 @@ pub(crate) fn state_over<P: WeightPolicy + Drop + Copy>(
     space: &Space,
 ) -> Result<State<P>, EditFault>
     requires { KeepRegions state.now.dims space.now }
-    ensures over { IfOk result (IsOver space.now state.now) }
+    ensures over { IfOk result (IsStateOver space.now state.now) }
     ensures accepted { OnOk result (facts_refusal (policy_in P.weigh state.now) space.now state.now.facts ≡ None) }
     ensures fault { IfErr result (IsRespreadFault P.weigh state.now space.now) }
 {
@@ -105,7 +105,7 @@ pub(crate) fn moved_between<P: WeightPolicy + Drop>(
     state: &State<P>,
     later: &State<P>,
 ) -> Result<Moved, Memory>
-    requires { IsOver later.now.dims state.now later.now }
+    requires { IsStateOver later.now.dims state.now later.now }
     ensures ids { IfOk result (λ held. held.ids ≡ moved (policy_in P.weigh state.now) state.now.dims later.now.dims state.now.facts) }
     ensures rows { IfOk result (λ held. held.rows ≡ all_moved (policy_in P.weigh state.now) state.now.dims later.now.dims state.now.facts) }
     ensures ascending { IfOk result (λ held. ascends_from (λ id. id) 1 held.ids ≡ true) }
@@ -127,7 +127,7 @@ fn hold_moved<P: WeightPolicy + Drop>(
     fact: &Fact,
     held: &mut Moved,
 ) -> Result<(), Memory>
-    requires over { IsOver later.now.dims state.now later.now }
+    requires over { IsStateOver later.now.dims state.now later.now }
     requires there { fact_of fact.now.id state.now.facts ≡ Some fact.now }
     ensures ids { OnOk result (held.new.ids ≡ held.old.ids ++ ids_moved (policy_in P.weigh state.now) state.now.dims later.now.dims state.now.facts (fact.now ∷ [])) }
     ensures rows { OnOk result (held.new.rows ≡ held.old.rows ++ rows_moved (policy_in P.weigh state.now) state.now.dims later.now.dims state.now.facts (fact.now ∷ [])) }

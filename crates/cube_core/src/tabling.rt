@@ -8,7 +8,7 @@ ghost use Rattle.exact_fraction.specs.Moderate.{IsModerate};
 ghost use Rattle.fact_records.specs.Shape.{width_of_all};
 ghost use Rattle.region_algebra.specs.Space.{IsRegion};
 ghost use Rattle.schema_text.specs.Schema.{SchemaValue};
-ghost use Rattle.cube_core.specs.Cube.{answer_in, rows_over};
+ghost use Rattle.cube_core.specs.Cube.{cube_answer, rows_over};
 ghost use Rattle.cube_core.specs.View.{table_over};
 
 use crate::Cube;
@@ -31,7 +31,7 @@ impl<P: WeightPolicy + Drop> Cube<P> {
         ensures columns { IfOk result (All (λ entry. entry.1.columns ≡ width_of_all self.now.schema.measures + 1)) }
         ensures some { IfOk result (All (λ entry. 1 ≤ length entry.1.terms)) }
         ensures moderate { IfOk result (All (λ entry. IsModerate entry.1.terms)) }
-        ensures merged { IfOk result (λ list. merge_all (width_of_all self.now.schema.measures) (map (λ entry. entry.1.terms) list) ≡ answer_in P.weigh self.now r) }
+        ensures merged { IfOk result (λ list. merge_all (width_of_all self.now.schema.measures) (map (λ entry. entry.1.terms) list) ≡ cube_answer P.weigh self.now r) }
     {
         // What a schema says of itself, and a state of its facts.
         let _ = self.schema.space();

@@ -7,8 +7,8 @@ use Rattle.cube_model.specs.Tree.{Dimension}
 use Rattle.fact_groups.specs.Groups.{Group}
 use Rattle.view_store.specs.declared.change.ViewChange.{ViewChange}
 use Rattle.view_store.specs.Views.{region_at}
-use Rattle.facts_kept.specs.ViewChanges.{changes_of}
-use Rattle.facts_kept.proofs.ChangeGroups.{each-of, given-of, group_of, groups_that, puts, taken-of, takes_away}
+use Rattle.facts_kept.specs.ViewChanges.{group_changes}
+use Rattle.facts_kept.proofs.ChangeGroups.{each-of, facts_put-of, facts_taken_away-of, group_of, groups_that, puts, takes_away}
 use Rattle.cube_state.specs.ViewChanges.{changes_at, changes_by}
 
 -- the changes of codes with groups before and after
@@ -18,13 +18,13 @@ module _ (dims : List Dimension) (before now : ℕ → Option Group) where
 
   taken-at : (code : ℕ) (was is : Option Group) (changes : List ViewChange) → groups_that takes_away (changes_at dims code was is ++ changes) ≡ cons_option was (groups_that takes_away changes)
   taken-at code was is changes =
-      ap (groups_that takes_away) (append_assoc (changes_of false dims code was) (changes_of true dims code is) changes)
-      ∙ taken-of dims false code was (changes_of true dims code is ++ changes) ∙ ap (cons_option was) (taken-of dims true code is changes)
+      ap (groups_that takes_away) (append_assoc (group_changes false dims code was) (group_changes true dims code is) changes)
+      ∙ facts_taken_away-of dims false code was (group_changes true dims code is ++ changes) ∙ ap (cons_option was) (facts_taken_away-of dims true code is changes)
 
   given-at : (code : ℕ) (was is : Option Group) (changes : List ViewChange) → groups_that puts (changes_at dims code was is ++ changes) ≡ cons_option is (groups_that puts changes)
   given-at code was is changes =
-      ap (groups_that puts) (append_assoc (changes_of false dims code was) (changes_of true dims code is) changes)
-      ∙ given-of dims false code was (changes_of true dims code is ++ changes) ∙ given-of dims true code is changes
+      ap (groups_that puts) (append_assoc (group_changes false dims code was) (group_changes true dims code is) changes)
+      ∙ facts_put-of dims false code was (group_changes true dims code is ++ changes) ∙ facts_put-of dims true code is changes
 
   -- the groups before are taken away, and those after are put
   pub taken-with : (codes : List ℕ) → groups_that takes_away (changes_with codes) ≡ filter_map before codes
@@ -41,6 +41,6 @@ module _ (dims : List Dimension) (before now : ℕ → Option Group) where
     each-with [] = All-nil (λ change. P change.region (group_of change))
     each-with (code ∷ codes) =
         All-append (λ change. P change.region (group_of change)) (changes_at dims code (before code) (now code)) (changes_with codes)
-        (All-append (λ change. P change.region (group_of change)) (changes_of false dims code (before code)) (changes_of true dims code (now code))
+        (All-append (λ change. P change.region (group_of change)) (group_changes false dims code (before code)) (group_changes true dims code (now code))
         (each-of dims P false code (before code) (was code)) (each-of dims P true code (now code) (is code)))
         (each-with codes)

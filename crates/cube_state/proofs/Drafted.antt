@@ -18,15 +18,15 @@ use Rattle.fact_groups.specs.Groups.{Group, group_at}
 use Rattle.fact_groups.proofs.Differing.{rows-differ}
 use Rattle.fact_groups.proofs.Groups.{sum_by-filter_map}
 use Rattle.fact_records.specs.Shape.{ShapeValue, width_of_all}
-use Rattle.cube_state.specs.GroupAfter.{rows_of}
-use Rattle.cube_state.specs.Regrouped.{HoldChanged, groups_after, is_edited_at, is_spread_anew, spread_anew}
+use Rattle.cube_state.specs.GroupAfter.{group_row_count}
+use Rattle.cube_state.specs.Regrouped.{HoldChanged, group_is_respread, groups_after, is_edited_at, spread_anew}
 use Rattle.facts_kept.proofs.ValidFacts.{few-rows, valid-regions}
 use Rattle.cube_state.proofs.OneGroup.{IsMove, valid-later}
 use Rattle.cube_state.proofs.RowBounds.{rows-le, rows_at-le}
 
 -- the rows of the groups of some codes
 abbrev pub rows_over : Policy → ℕ → List Dimension → List Fact → List ℕ → ℕ
-rows_over policy columns dims facts codes = sum_by (λ code. rows_of (group_at policy columns dims facts code)) codes
+rows_over policy columns dims facts codes = sum_by (λ code. group_row_count (group_at policy columns dims facts code)) codes
 
 -- the groups, the codes and the numbers of rows are those of the codes so far
 pub record IsDraft (policy : Policy) (columns : ℕ) (dims : List Dimension) (edit : Edit) (facts : List Fact) (done : List ℕ) (groups : Entries Group) (anew : List ℕ) (before now : ℕ) : Type 0 where
@@ -40,12 +40,12 @@ groups_after-append : (policy : Policy) (columns : ℕ) (dims : List Dimension) 
     → groups_after policy columns dims edit facts (xs ++ ys) ≡ groups_after policy columns dims edit facts xs ++ groups_after policy columns dims edit facts ys
 groups_after-append policy columns dims edit facts xs ys =
     let here : ℕ → ℕ × Option Group = λ code. (code, group_at policy columns dims (after edit facts) code) in
-    let changed : ℕ → Bool = λ code. is_edited_at dims edit facts code || is_spread_anew (group_at policy columns dims facts code) (group_at policy columns dims (after edit facts) code) in
+    let changed : ℕ → Bool = λ code. is_edited_at dims edit facts code || group_is_respread (group_at policy columns dims facts code) (group_at policy columns dims (after edit facts) code) in
     ap (map here) (filter-append changed xs ys) ∙ map-append here (filter changed xs) (filter changed ys)
 
 spread_anew-append : (policy : Policy) (columns : ℕ) (dims : List Dimension) (edit : Edit) (facts : List Fact) (xs ys : List ℕ)
     → spread_anew policy columns dims edit facts (xs ++ ys) ≡ spread_anew policy columns dims edit facts xs ++ spread_anew policy columns dims edit facts ys
-spread_anew-append policy columns dims edit facts xs ys = filter-append (λ code. is_spread_anew (group_at policy columns dims facts code) (group_at policy columns dims (after edit facts) code)) xs ys
+spread_anew-append policy columns dims edit facts xs ys = filter-append (λ code. group_is_respread (group_at policy columns dims facts code) (group_at policy columns dims (after edit facts) code)) xs ys
 
 -- nothing is made of no code
 pub drafted-none : (policy : Policy) (columns : ℕ) (dims : List Dimension) (edit : Edit) (facts : List Fact) (codes : List ℕ) (groups : Entries Group) (anew : List ℕ) → groups ≡ [] → anew ≡ []
@@ -60,15 +60,15 @@ drafted-none policy columns dims edit facts codes groups anew no_groups no_codes
 -- one code more
 pub drafted-next : (policy : Policy) (columns : ℕ) (dims : List Dimension) (edit : Edit) (facts : List Fact) (codes : List ℕ) (i code : ℕ) (groups more_groups : Entries Group) (anew more_anew : List ℕ) (before more_before now more_now : ℕ)
     → i < length codes → code ≡ get_or codes i code → IsDraft policy columns dims edit facts (take i codes) groups anew before now
-    → more_before ≡ before + rows_of (group_at policy columns dims facts code) → more_now ≡ now + rows_of (group_at policy columns dims (after edit facts) code)
+    → more_before ≡ before + group_row_count (group_at policy columns dims facts code) → more_now ≡ now + group_row_count (group_at policy columns dims (after edit facts) code)
     → more_anew ≡ anew ++ spread_anew policy columns dims edit facts (code ∷ []) → (more_now ≤ MAX_ROWS → more_groups ≡ groups ++ groups_after policy columns dims edit facts (code ∷ []))
     → IsDraft policy columns dims edit facts (take (i + 1) codes) more_groups more_anew more_before more_now
 drafted-next policy columns dims edit facts codes i code groups more_groups anew more_anew before more_before now more_now within at so_far one_before one_now one_anew one_groups =
     let some = take i codes in
     let more : take (i + 1) codes ≡ some ++ code ∷ [] = take_more codes i code within ∙ ap (λ c. some ++ c ∷ []) (sym at) in
     subst (λ done. IsDraft policy columns dims edit facts done more_groups more_anew more_before more_now) (sym more) (record {
-      before_is = omega (arith, one_before, so_far.before_is, sum_by_push (λ c. rows_of (group_at policy columns dims facts c)) some code);
-      now_is = omega (arith, one_now, so_far.now_is, sum_by_push (λ c. rows_of (group_at policy columns dims (after edit facts) c)) some code);
+      before_is = omega (arith, one_before, so_far.before_is, sum_by_push (λ c. group_row_count (group_at policy columns dims facts c)) some code);
+      now_is = omega (arith, one_now, so_far.now_is, sum_by_push (λ c. group_row_count (group_at policy columns dims (after edit facts) c)) some code);
       anew_is = one_anew ∙ ap (λ cs. cs ++ spread_anew policy columns dims edit facts (code ∷ [])) so_far.anew_is ∙ sym (spread_anew-append policy columns dims edit facts some (code ∷ []));
       groups_are = λ few.
           one_groups few ∙ ap (λ gs. gs ++ groups_after policy columns dims edit facts (code ∷ [])) (so_far.groups_are (omega (arith, few, one_now))) ∙ sym (groups_after-append policy columns dims edit facts some (code ∷ []));
@@ -93,10 +93,10 @@ module _ (policy : Policy) (shape : ShapeValue) (dims : List Dimension) (edit : 
   regions_later = valid-regions shape dims later (valid-later shape dims edit facts move)
 
   -- the rows of one group are few
-  pub rows-before-le : (code : ℕ) → rows_of (group_at policy columns dims facts code) ≤ row_count (extended policy dims facts)
+  pub rows-before-le : (code : ℕ) → group_row_count (group_at policy columns dims facts code) ≤ row_count (extended policy dims facts)
   rows-before-le code = rows_at-le policy columns dims facts move.trees regions code
 
-  pub rows-later-le : (code : ℕ) → rows_of (group_at policy columns dims later code) ≤ MAX_FACTS * MAX_CELLS
+  pub rows-later-le : (code : ℕ) → group_row_count (group_at policy columns dims later code) ≤ MAX_FACTS * MAX_CELLS
   rows-later-le code = omega (arith, rows_at-le policy columns dims later move.trees regions_later code, few-rows policy shape dims later (valid-later shape dims edit facts move))
 
   -- and so are those of all
@@ -108,8 +108,8 @@ module _ (policy : Policy) (shape : ShapeValue) (dims : List Dimension) (edit : 
     pub drafted-few : (i : ℕ) (groups : Entries Group) (anew : List ℕ) (before now : ℕ) → IsDraft policy columns dims edit facts (take i codes) groups anew before now
         → (before ≤ row_count (extended policy dims facts)) × (now ≤ row_count (extended policy dims later))
     drafted-few i groups anew before now so_far = (
-      omega (arith, so_far.before_is, sum_by-take-le (λ c. rows_of (group_at policy columns dims facts c)) codes i, rows-le policy columns dims facts move.trees regions codes hold.ascending),
-      omega (arith, so_far.now_is, sum_by-take-le (λ c. rows_of (group_at policy columns dims later c)) codes i, rows-le policy columns dims later move.trees regions_later codes hold.ascending),
+      omega (arith, so_far.before_is, sum_by-take-le (λ c. group_row_count (group_at policy columns dims facts c)) codes i, rows-le policy columns dims facts move.trees regions codes hold.ascending),
+      omega (arith, so_far.now_is, sum_by-take-le (λ c. group_row_count (group_at policy columns dims later c)) codes i, rows-le policy columns dims later move.trees regions_later codes hold.ascending),
     )
 
     -- the numbers of rows differ by those of the groups

@@ -16,7 +16,7 @@ use Rattle.fact_groups.specs.Groups.{Group, column_sums, facts_with, group_at, s
 use Rattle.fact_records.specs.Shape.{IsShape, width_of_all}
 use Rattle.fact_records.specs.Valid.{IsFactOf}
 use Rattle.cube_state.specs.declared.moves.Moves.{Moves}
-use Rattle.cube_state.specs.GroupAfter.{AreWithin, fact_at, members_of, number_of, sums_after}
+use Rattle.cube_state.specs.GroupAfter.{AreValuesWithin, fact_with_code, members_of, number_of, sums_after}
 use Rattle.cube_state.specs.Moves.{AreMoves}
 use Rattle.facts_kept.specs.Kept.{IsState}
 use Rattle.cube_state.specs.State.{StateValue, policy_in}
@@ -66,37 +66,37 @@ module _ {P : Type 0} (weigh : P → CellStat → ℕ) (state seen : StateValue 
       few-seen = subst (λ o. members_of o ≤ MAX_FACTS) (sym (group-seen code got has)) (few-members policy columns state.dims state.facts code kept_in.valid.few)
 
       -- the sums of the group are those of accepted values
-      pub sums-seen : (n : ℕ) → n ≡ 1 + width_of_all seen.shape.measures → IsShape seen.shape → IfSome (option_copied got) (λ g. AreWithin (n - 1) (MAX_FACTS * MAX_VALUE) g.sums)
+      pub sums-seen : (n : ℕ) → n ≡ 1 + width_of_all seen.shape.measures → IsShape seen.shape → IfSome (option_copied got) (λ g. AreValuesWithin (n - 1) (MAX_FACTS * MAX_VALUE) g.sums)
       sums-seen n is shaped =
           let within = sums-within policy state.shape state.dims moves.edit state.facts move-seen code (subst (λ (s : StateValue P). IsShape s.shape) same shaped) in
-          subst (λ o. IfSome o (λ g. AreWithin (n - 1) (MAX_FACTS * MAX_VALUE) g.sums)) (sym (group-seen code got has))
-          (subst (λ c. IfSome (group_at policy columns state.dims state.facts code) (λ g. AreWithin c (MAX_FACTS * MAX_VALUE) g.sums)) (sym (columns-seen n is)) within)
+          subst (λ o. IfSome o (λ g. AreValuesWithin (n - 1) (MAX_FACTS * MAX_VALUE) g.sums)) (sym (group-seen code got has))
+          (subst (λ c. IfSome (group_at policy columns state.dims state.facts code) (λ g. AreValuesWithin c (MAX_FACTS * MAX_VALUE) g.sums)) (sym (columns-seen n is)) within)
 
       -- and so are the values of the facts that the edit takes and gives
-      values-of : (n : ℕ) → n ≡ 1 + width_of_all seen.shape.measures → IsShape seen.shape → (fact : Option Fact) → IfSome fact (IsFactOf state.shape state.dims) → (o : Option Fact) → o ≡ fact_at state.dims code fact → IfSome o (λ f. AreWithin (n - 1) MAX_VALUE f.cols)
+      values-of : (n : ℕ) → n ≡ 1 + width_of_all seen.shape.measures → IsShape seen.shape → (fact : Option Fact) → IfSome fact (IsFactOf state.shape state.dims) → (o : Option Fact) → o ≡ fact_with_code state.dims code fact → IfSome o (λ f. AreValuesWithin (n - 1) MAX_VALUE f.cols)
       values-of n is shaped fact each o at =
-          subst (λ o. IfSome o (λ f. AreWithin (n - 1) MAX_VALUE f.cols)) (sym at)
-          (subst (λ c. IfSome (fact_at state.dims code fact) (λ f. AreWithin c MAX_VALUE f.cols)) (sym (columns-seen n is)) (values-within state.shape state.dims code fact (subst (λ (s : StateValue P). IsShape s.shape) same shaped) each))
+          subst (λ o. IfSome o (λ f. AreValuesWithin (n - 1) MAX_VALUE f.cols)) (sym at)
+          (subst (λ c. IfSome (fact_with_code state.dims code fact) (λ f. AreValuesWithin c MAX_VALUE f.cols)) (sym (columns-seen n is)) (values-within state.shape state.dims code fact (subst (λ (s : StateValue P). IsShape s.shape) same shaped) each))
 
-      pub taken-within : (n : ℕ) → n ≡ 1 + width_of_all seen.shape.measures → IsShape seen.shape → (o : Option Fact) → o ≡ fact_at state.dims code moves.taken → IfSome o (λ f. AreWithin (n - 1) MAX_VALUE f.cols)
-      taken-within n is shaped o at = values-of n is shaped (taken moves.edit state.facts) (taken-of state.shape state.dims moves.edit state.facts move-seen) o (at ∙ ap (fact_at state.dims code) are.takes)
+      pub taken-within : (n : ℕ) → n ≡ 1 + width_of_all seen.shape.measures → IsShape seen.shape → (o : Option Fact) → o ≡ fact_with_code state.dims code moves.taken → IfSome o (λ f. AreValuesWithin (n - 1) MAX_VALUE f.cols)
+      taken-within n is shaped o at = values-of n is shaped (taken moves.edit state.facts) (taken-of state.shape state.dims moves.edit state.facts move-seen) o (at ∙ ap (fact_with_code state.dims code) are.takes)
 
-      pub given-within : (n : ℕ) → n ≡ 1 + width_of_all seen.shape.measures → IsShape seen.shape → (o : Option Fact) → o ≡ fact_at state.dims code moves.given → IfSome o (λ f. AreWithin (n - 1) MAX_VALUE f.cols)
-      given-within n is shaped o at = values-of n is shaped (given moves.edit) (given-of state.shape state.dims moves.edit state.facts move-seen) o (at ∙ ap (fact_at state.dims code) are.gives)
+      pub given-within : (n : ℕ) → n ≡ 1 + width_of_all seen.shape.measures → IsShape seen.shape → (o : Option Fact) → o ≡ fact_with_code state.dims code moves.given → IfSome o (λ f. AreValuesWithin (n - 1) MAX_VALUE f.cols)
+      given-within n is shaped o at = values-of n is shaped (given moves.edit) (given-of state.shape state.dims moves.edit state.facts move-seen) o (at ∙ ap (fact_with_code state.dims code) are.gives)
 
-      module _ (took gave from to : Option Fact) (took_is : took ≡ fact_at state.dims code from) (from_is : from ≡ moves.taken) (gave_is : gave ≡ fact_at state.dims code to) (to_is : to ≡ moves.given) where
-        less_one : took ≡ fact_at state.dims code (taken moves.edit state.facts)
-        less_one = took_is ∙ ap (fact_at state.dims code) (from_is ∙ are.takes)
+      module _ (took gave from to : Option Fact) (took_is : took ≡ fact_with_code state.dims code from) (from_is : from ≡ moves.taken) (gave_is : gave ≡ fact_with_code state.dims code to) (to_is : to ≡ moves.given) where
+        less_one : took ≡ fact_with_code state.dims code (taken moves.edit state.facts)
+        less_one = took_is ∙ ap (fact_with_code state.dims code) (from_is ∙ are.takes)
 
-        one_more : gave ≡ fact_at state.dims code (given moves.edit)
-        one_more = gave_is ∙ ap (fact_at state.dims code) (to_is ∙ are.gives)
+        one_more : gave ≡ fact_with_code state.dims code (given moves.edit)
+        one_more = gave_is ∙ ap (fact_with_code state.dims code) (to_is ∙ are.gives)
 
         sums-after : (n : ℕ) → n ≡ 1 + width_of_all seen.shape.measures → sums_after (n - 1) (option_copied got) took gave ≡ column_sums columns (facts_with state.dims code later)
         sums-after n is =
             ap (λ c. sums_after c (option_copied got) took gave) (columns-seen n is)
             ∙ ap (λ o. sums_after columns o took gave) (group-seen code got has)
             ∙ ap (λ f. sums_after columns (group_at policy columns state.dims state.facts code) f gave) less_one
-            ∙ ap (λ f. sums_after columns (group_at policy columns state.dims state.facts code) (fact_at state.dims code (taken moves.edit state.facts)) f) one_more
+            ∙ ap (λ f. sums_after columns (group_at policy columns state.dims state.facts code) (fact_with_code state.dims code (taken moves.edit state.facts)) f) one_more
             ∙ sums-move policy state.shape state.dims moves.edit state.facts move-seen code
 
         module _ (members less more : ℕ) (members_is : members ≡ members_of (option_copied got)) (less_is : less ≡ number_of took) (more_is : more ≡ number_of gave) where

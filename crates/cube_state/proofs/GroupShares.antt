@@ -17,29 +17,29 @@ use Rattle.fact_groups.specs.Groups.{Group, count_in, sum_in}
 use Rattle.fact_groups.proofs.Groups.{count_in-sum, count_over, sum_in-total, sum_over}
 use Rattle.fact_groups.proofs.Partition.{sum_by-alike}
 use Rattle.staged_map.specs.Staged.{Places, held, value_at}
-use Rattle.cube_state.specs.Answering.{groups_held, share_of, shares_of}
+use Rattle.cube_state.specs.Answering.{group_share, groups_held, shares_of}
 use Rattle.cube_state.specs.State.{StateValue}
 use Rattle.facts_kept.proofs.Modest.{AreModest, IsModest, count-within, members, modest-groups, product-within, sizes-of}
 
 -- a group more
-pub shares-push : (cells : List ℕ) (groups : List Group) (g : Group) → shares_of cells (groups ++ g ∷ []) ≡ shares_of cells groups ++ (if nat_lt 0 (weight_inside cells g.spread) then share_of cells g ∷ [] else [])
+pub shares-push : (cells : List ℕ) (groups : List Group) (g : Group) → shares_of cells (groups ++ g ∷ []) ≡ shares_of cells groups ++ (if nat_lt 0 (weight_inside cells g.spread) then group_share cells g ∷ [] else [])
 shares-push cells groups g =
-    ap (filter (λ (s : Share). nat_lt 0 s.weight)) (map-append (share_of cells) groups (g ∷ [])) ∙ filter-append (λ (s : Share). nat_lt 0 s.weight) (map (share_of cells) groups) (share_of cells g ∷ [])
+    ap (filter (λ (s : Share). nat_lt 0 s.weight)) (map-append (group_share cells) groups (g ∷ [])) ∙ filter-append (λ (s : Share). nat_lt 0 s.weight) (map (group_share cells) groups) (group_share cells g ∷ [])
 
 -- a group more of those that have been gone through
 module _ (cells : List ℕ) (groups more : List Group) (g : Group) (old : List Share) (is : old ≡ shares_of cells groups) (next : more ≡ groups ++ g ∷ []) where
-  whole : shares_of cells more ≡ old ++ (if nat_lt 0 (weight_inside cells g.spread) then share_of cells g ∷ [] else [])
-  whole = ap (shares_of cells) next ∙ shares-push cells groups g ∙ ap (λ (shares : List Share). shares ++ (if nat_lt 0 (weight_inside cells g.spread) then share_of cells g ∷ [] else [])) (sym is)
+  whole : shares_of cells more ≡ old ++ (if nat_lt 0 (weight_inside cells g.spread) then group_share cells g ∷ [] else [])
+  whole = ap (shares_of cells) next ∙ shares-push cells groups g ∙ ap (λ (shares : List Share). shares ++ (if nat_lt 0 (weight_inside cells g.spread) then group_share cells g ∷ [] else [])) (sym is)
 
-  pub shares-some : (new : List Share) (share : Share) → share ≡ share_of cells g → 0 < share.weight → new ≡ old ++ share ∷ [] → new ≡ shares_of cells more
+  pub shares-some : (new : List Share) (share : Share) → share ≡ group_share cells g → 0 < share.weight → new ≡ old ++ share ∷ [] → new ≡ shares_of cells more
   shares-some new share its some added =
       let test : nat_lt 0 (weight_inside cells g.spread) ≡ true = grind (arith, nat_tests, some, ap (λ (s : Share). s.weight) its) in
-      added ∙ ap (λ (s : Share). old ++ s ∷ []) its ∙ sym (whole ∙ ap (λ (b : Bool). old ++ (if b then share_of cells g ∷ [] else [])) test)
+      added ∙ ap (λ (s : Share). old ++ s ∷ []) its ∙ sym (whole ∙ ap (λ (b : Bool). old ++ (if b then group_share cells g ∷ [] else [])) test)
 
-  pub shares-nothing : (share : Share) → share ≡ share_of cells g → share.weight ≤ 0 → old ≡ shares_of cells more
+  pub shares-nothing : (share : Share) → share ≡ group_share cells g → share.weight ≤ 0 → old ≡ shares_of cells more
   shares-nothing share its none =
       let test : nat_lt 0 (weight_inside cells g.spread) ≡ false = grind (arith, nat_tests, none, ap (λ (s : Share). s.weight) its) in
-      sym (append-nil old) ∙ sym (whole ∙ ap (λ (b : Bool). old ++ (if b then share_of cells g ∷ [] else [])) test)
+      sym (append-nil old) ∙ sym (whole ∙ ap (λ (b : Bool). old ++ (if b then group_share cells g ∷ [] else [])) test)
 
 -- where no group comes, the shares stay
 pub shares-none : (cells : List ℕ) (groups more : List Group) (old : List Share) → old ≡ shares_of cells groups → more ≡ groups ++ [] → old ≡ shares_of cells more
@@ -71,35 +71,35 @@ shares-seen {P} state seen same cells = ap (λ (s : StateValue P). shares_of cel
 module _ (cells : List ℕ) (d : ℕ) where
   -- a number that a share without weight does not raise
   module _ (f : Share → ℕ) (none : (s : Share) → s.weight ≡ 0 → f s ≡ 0) where
-    one-share : (g : Group) (shares : List Share) → sum_by f (shares_at d (if nat_lt 0 (weight_inside cells g.spread) then share_of cells g ∷ shares else shares)) ≡ (if g.spread.den == d then f (share_of cells g) else 0) + sum_by f (shares_at d shares)
+    one-share : (g : Group) (shares : List Share) → sum_by f (shares_at d (if nat_lt 0 (weight_inside cells g.spread) then group_share cells g ∷ shares else shares)) ≡ (if g.spread.den == d then f (group_share cells g) else 0) + sum_by f (shares_at d shares)
     one-share g shares = by (nat_lt 0 (weight_inside cells g.spread)) (g.spread.den == d) refl refl
       where
         by : (some same : Bool) → nat_lt 0 (weight_inside cells g.spread) ≡ some → (g.spread.den == d) ≡ same
-            → sum_by f (shares_at d (if some then share_of cells g ∷ shares else shares)) ≡ (if same then f (share_of cells g) else 0) + sum_by f (shares_at d shares)
-        by true true some same = rw same (sum_by-cons f (share_of cells g) (shares_at d shares))
+            → sum_by f (shares_at d (if some then group_share cells g ∷ shares else shares)) ≡ (if same then f (group_share cells g) else 0) + sum_by f (shares_at d shares)
+        by true true some same = rw same (sum_by-cons f (group_share cells g) (shares_at d shares))
         by true false some same = rw same (omega arith)
-        by false true some same = omega (arith, none (share_of cells g) (grind (arith, nat_tests, some)))
+        by false true some same = omega (arith, none (group_share cells g) (grind (arith, nat_tests, some)))
         by false false some same = omega arith
 
-    pub sum-shares : (groups : List Group) → sum_by f (shares_at d (shares_of cells groups)) ≡ sum_by (λ g. if g.spread.den == d then f (share_of cells g) else 0) groups
+    pub sum-shares : (groups : List Group) → sum_by f (shares_at d (shares_of cells groups)) ≡ sum_by (λ g. if g.spread.den == d then f (group_share cells g) else 0) groups
     sum-shares [] = refl
-    sum-shares (g ∷ groups) = omega (arith, one-share g (shares_of cells groups), sum-shares groups, sum_by-cons (λ g. if g.spread.den == d then f (share_of cells g) else 0) g groups)
+    sum-shares (g ∷ groups) = omega (arith, one-share g (shares_of cells groups), sum-shares groups, sum_by-cons (λ g. if g.spread.den == d then f (group_share cells g) else 0) g groups)
 
   -- the same of whole numbers
   module _ (f : Share → ℤ) (none : (s : Share) → s.weight ≡ 0 → f s ≡ pos 0) where
-    one-total : (g : Group) (shares : List Share) → total_by f (shares_at d (if nat_lt 0 (weight_inside cells g.spread) then share_of cells g ∷ shares else shares)) ≡ (if g.spread.den == d then f (share_of cells g) else pos 0) +ℤ total_by f (shares_at d shares)
+    one-total : (g : Group) (shares : List Share) → total_by f (shares_at d (if nat_lt 0 (weight_inside cells g.spread) then group_share cells g ∷ shares else shares)) ≡ (if g.spread.den == d then f (group_share cells g) else pos 0) +ℤ total_by f (shares_at d shares)
     one-total g shares = by (nat_lt 0 (weight_inside cells g.spread)) (g.spread.den == d) refl refl
       where
         by : (some same : Bool) → nat_lt 0 (weight_inside cells g.spread) ≡ some → (g.spread.den == d) ≡ same
-            → total_by f (shares_at d (if some then share_of cells g ∷ shares else shares)) ≡ (if same then f (share_of cells g) else pos 0) +ℤ total_by f (shares_at d shares)
+            → total_by f (shares_at d (if some then group_share cells g ∷ shares else shares)) ≡ (if same then f (group_share cells g) else pos 0) +ℤ total_by f (shares_at d shares)
         by true true some same = rw same refl
         by true false some same = rw same (omega (arith, ints))
-        by false true some same = let nothing = none (share_of cells g) (grind (arith, nat_tests, some)) in omega (arith, ints, nothing)
+        by false true some same = let nothing = none (group_share cells g) (grind (arith, nat_tests, some)) in omega (arith, ints, nothing)
         by false false some same = omega (arith, ints)
 
-    total-shares : (groups : List Group) → total_by f (shares_at d (shares_of cells groups)) ≡ total_by (λ g. if g.spread.den == d then f (share_of cells g) else pos 0) groups
+    total-shares : (groups : List Group) → total_by f (shares_at d (shares_of cells groups)) ≡ total_by (λ g. if g.spread.den == d then f (group_share cells g) else pos 0) groups
     total-shares [] = refl
-    total-shares (g ∷ groups) = one-total g (shares_of cells groups) ∙ ap (λ z. (if g.spread.den == d then f (share_of cells g) else pos 0) +ℤ z) (total-shares groups)
+    total-shares (g ∷ groups) = one-total g (shares_of cells groups) ∙ ap (λ z. (if g.spread.den == d then f (group_share cells g) else pos 0) +ℤ z) (total-shares groups)
 
   turned : (b : Bool) (m n : ℕ) → (if b then m * n else 0) ≡ (if b then n * m else 0)
   turned true m n = omega arith
@@ -109,7 +109,7 @@ module _ (cells : List ℕ) (d : ℕ) where
   pub units-are : (groups : List Group) → units_at (shares_of cells groups) d ≡ count_in cells groups d
   units-are groups =
       sum-shares units_of (λ s none. omega (arith, ap (λ n. n * s.facts) none)) groups
-      ∙ sum_by-alike (λ g. if g.spread.den == d then units_of (share_of cells g) else 0) (count_over cells d) groups (λ g. turned (g.spread.den == d) (weight_inside cells g.spread) g.count)
+      ∙ sum_by-alike (λ g. if g.spread.den == d then units_of (group_share cells g) else 0) (count_over cells d) groups (λ g. turned (g.spread.den == d) (weight_inside cells g.spread) g.count)
       ∙ sym (count_in-sum cells d groups)
 
   no-product : (k : ℕ) (s : Share) → s.weight ≡ 0 → product_in k s ≡ pos 0
@@ -125,7 +125,7 @@ module _ (cells : List ℕ) (d : ℕ) where
   sizes-are : (k : ℕ) (groups : List Group) → size_at (shares_of cells groups) d k ≡ sum_by (λ g. nat_abs (sum_over cells k d g)) groups
   sizes-are k groups =
       sum-shares (λ s. nat_abs (product_in k s)) (λ s none. omega (arith, ints, ap nat_abs (no-product k s none))) groups
-      ∙ sum_by-alike (λ g. if g.spread.den == d then nat_abs (product_in k (share_of cells g)) else 0) (λ g. nat_abs (sum_over cells k d g)) groups (λ g. sized (g.spread.den == d) (product_in k (share_of cells g)))
+      ∙ sum_by-alike (λ g. if g.spread.den == d then nat_abs (product_in k (group_share cells g)) else 0) (λ g. nat_abs (sum_over cells k d g)) groups (λ g. sized (g.spread.den == d) (product_in k (group_share cells g)))
 
 -- shares of modest groups of few facts are such as are added up
 module _ (columns : ℕ) (cells : List ℕ) (groups : List Group) (each : All (IsModest columns) groups) (few : members groups ≤ MAX_FACTS) where
@@ -145,12 +145,12 @@ module _ (columns : ℕ) (cells : List ℕ) (groups : List Group) (each : All (I
         );
   }
 
-  shares-each : (some : List Group) → All (IsModest columns) some → All (IsShare (columns + 1)) (map (share_of cells) some)
+  shares-each : (some : List Group) → All (IsModest columns) some → All (IsShare (columns + 1)) (map (group_share cells) some)
   shares-each [] modest = All-nil (IsShare (columns + 1))
   shares-each (g ∷ some) modest =
       let one = All-head (IsModest columns) g some modest in
-      All-cons (IsShare (columns + 1)) (share_of cells g) (map (share_of cells) some)
+      All-cons (IsShare (columns + 1)) (group_share cells g) (map (group_share cells) some)
       (record { some = one.some; den_is = one.spread_is.some; columns_are = omega (arith, one.width) }) (shares-each some (All-tail (IsModest columns) g some modest))
 
   pub shares-are : All (IsShare (columns + 1)) (shares_of cells groups)
-  shares-are = All-filter (λ (s : Share). nat_lt 0 s.weight) (IsShare (columns + 1)) (map (share_of cells) groups) (shares-each groups each)
+  shares-are = All-filter (λ (s : Share). nat_lt 0 s.weight) (IsShare (columns + 1)) (map (group_share cells) groups) (shares-each groups each)

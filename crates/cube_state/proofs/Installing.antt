@@ -18,7 +18,7 @@ use Rattle.fact_records.specs.Shape.{ShapeValue, width_of_all}
 use Rattle.fact_records.specs.Valid.{IsValid}
 use Rattle.region_index.specs.Changes.{Applies}
 use Rattle.view_store.specs.declared.change.ViewChange.{ViewChange}
-use Rattle.view_store.specs.Changes.{AreAfter, IsStagedFor}
+use Rattle.view_store.specs.Changes.{AreAfter, AreStagedFor}
 use Rattle.view_store.specs.Views.{AreViewsOf, ViewMap, ViewMaps, view_of, without_entries}
 use Rattle.cube_state.specs.Sets.{IsEditFor}
 use Rattle.cube_state.specs.Sets.{SetsValue}
@@ -77,7 +77,7 @@ pub record IsSet (dims : List Dimension) (edit : Edit) (facts later : List Fact)
   pub stats : Installs old.stats new.stats sets.stats
   pub index : Applies old.index new.index sets.index.puts sets.index.drops
   pub groups : PutsAll old.groups new.groups sets.groups
-  pub views : (changes : List ViewChange) → IsStagedFor dims changes old.views sets.views → AreAfter dims changes old.views new.views
+  pub views : (changes : List ViewChange) → AreStagedFor dims changes old.views sets.views → AreAfter dims changes old.views new.views
   pub rows : new.rows ≡ count
 
 -- a put or a change leaves the facts with its fact
@@ -119,7 +119,7 @@ module _ {P : Type 0} (weigh : P → CellStat → ℕ) (state seen : StateValue 
 
   -- and the content is that after the edit
   pub after-installed : (new : StateValue P) → new.policy ≡ seen.policy → new.dims ≡ seen.dims → new.shape ≡ seen.shape → new.cuts ≡ map (λ (view : ViewMap). view.depths) new.kept.views.views → new.facts ≡ after edit seen.facts
-      → ((changes : List ViewChange) → IsStagedFor seen.dims changes seen.kept.views sets.views → AreAfter seen.dims changes seen.kept.views new.kept.views) → HasFacts (after edit state.facts) state new
+      → ((changes : List ViewChange) → AreStagedFor seen.dims changes seen.kept.views sets.views → AreAfter seen.dims changes seen.kept.views new.kept.views) → HasFacts (after edit state.facts) state new
   after-installed new policy dims shape cuts facts is =
       let views = fits.sets.views in
       let they = is views.changes views.staged in

@@ -6,7 +6,7 @@ use Rattle.cube_model.specs.Tree.{Dimension}
 use Rattle.staged_map.specs.Staged.{value_at}
 use Rattle.cell_weight.specs.Stats.{stat_at}
 use Rattle.fact_records.specs.Shape.{ShapeValue}
-use Rattle.view_store.specs.Changes.{HaveSameContent}
+use Rattle.view_store.specs.Changes.{HaveSameViews}
 use Rattle.facts_kept.specs.Kept.{IsState, Kept}
 use Rattle.facts_kept.proofs.SameViews.{AreViewsOfFacts-same}
 
@@ -15,7 +15,7 @@ pub record IsSameKept (old new : Kept) : Type 0 where
   pub stats : (cell : ℕ) → stat_at new.stats cell ≡ stat_at old.stats cell
   pub index : (code : ℕ) → value_at new.index code ≡ value_at old.index code
   pub groups : (code : ℕ) → value_at new.groups code ≡ value_at old.groups code
-  pub views : HaveSameContent old.views new.views
+  pub views : HaveSameViews old.views new.views
   pub rows : new.rows ≡ old.rows
 
 pub IsState-same : (policy : Policy) (shape : ShapeValue) (dims : List Dimension) (cuts : List (List ℕ)) (facts : List Fact) (old new : Kept) → IsSameKept old new → IsState policy shape dims cuts facts old → IsState policy shape dims cuts facts new

@@ -24,7 +24,7 @@ use Rattle.fact_groups.proofs.Groups.{first-holds, first-passes, group_at-region
 use Rattle.fact_records.specs.Judge.{fact_refusal}
 use Rattle.fact_records.specs.Shape.{IsShape, ShapeValue, width_of_all}
 use Rattle.fact_records.specs.Valid.{AreValid, IsEditOver, IsFactOf, IsValid}
-use Rattle.cube_state.specs.GroupAfter.{AreWithin, fact_at, members_of, number_of, sum_after, sum_of, sums_after, value_of}
+use Rattle.cube_state.specs.GroupAfter.{AreValuesWithin, fact_value, fact_with_code, group_total, members_of, number_of, sum_after, sums_after}
 use Rattle.cube_state.proofs.Accepting.{AreValid-after, allowed, given-valid}
 use Rattle.facts_kept.proofs.GroupsSoFar.{filter-never, same-columns}
 use Rattle.facts_kept.proofs.ValidFacts.{few-cells, valid-regions}
@@ -50,7 +50,7 @@ total-small f limit (x ∷ xs) each =
     added a b m n first second is = omega (arith, ints, first, second, is)
 
 -- a fact of a code counts once
-number-at : (dims : List Dimension) (code : ℕ) (fact : Option Fact) → number_of (fact_at dims code fact) ≡ option_map_or (λ f. if has_code dims code f then 1 else 0) fact 0
+number-at : (dims : List Dimension) (code : ℕ) (fact : Option Fact) → number_of (fact_with_code dims code fact) ≡ option_map_or (λ f. if has_code dims code f then 1 else 0) fact 0
 number-at dims code None = refl
 number-at dims code (Some fact) = either (has_code dims code fact)
   where
@@ -60,16 +60,16 @@ number-at dims code (Some fact) = either (has_code dims code fact)
 
 -- and adds its values
 value-at : (dims : List Dimension) (code column : ℕ) (fact : Option Fact)
-    → value_of (fact_at dims code fact) column ≡ option_map_or (λ f. if has_code dims code f then slice_index_or f.cols column (pos 0) else pos 0) fact (pos 0)
+    → fact_value (fact_with_code dims code fact) column ≡ option_map_or (λ f. if has_code dims code f then slice_index_or f.cols column (pos 0) else pos 0) fact (pos 0)
 value-at dims code column None = refl
 value-at dims code column (Some fact) = either (has_code dims code fact)
   where
-    either : (b : Bool) → value_of (if b then Some fact else None) column ≡ (if b then slice_index_or fact.cols column (pos 0) else pos 0)
+    either : (b : Bool) → fact_value (if b then Some fact else None) column ≡ (if b then slice_index_or fact.cols column (pos 0) else pos 0)
     either true = refl
     either false = refl
 
 -- what holds of a fact holds of it where it has the code
-at-holds : (P : Fact → Type 0) (dims : List Dimension) (code : ℕ) (fact : Option Fact) → IfSome fact P → IfSome (fact_at dims code fact) P
+at-holds : (P : Fact → Type 0) (dims : List Dimension) (code : ℕ) (fact : Option Fact) → IfSome fact P → IfSome (fact_with_code dims code fact) P
 at-holds P dims code None holds = tt
 at-holds P dims code (Some fact) holds = either (has_code dims code fact)
   where
@@ -101,10 +101,10 @@ given-of shape dims edit facts is =
     IfSome-weaker (IsValid shape dims) (IsFactOf shape dims) (given edit) (λ f one. one.accepted) (given-valid shape dims edit facts is.over (allowed shape dims edit facts is.accepted))
 
 -- the values of a fact are as many as the columns, and small
-pub values-within : (shape : ShapeValue) (dims : List Dimension) (code : ℕ) (fact : Option Fact) → IsShape shape → IfSome fact (IsFactOf shape dims) → IfSome (fact_at dims code fact) (λ f. AreWithin (width_of_all shape.measures) MAX_VALUE f.cols)
+pub values-within : (shape : ShapeValue) (dims : List Dimension) (code : ℕ) (fact : Option Fact) → IsShape shape → IfSome fact (IsFactOf shape dims) → IfSome (fact_with_code dims code fact) (λ f. AreValuesWithin (width_of_all shape.measures) MAX_VALUE f.cols)
 values-within shape dims code fact shaped valid =
-    at-holds (λ f. AreWithin (width_of_all shape.measures) MAX_VALUE f.cols) dims code fact
-    (IfSome-weaker (IsFactOf shape dims) (λ f. AreWithin (width_of_all shape.measures) MAX_VALUE f.cols) fact
+    at-holds (λ f. AreValuesWithin (width_of_all shape.measures) MAX_VALUE f.cols) dims code fact
+    (IfSome-weaker (IsFactOf shape dims) (λ f. AreValuesWithin (width_of_all shape.measures) MAX_VALUE f.cols) fact
     (λ f of. record { count = count-accepted shape f.cols of.values; small = small-accepted shape f.cols of.values shaped.measures }) valid)
 
 module _ (policy : Policy) (columns : ℕ) (dims : List Dimension) (facts : List Fact) (code : ℕ) where
@@ -124,10 +124,10 @@ module _ (policy : Policy) (columns : ℕ) (dims : List Dimension) (facts : List
       either (Some f) is = refl
 
   -- and its sums are those of their columns
-  pub sum-at : (column : ℕ) → column < columns → sum_of (group_at policy columns dims facts code) column ≡ total_by (λ f. slice_index_or f.cols column (pos 0)) (facts_with dims code facts)
+  pub sum-at : (column : ℕ) → column < columns → group_total (group_at policy columns dims facts code) column ≡ total_by (λ f. slice_index_or f.cols column (pos 0)) (facts_with dims code facts)
   sum-at column within = either (find (has_code dims code) facts) refl
     where
-      either : (found : Option Fact) → find (has_code dims code) facts ≡ found → sum_of (option_map with_spread found) column ≡ total_by (λ f. slice_index_or f.cols column (pos 0)) (facts_with dims code facts)
+      either : (found : Option Fact) → find (has_code dims code) facts ≡ found → group_total (option_map with_spread found) column ≡ total_by (λ f. slice_index_or f.cols column (pos 0)) (facts_with dims code facts)
       either None none = sym (ap (total_by (λ (f : Fact). slice_index_or f.cols column (pos 0))) (filter-never (has_code dims code) facts none))
       either (Some f) is = get_or-map-range_with_len (λ k. total_by (λ f. slice_index_or f.cols k (pos 0)) (facts_with dims code facts)) 0 columns column column (pos 0) within (omega arith)
 
@@ -164,10 +164,10 @@ module _ (policy : Policy) (shape : ShapeValue) (dims : List Dimension) (edit : 
   before = group_at policy columns dims facts code
 
   abbrev took : Option Fact
-  took = fact_at dims code (taken edit facts)
+  took = fact_with_code dims code (taken edit facts)
 
   abbrev gave : Option Fact
-  gave = fact_at dims code (given edit)
+  gave = fact_with_code dims code (given edit)
 
   -- the facts that have the code after the edit are those before, with the one and without the other
   pub members-move : length (facts_with dims code later) + number_of took ≡ members_of before + number_of gave
@@ -204,10 +204,10 @@ module _ (policy : Policy) (shape : ShapeValue) (dims : List Dimension) (edit : 
       (All-weaker (IsValid shape dims) (λ f. nat_abs (slice_index_or f.cols column (pos 0)) ≤ MAX_VALUE) (value-small shaped column within) facts move.valid.each)) in
       omega (arith, small, few-with policy columns dims facts code move.valid.few)
 
-  pub sums-within : IsShape shape → IfSome before (λ g. AreWithin columns (MAX_FACTS * MAX_VALUE) g.sums)
+  pub sums-within : IsShape shape → IfSome before (λ g. AreValuesWithin columns (MAX_FACTS * MAX_VALUE) g.sums)
   sums-within shaped = either (find (has_code dims code) facts)
     where
-      either : (found : Option Fact) → IfSome (option_map (with_spread policy columns dims facts code) found) (λ g. AreWithin columns (MAX_FACTS * MAX_VALUE) g.sums)
+      either : (found : Option Fact) → IfSome (option_map (with_spread policy columns dims facts code) found) (λ g. AreValuesWithin columns (MAX_FACTS * MAX_VALUE) g.sums)
       either None = tt
       either (Some f) = record {
         count = length-map-range_with_len (λ k. total_by (λ f. slice_index_or f.cols k (pos 0)) (facts_with dims code facts)) 0 columns;

@@ -16,9 +16,9 @@ use Rattle.fact_groups.specs.Groups.{Group, facts_with, group_at, spread_at}
 use Rattle.fact_groups.proofs.Refreshing.{same_allocation}
 use Rattle.fact_records.specs.Shape.{ShapeValue, width_of_all}
 use Rattle.cube_state.specs.declared.moves.Moves.{Moves}
-use Rattle.cube_state.specs.GroupAfter.{rows_of}
+use Rattle.cube_state.specs.GroupAfter.{group_row_count}
 use Rattle.cube_state.specs.Moves.{AreMoves}
-use Rattle.cube_state.specs.Regrouped.{HoldChanged, groups_after, is_spread_anew, spread_anew}
+use Rattle.cube_state.specs.Regrouped.{HoldChanged, group_is_respread, groups_after, spread_anew}
 use Rattle.facts_kept.specs.Kept.{IsState}
 use Rattle.cube_state.specs.State.{StateValue, policy_in}
 use Rattle.cube_state.proofs.Drafted.{IsDraft, drafted-all, drafted-few, drafted-rows, rows-before-le, rows-later-few, rows-later-le}
@@ -53,7 +53,7 @@ module _ (policy : Policy) (shape : ShapeValue) (dims : List Dimension) (edit : 
 
     -- and where the region is spread as before, so is the group
     pub spread-kept : (region : List ℕ) → found ≡ Some region → (b : Group) → group_at policy columns dims facts code ≡ Some b → spread_at policy dims facts region ≡ spread_at policy dims later region
-        → is_spread_anew (Some b) (Some n) ≡ false
+        → group_is_respread (Some b) (Some n) ≡ false
     spread-kept region this b before_is kept =
         let some = some-members n now_is in
         let first : b.spread ≡ spread_at policy dims facts region = subst (λ o. IfSome o (λ g. g.spread ≡ spread_at policy dims facts region)) before_is (spread-there policy shape dims edit facts move code found is some region this) in
@@ -78,12 +78,12 @@ module _ {P : Type 0} (weigh : P → CellStat → ℕ) (state seen : StateValue 
   then_facts = after moves.edit state.facts
 
   -- no group has more rows than there may be
-  pub rows-before-seen : (code : ℕ) (got : Option (Bor Group)) → option_copied got ≡ value_at seen.kept.groups code → rows_of (option_copied got) ≤ MAX_ROWS
+  pub rows-before-seen : (code : ℕ) (got : Option (Bor Group)) → option_copied got ≡ value_at seen.kept.groups code → group_row_count (option_copied got) ≤ MAX_ROWS
   rows-before-seen code got has =
-      omega (arith, ap rows_of (group-seen weigh state seen same kept code got has), rows-before-le policy state.shape state.dims moves.edit state.facts move code, kept_in.rows, kept_in.few_rows)
+      omega (arith, ap group_row_count (group-seen weigh state seen same kept code got has), rows-before-le policy state.shape state.dims moves.edit state.facts move code, kept_in.rows, kept_in.few_rows)
 
-  pub rows-later-seen : (code : ℕ) (next : Option Group) → next ≡ group_at policy width state.dims then_facts code → rows_of next ≤ MAX_FACTS * MAX_CELLS
-  rows-later-seen code next is = omega (arith, ap rows_of is, rows-later-le policy state.shape state.dims moves.edit state.facts move code)
+  pub rows-later-seen : (code : ℕ) (next : Option Group) → next ≡ group_at policy width state.dims then_facts code → group_row_count next ≤ MAX_FACTS * MAX_CELLS
+  rows-later-seen code next is = omega (arith, ap group_row_count is, rows-later-le policy state.shape state.dims moves.edit state.facts move code)
 
   module _ (code : ℕ) (before now : Option (Bor Group)) (before_is : option_copied before ≡ group_at policy width state.dims state.facts code) (now_is : option_copied now ≡ group_at policy width state.dims then_facts code)
       (found : Option (List ℕ)) (is : found ≡ slice_get (all_regions seen.dims) code) (n : Bor Group) (now_there : now ≡ Some n) where
@@ -97,10 +97,10 @@ module _ {P : Type 0} (weigh : P → CellStat → ℕ) (state seen : StateValue 
     grouped-seen none = region-grouped policy state.shape state.dims moves.edit state.facts move code found is_in n.now at_now none
 
     pub kept-seen : (region : List ℕ) → found ≡ Some region → (b : Bor Group) → before ≡ Some b → spread_at policy state.dims state.facts region ≡ spread_at policy state.dims then_facts region
-        → is_spread_anew (option_copied before) (option_copied now) ≡ false
+        → group_is_respread (option_copied before) (option_copied now) ≡ false
     kept-seen region this b there stays =
-        ap (λ o. is_spread_anew o (option_copied now)) (ap option_copied there)
-        ∙ ap (λ o. is_spread_anew (Some b.now) o) (ap option_copied now_there)
+        ap (λ o. group_is_respread o (option_copied now)) (ap option_copied there)
+        ∙ ap (λ o. group_is_respread (Some b.now) o) (ap option_copied now_there)
         ∙ spread-kept policy state.shape state.dims moves.edit state.facts move code found is_in n.now at_now region this b.now (sym before_is ∙ ap option_copied there) stays
 
   module _ (codes : List ℕ) (hold : HoldChanged policy width state.dims moves.edit state.facts codes) (i : ℕ) (groups : Entries Group) (anew : List ℕ) (before now : ℕ)

@@ -8,26 +8,22 @@ use Rattle.cube_model.specs.Facts.{after}
 use Rattle.cube_model.specs.Tree.{Dimension}
 use Rattle.region_algebra.specs.Space.{IsRegion}
 use Rattle.staged_map.specs.Staged.{Entries, have_places}
-use Rattle.cell_weight.specs.Stats.{have_places as have_stat_places}
+use Rattle.cell_weight.specs.Stats.{have_stat_places}
 use Rattle.alloc_rows.specs.Changed.{new_stats}
 use Rattle.region_index.specs.Changes.{IsStagedFor}
-use Rattle.fact_groups.specs.Edits.{edited_id}
-use Rattle.fact_groups.specs.Edits.{taken as taken_by}
+use Rattle.fact_groups.specs.Edits.{edited_id, taken}
 use Rattle.fact_groups.specs.Groups.{Group}
 use Rattle.fact_groups.proofs.Groups.{first-holds}
 use Rattle.fact_records.specs.Shape.{IsShape, width_of_all}
 use Rattle.fact_records.specs.Valid.{AreValid, IsValid}
 use Rattle.view_store.specs.declared.change.ViewChange.{ViewChange}
-use Rattle.view_store.specs.Changes.{FitsViews, IsSameView, given, taken}
-use Rattle.view_store.specs.Changes.{HaveSameContent as HaveSameViews}
-use Rattle.view_store.specs.Changes.{IsStagedFor as AreStagedFor}
+use Rattle.view_store.specs.Changes.{AreStagedFor, FitsViews, HaveSameViews, IsSameView, facts_put, facts_taken_away}
 use Rattle.view_store.specs.Facts.{FollowBy}
 use Rattle.view_store.specs.Views.{ViewMap, ViewMaps}
 use Rattle.cube_state.specs.declared.moves.Moves.{Moves}
 use Rattle.cube_state.specs.declared.regrouped.Regrouped.{Regrouped}
 use Rattle.cube_state.specs.Moves.{AreMoves, indexed_as}
-use Rattle.cube_state.specs.Sets.{AreSetsFor, SetGroups, SetStats, has_room}
-use Rattle.cube_state.specs.Sets.{SetsValue}
+use Rattle.cube_state.specs.Sets.{AreSetsFor, SetGroups, SetStats, SetsValue, has_room}
 use Rattle.cube_state.specs.Regrouped.{IsRegrouped}
 use Rattle.facts_kept.specs.Kept.{IsState, Kept}
 use Rattle.cube_state.specs.State.{HaveSameContent, StateValue, policy_in, rows_after, rows_in}
@@ -75,7 +71,7 @@ module _ {P : Type 0} (weigh : P → CellStat → ℕ) (state seen : StateValue 
   lost-region edit_moves moves =
       either edit_moves.taken ((subst (λ (s : StateValue P). AreMoves (policy_in weigh s) s.shape s.dims s.facts edit_moves) (sym same) moves).takes)
     where
-      either : (took : Option Fact) → took ≡ taken_by edit_moves.edit seen.facts → IfSome took (λ f. IsRegion seen.dims f.region)
+      either : (took : Option Fact) → took ≡ taken edit_moves.edit seen.facts → IfSome took (λ f. IsRegion seen.dims f.region)
       either None is = tt
       either (Some f) is = (first-holds (IsValid seen.shape seen.dims) (λ f. f.id == edited_id edit_moves.edit) seen.facts f kept.valid.each (sym is)).accepted.placed.region
 
@@ -86,7 +82,7 @@ module _ {P : Type 0} (weigh : P → CellStat → ℕ) (state seen : StateValue 
   module _ (edit_moves : Moves) (regrouped : Regrouped) (changes : List ViewChange)
       (moves : AreMoves (policy_in weigh state) state.shape state.dims state.facts edit_moves)
       (groups : IsRegrouped (policy_in weigh state) (width_of_all state.shape.measures) state.dims edit_moves.edit state.facts regrouped)
-      (follow : FollowBy (rows_in weigh state) (taken changes) (given changes) (rows_after weigh state edit_moves.edit))
+      (follow : FollowBy (rows_in weigh state) (facts_taken_away changes) (facts_put changes) (rows_after weigh state edit_moves.edit))
       (shape_is : IsShape seen.shape) where
     seen_moves : AreMoves (policy_in weigh seen) seen.shape seen.dims seen.facts edit_moves
     seen_moves = subst (λ (s : StateValue P). AreMoves (policy_in weigh s) s.shape s.dims s.facts edit_moves) (sym same) moves
@@ -94,8 +90,8 @@ module _ {P : Type 0} (weigh : P → CellStat → ℕ) (state seen : StateValue 
     seen_groups : IsRegrouped (policy_in weigh seen) (width_of_all seen.shape.measures) seen.dims edit_moves.edit seen.facts regrouped
     seen_groups = subst (λ (s : StateValue P). IsRegrouped (policy_in weigh s) (width_of_all s.shape.measures) s.dims edit_moves.edit s.facts regrouped) (sym same) groups
 
-    seen_follow : FollowBy (rows_in weigh seen) (taken changes) (given changes) (rows_after weigh seen edit_moves.edit)
-    seen_follow = subst (λ (s : StateValue P). FollowBy (rows_in weigh s) (taken changes) (given changes) (rows_after weigh s edit_moves.edit)) (sym same) follow
+    seen_follow : FollowBy (rows_in weigh seen) (facts_taken_away changes) (facts_put changes) (rows_after weigh seen edit_moves.edit)
+    seen_follow = subst (λ (s : StateValue P). FollowBy (rows_in weigh s) (facts_taken_away changes) (facts_put changes) (rows_after weigh s edit_moves.edit)) (sym same) follow
 
     valid : AreValid seen.shape seen.dims (after edit_moves.edit seen.facts)
     valid = AreValid-after seen.shape seen.dims edit_moves.edit seen.facts seen_moves.over (allowed seen.shape seen.dims edit_moves.edit seen.facts seen_moves.accepted) kept.valid

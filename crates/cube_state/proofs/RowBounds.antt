@@ -17,7 +17,7 @@ use Rattle.fact_groups.proofs.Ascending.{once_among}
 use Rattle.fact_groups.proofs.Groups.{first-holds, first-passes}
 use Rattle.fact_groups.proofs.Partition.{sum_by-alike, sum_by-either, sum_by-filter}
 use Rattle.fact_groups.proofs.Sharing.{allocation-shared}
-use Rattle.cube_state.specs.GroupAfter.{rows_of}
+use Rattle.cube_state.specs.GroupAfter.{group_row_count}
 use Rattle.facts_kept.proofs.GroupsSoFar.{filter-never}
 
 -- a number that stands among ascending ones counts once at most
@@ -78,7 +78,7 @@ module _ (policy : Policy) (columns : ℕ) (dims : List Dimension) (facts : List
   rows_by f = length (allocation policy dims facts f).rows
 
   abbrev rows_at : ℕ → ℕ
-  rows_at code = rows_of (group_at policy columns dims facts code)
+  rows_at code = group_row_count (group_at policy columns dims facts code)
 
   abbrev group_from : ℕ → Fact → Group
   group_from code f = record { spread = allocation policy dims facts f; count = length (facts_with dims code facts); sums = column_sums columns (facts_with dims code facts) }
@@ -87,7 +87,7 @@ module _ (policy : Policy) (columns : ℕ) (dims : List Dimension) (facts : List
   rows-at : (code : ℕ) → rows_at code ≡ sum_by rows_by (facts_with dims code facts)
   rows-at code = either (find (has_code dims code) facts) refl
     where
-      either : (found : Option Fact) → find (has_code dims code) facts ≡ found → rows_of (option_map (group_from code) found) ≡ sum_by rows_by (facts_with dims code facts)
+      either : (found : Option Fact) → find (has_code dims code) facts ≡ found → group_row_count (option_map (group_from code) found) ≡ sum_by rows_by (facts_with dims code facts)
       either None none = sym (ap (sum_by rows_by) (filter-never (has_code dims code) facts none))
       either (Some f) is =
           let here = first-passes (has_code dims code) facts f is in

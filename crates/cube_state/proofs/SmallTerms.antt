@@ -6,7 +6,7 @@ use Rattle.std.proofs.lemmas.List.Elements.{All-cons, All-head, All-nil, All-tai
 use Rattle.cube_model.specs.declared.term.Term.{Term}
 use Rattle.cube_model.specs.Answer.{count_of, merge, merge_all, numerator_of}
 use Rattle.cube_model.specs.Limits.{MAX_VALUE, WIDE}
-use Rattle.view_store.specs.Changes.{IsWithin}
+use Rattle.view_store.specs.Changes.{IsWithinWide}
 use Rattle.view_store.proofs.Merges.{AreRegular, count_of-merge, numerator_of-merge}
 
 pub record AreSmallTerms (columns : ℕ) (terms : List Term) : Type 0 where
@@ -47,7 +47,7 @@ module _ (columns : ℕ) where
 
   -- so nothing passes WIDE where all merged are within it
   pub merges-within : (answers : List (List Term)) (whole : List Term) → All (AreSmallTerms columns) answers → merge_all columns answers ≡ whole → ((d : ℕ) → MAX_VALUE * count_of whole d ≤ WIDE)
-      → (n : ℕ) → IsWithin (columns + 1) (merge_all columns (take n answers))
+      → (n : ℕ) → IsWithinWide (columns + 1) (merge_all columns (take n answers))
   merges-within answers whole each is most n =
       let counts : (d : ℕ) → MAX_VALUE * count_of (merge_all columns (take n answers)) d ≤ WIDE = λ d. omega (arith, count-take n d answers, ap (λ (terms : List Term). count_of terms d) is, most d) in
       record {

@@ -17,9 +17,8 @@ use Rattle.cube_model.specs.Tree.{Dimension}
 use Rattle.cube_model.proofs.Ascending.{ascends_filter, ascends_map}
 use Rattle.region_algebra.specs.Space.{code_of}
 use Rattle.staged_map.specs.Staged.{Places, have_places, value_at}
-use Rattle.staged_map.proofs.Entries.{entry_of-made, keys_of-made}
-use Rattle.cell_weight.specs.Stats.{IsStat, stat_at}
-use Rattle.cell_weight.specs.Stats.{have_places as have_stat_places}
+use Rattle.staged_map.proofs.Entries.{keys_of-made, staged_entry-made}
+use Rattle.cell_weight.specs.Stats.{IsStat, have_stat_places, stat_at}
 use Rattle.alloc_rows.specs.Changed.{new_stats}
 use Rattle.region_index.specs.Changes.{IsStagedFor, Pair, Staging, ids_after, is_named}
 use Rattle.region_index.specs.Content.{AreAscending, Content, ids_at}
@@ -36,7 +35,7 @@ use Rattle.fact_groups.proofs.Refreshing.{among-kept, any-found}
 use Rattle.fact_groups.proofs.Statistics.{ascends-touched}
 use Rattle.cube_state.specs.Moves.{indexed_as}
 use Rattle.cube_state.specs.Sets.{SetGroups, SetIndex, SetStats}
-use Rattle.cube_state.specs.Regrouped.{HoldChanged, groups_after, is_edited_at, is_spread_anew, regrouped}
+use Rattle.cube_state.specs.Regrouped.{HoldChanged, group_is_respread, groups_after, is_edited_at, regrouped}
 use Rattle.touched_cells.specs.Touched.{touched}
 use Rattle.cube_state.proofs.LeftOut.{groups-left_out}
 use Rattle.cube_state.proofs.Spreading.{stat_after-touched}
@@ -183,7 +182,7 @@ module _ (policy : Policy) (columns : ℕ) (dims : List Dimension) (edit : Edit)
     different = subst (IsDistinct eqb) (sym (keys_of-made group some)) (IsDistinct-ascending 0 some (ascends_filter (λ (c : ℕ). c) anew 0 codes hold.ascending));
     placed = placed;
     made = λ code.
-        ap (λ o. unwrap_or o (value_at places code)) (entry_of-made group some code ∙ ap (λ (b : Bool). cond b (Some (group code)) None) (among-turned some code))
+        ap (λ o. unwrap_or o (value_at places code)) (staged_entry-made group some code ∙ ap (λ (b : Bool). cond b (Some (group code)) None) (among-turned some code))
         ∙ either code (is_among some code) refl;
   }
     where
@@ -191,7 +190,7 @@ module _ (policy : Policy) (columns : ℕ) (dims : List Dimension) (edit : Edit)
       group code = group_at policy columns dims (after edit facts) code
 
       anew : ℕ → Bool
-      anew c = is_edited_at dims edit facts c || is_spread_anew (group_at policy columns dims facts c) (group_at policy columns dims (after edit facts) c)
+      anew c = is_edited_at dims edit facts c || group_is_respread (group_at policy columns dims facts c) (group_at policy columns dims (after edit facts) c)
 
       some : List ℕ
       some = regrouped policy columns dims edit facts codes

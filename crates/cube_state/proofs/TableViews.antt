@@ -16,7 +16,7 @@ use Rattle.fact_records.specs.Shape.{IsShape, ShapeValue, width_of_all}
 use Rattle.group_sum.specs.Terms.{TermList}
 use Rattle.region_algebra.specs.Space.{IsRegion}
 use Rattle.view_store.specs.declared.change.ViewChange.{ViewChange}
-use Rattle.view_store.specs.Changes.{AreAfter, FitsView, FitsViews, HaveSameContent}
+use Rattle.view_store.specs.Changes.{AreAfter, FitsView, FitsViews, HaveSameViews}
 use Rattle.view_store.specs.Cuts.{entries_of}
 use Rattle.view_store.specs.Facts.{IsViewOfFacts}
 use Rattle.view_store.specs.Views.{IsViewOf, ViewMap, ViewMaps}
@@ -71,7 +71,7 @@ module _ {P : Type 0} (weigh : P → CellStat → ℕ) (seen : StateValue P) (ke
     near-fits =
         fit-puts (weigh seen.policy) bound seen.shape seen.dims seen.facts is trees kept.valid seen.kept.groups kept.groups codes hold.ascending empty.views (answers-none seen.shape seen.dims empty is_empty) is_empty.each
 
-    view-made : (staged new : ViewMaps) → HaveSameContent empty staged → AreAfter seen.dims changes staged new → All (λ view. view.columns ≡ new.columns) new.views → IsRegion seen.dims region → IsOneViewUnder weigh seen cuts region new
+    view-made : (staged new : ViewMaps) → HaveSameViews empty staged → AreAfter seen.dims changes staged new → All (λ view. view.columns ≡ new.columns) new.views → IsRegion seen.dims region → IsOneViewUnder weigh seen cuts region new
     view-made staged new same after each named = by new.views refl made.cuts_are made.over made.answers each
       where
         made : AreViewsOfFacts seen.dims (cuts_of empty) (width + 1) near new
@@ -149,10 +149,10 @@ module _ {P : Type 0} (weigh : P → CellStat → ℕ) (state seen : StateValue 
     pub fits-seen : All (FitsView seen.dims puts) begun.views
     fits-seen = rw (are, begins) (near-fits weigh seen kept bound is trees cuts region codes columns wide (length-seen cuts deep) hold-seen)
 
-    pub made-seen : (staged new : ViewMaps) → HaveSameContent begun staged → AreAfter seen.dims puts staged new → (count : ℕ) → count ≡ new.columns → All (λ view. view.columns ≡ count) new.views → IsOneViewUnder weigh state cuts region new
+    pub made-seen : (staged new : ViewMaps) → HaveSameViews begun staged → AreAfter seen.dims puts staged new → (count : ℕ) → count ≡ new.columns → All (λ view. view.columns ≡ count) new.views → IsOneViewUnder weigh state cuts region new
     made-seen staged new alike after count counted each =
         subst (λ (s : StateValue P). IsOneViewUnder weigh s cuts region new) same
-        (view-made weigh seen kept bound is trees cuts region codes columns wide (length-seen cuts deep) hold-seen staged new (subst (λ (maps : ViewMaps). HaveSameContent maps staged) begins alike)
+        (view-made weigh seen kept bound is trees cuts region codes columns wide (length-seen cuts deep) hold-seen staged new (subst (λ (maps : ViewMaps). HaveSameViews maps staged) begins alike)
         (subst (λ (changes : List ViewChange). AreAfter seen.dims changes staged new) are after) (subst (λ (n : ℕ). All (λ (view : ViewMap). view.columns ≡ n) new.views) counted each) named-seen)
 
   module _ (depths : List ℕ) (deep : length depths ≡ length state.dims) (cuts : List ℕ) (told : cuts ≡ depths_under seen.dims depths region) where

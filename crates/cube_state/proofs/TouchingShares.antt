@@ -25,7 +25,7 @@ use Rattle.fact_groups.specs.Partition.{IsPartition}
 use Rattle.fact_groups.proofs.Ascending.{once_among}
 use Rattle.fact_groups.proofs.Groups.{first-holds, first-passes}
 use Rattle.group_sum.specs.declared.shares.Share.{Share}
-use Rattle.cube_state.specs.Answering.{share_of, shares_of}
+use Rattle.cube_state.specs.Answering.{group_share, shares_of}
 
 -- where none of the cells is among others, none of the others is among the cells
 pub apart-each : (others cells : List ℕ) (k d : ℕ) → k < length others → list_any (is_among others) cells ≡ false → is_among cells (get_or others k d) ≡ false
@@ -172,7 +172,7 @@ module _ (policy : Policy) (columns : ℕ) (dims : List Dimension) (facts : List
         let first = groups_at policy columns dims facts (codes_touching dims region) in
         let others = groups_at policy columns dims facts (filter is_other held) in
         ap (shares_of cells) (filter_map-append (group_at policy columns dims facts) (codes_touching dims region) (filter is_other held))
-        ∙ ap (filter (λ (s : Share). nat_lt 0 s.weight)) (map-append (share_of cells) first others)
-        ∙ filter-append (λ (s : Share). nat_lt 0 s.weight) (map (share_of cells) first) (map (share_of cells) others)
+        ∙ ap (filter (λ (s : Share). nat_lt 0 s.weight)) (map-append (group_share cells) first others)
+        ∙ filter-append (λ (s : Share). nat_lt 0 s.weight) (map (group_share cells) first) (map (group_share cells) others)
         ∙ ap (λ (shares : List Share). shares_of cells first ++ shares) (shares-outside (filter is_other held) (other-codes held))
         ∙ append-nil (shares_of cells first)

@@ -15,7 +15,7 @@ use Rattle.cell_weight.specs.Stats.{IsStat}
 use Rattle.fact_records.specs.Shape.{IsShape, width_of_all}
 use Rattle.group_sum.specs.Terms.{TermList}
 use Rattle.region_algebra.specs.Space.{IsRegion}
-use Rattle.view_store.specs.Changes.{IsWithin}
+use Rattle.view_store.specs.Changes.{IsWithinWide}
 use Rattle.view_store.specs.Facts.{IsViewOfFacts}
 use Rattle.view_store.specs.Rolling.{FitsUnder, entries_under, is_below, rolled_up, serves, serving}
 use Rattle.view_store.specs.Views.{ViewMap, codes_of, entry_at, is_in_view, region_at}
@@ -72,7 +72,7 @@ module _ {P : Type 0} (weigh : P → CellStat → ℕ) (state seen : StateValue 
     fits-under region named served n =
         let values : view.columns - 1 ≡ width = omega (arith, view_columns) in
         let whole : view.columns - 1 + 1 ≡ view.columns = omega (arith, view_columns) in
-        subst (λ (c : ℕ). IsWithin c (merge_all (view.columns - 1) (take n (entries_under seen.dims view region)))) whole
+        subst (λ (c : ℕ). IsWithinWide c (merge_all (view.columns - 1) (take n (entries_under seen.dims view region)))) whole
         (merges-within (view.columns - 1) (entries_under seen.dims view region) (answer (view.columns - 1) seen.dims rows region)
         (small-each (view.columns - 1) (λ code. (entry_at view code).terms) (filter (is_below seen.dims region) (codes_of seen.dims view)) entry-small)
         (answer-of_facts seen.dims rows view region of trees named served)

@@ -21,20 +21,20 @@ use Rattle.fact_groups.proofs.AsFacts.{counts-follow, sums-follow}
 use Rattle.fact_records.specs.Shape.{IsShape, ShapeValue, policy_over, width_of_all}
 use Rattle.fact_records.specs.Valid.{AreValid}
 use Rattle.view_store.specs.declared.change.ViewChange.{ViewChange}
-use Rattle.view_store.specs.Changes.{FitsView, FitsViews, given, taken}
+use Rattle.view_store.specs.Changes.{FitsView, FitsViews, facts_put, facts_taken_away}
 use Rattle.view_store.specs.Facts.{FollowBy, IsViewOfFacts}
 use Rattle.view_store.specs.Views.{ViewMap}
 use Rattle.cube_state.specs.declared.moves.Moves.{Moves}
 use Rattle.cube_state.specs.declared.regrouped.Regrouped.{Regrouped}
 use Rattle.cube_state.specs.Moves.{AreMoves}
 use Rattle.cube_state.specs.Regrouped.{IsRegrouped}
-use Rattle.cube_state.specs.Regrouped.{HoldChanged, is_edited_at, is_spread_anew, regrouped}
+use Rattle.cube_state.specs.Regrouped.{HoldChanged, group_is_respread, is_edited_at, regrouped}
 use Rattle.facts_kept.specs.Kept.{IsState}
 use Rattle.cube_state.specs.State.{StateValue, policy_in, rows_after, rows_in}
 use Rattle.facts_kept.specs.ViewChanges.{AreOfRegions, IsOfRegion}
 use Rattle.cube_state.specs.ViewChanges.{EntriesAreOfRegions, changes_at, changes_by}
 use Rattle.facts_kept.proofs.ChangedEntries.{IsPlaced, StandFor, fits-views}
-use Rattle.facts_kept.proofs.ChangeGroups.{given-groups, taken-groups}
+use Rattle.facts_kept.proofs.ChangeGroups.{facts_put-groups, facts_taken_away-groups}
 use Rattle.cube_state.proofs.CodeChanges.{changes_with, each-with, given-with, taken-with}
 use Rattle.cube_state.proofs.GroupSeen.{move-seen}
 use Rattle.facts_kept.proofs.GroupRegions.{group-of_region, group-region, of-regions}
@@ -80,7 +80,7 @@ module _ (weigh : CellStat → ℕ) (bound : (s : CellStat) → IsStat s → wei
   later-regions = valid-regions shape dims later later-valid
 
   up : ascends_from (λ x. x) 0 changed ≡ true
-  up = ascends_filter (λ (x : ℕ). x) (λ code. is_edited_at dims edit facts code || is_spread_anew (before code) (now code)) 0 codes hold.ascending
+  up = ascends_filter (λ (x : ℕ). x) (λ code. is_edited_at dims edit facts code || group_is_respread (before code) (now code)) 0 codes hold.ascending
 
   increasing : IsStrictlyIncreasing changed
   increasing k within = ascends_later (λ (x : ℕ). x) 0 changed up k (k + 1) 0 0 (omega arith) within
@@ -89,11 +89,11 @@ module _ (weigh : CellStat → ℕ) (bound : (s : CellStat) → IsStat s → wei
   same = groups-left_out policy width dims edit facts move.valid.ascending codes hold
 
   -- the facts follow
-  taken-are : taken changes ≡ flat_map group_facts (groups_at policy width dims facts changed)
-  taken-are = taken-groups changes ∙ ap (flat_map group_facts) (taken-with dims before now changed)
+  facts_taken_away-are : facts_taken_away changes ≡ flat_map group_facts (groups_at policy width dims facts changed)
+  facts_taken_away-are = facts_taken_away-groups changes ∙ ap (flat_map group_facts) (taken-with dims before now changed)
 
-  given-are : given changes ≡ flat_map group_facts (groups_at policy width dims later changed)
-  given-are = given-groups changes ∙ ap (flat_map group_facts) (given-with dims before now changed)
+  facts_put-are : facts_put changes ≡ flat_map group_facts (groups_at policy width dims later changed)
+  facts_put-are = facts_put-groups changes ∙ ap (flat_map group_facts) (given-with dims before now changed)
 
   follow-groups : FollowBy (extended policy dims facts) (flat_map group_facts (groups_at policy width dims facts changed)) (flat_map group_facts (groups_at policy width dims later changed)) (extended policy dims later)
   follow-groups = record {
@@ -103,8 +103,8 @@ module _ (weigh : CellStat → ℕ) (bound : (s : CellStat) → IsStat s → wei
         (short-facts weigh bound shape dims facts is move.trees move.valid) (short-facts weigh bound shape dims later is move.trees later-valid);
   }
 
-  pub follow-changes : FollowBy (extended policy dims facts) (taken changes) (given changes) (extended policy dims later)
-  follow-changes = rw (taken-are, given-are) follow-groups
+  pub follow-changes : FollowBy (extended policy dims facts) (facts_taken_away changes) (facts_put changes) (extended policy dims later)
+  follow-changes = rw (facts_taken_away-are, facts_put-are) follow-groups
 
   -- and each entry can be changed
   abbrev others : List Group
@@ -201,9 +201,9 @@ module _ {P : Type 0} (weigh : P → CellStat → ℕ) (state seen : StateValue 
         all_are ∙ ap (λ (s : StateValue P). changes_by s.dims (value_at s.kept.groups) made.groups) shown ∙ changes-alike state.dims (value_at state.kept.groups) before_here kept-here.groups made.groups
         ∙ ap (changes_by state.dims before_here) from.groups
 
-    pub follow-seen : FollowBy (rows_in weigh state) (taken all) (given all) (rows_after weigh state moves.edit)
+    pub follow-seen : FollowBy (rows_in weigh state) (facts_taken_away all) (facts_put all) (rows_after weigh state moves.edit)
     follow-seen =
-        subst (λ (cs : List ViewChange). FollowBy (rows_in weigh state) (taken cs) (given cs) (rows_after weigh state moves.edit)) (sym changes-here)
+        subst (λ (cs : List ViewChange). FollowBy (rows_in weigh state) (facts_taken_away cs) (facts_put cs) (rows_after weigh state moves.edit)) (sym changes-here)
         (follow-changes (weigh state.policy) bound-here state.shape state.dims moves.edit state.facts shape-here move-here from.codes from.hold)
 
     pub fit-seen : FitsViews state.dims all state.kept.views

@@ -16,9 +16,9 @@ abbrev pub groups_found : Places Group → List ℕ → List Group
 groups_found places codes = filter_map (value_at places) codes
 
 -- what a group has inside cells
-abbrev pub share_of : List ℕ → Group → Share
-share_of cells g = record { facts = g.count; den = g.spread.den; weight = weight_inside cells g.spread; cols = g.sums }
+abbrev pub group_share : List ℕ → Group → Share
+group_share cells g = record { facts = g.count; den = g.spread.den; weight = weight_inside cells g.spread; cols = g.sums }
 
 -- of the groups that have something there
 abbrev pub shares_of : List ℕ → List Group → List Share
-shares_of cells groups = filter (λ s. nat_lt 0 s.weight) (map (share_of cells) groups)
+shares_of cells groups = filter (λ s. nat_lt 0 s.weight) (map (group_share cells) groups)

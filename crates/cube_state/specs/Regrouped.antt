@@ -20,12 +20,12 @@ pub record HoldChanged (policy : Policy) (columns : ℕ) (dims : List Dimension)
   pub others : (code : ℕ) → is_among codes code ≡ false → group_at policy columns dims (after edit facts) code ≡ group_at policy columns dims facts code
 
 -- a region is spread otherwise after an edit, where it has facts before and after it
-abbrev pub is_spread_anew : Option Group → Option Group → Bool
-is_spread_anew before now = option_map_or (λ b. option_map_or (λ n. not (is_same b.spread n.spread)) now false) before false
+abbrev pub group_is_respread : Option Group → Option Group → Bool
+group_is_respread before now = option_map_or (λ b. option_map_or (λ n. not (is_same b.spread n.spread)) now false) before false
 
 -- those of the codes whose region is, ascending as they are
 abbrev pub spread_anew : Policy → ℕ → List Dimension → Edit → List Fact → List ℕ → List ℕ
-spread_anew policy columns dims edit facts codes = filter (λ code. is_spread_anew (group_at policy columns dims facts code) (group_at policy columns dims (after edit facts) code)) codes
+spread_anew policy columns dims edit facts codes = filter (λ code. group_is_respread (group_at policy columns dims facts code) (group_at policy columns dims (after edit facts) code)) codes
 
 -- the old fact or the new fact of an edit is of the code
 abbrev pub is_edited_at : List Dimension → Edit → List Fact → ℕ → Bool
@@ -34,7 +34,7 @@ is_edited_at dims edit facts code = option_map_or (has_code dims code) (taken ed
 -- those of the codes whose group is another after the edit, or may be
 abbrev pub regrouped : Policy → ℕ → List Dimension → Edit → List Fact → List ℕ → List ℕ
 regrouped policy columns dims edit facts codes =
-    filter (λ code. is_edited_at dims edit facts code || is_spread_anew (group_at policy columns dims facts code) (group_at policy columns dims (after edit facts) code)) codes
+    filter (λ code. is_edited_at dims edit facts code || group_is_respread (group_at policy columns dims facts code) (group_at policy columns dims (after edit facts) code)) codes
 
 -- these codes, each with its group after the edit
 abbrev pub groups_after : Policy → ℕ → List Dimension → Edit → List Fact → List ℕ → Entries Group

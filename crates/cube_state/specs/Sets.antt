@@ -7,9 +7,8 @@ use Rattle.cube_model.specs.declared.statistic.CellStat.{CellStat}
 use Rattle.cube_model.specs.Allocation.{ExtendedFact, Policy, row_count, stat_of}
 use Rattle.cube_model.specs.Facts.{after, has_id}
 use Rattle.cube_model.specs.Tree.{Dimension}
-use Rattle.staged_map.specs.Staged.{AreOfDifferentKeys, Entries, Places, entry_of, have_places, value_at}
-use Rattle.cell_weight.specs.Stats.{AreOfDifferentCells, IsStat, change_of, stat_at}
-use Rattle.cell_weight.specs.Stats.{have_places as have_stat_places}
+use Rattle.staged_map.specs.Staged.{AreOfDifferentKeys, Entries, Places, have_places, staged_entry, value_at}
+use Rattle.cell_weight.specs.Stats.{AreOfDifferentCells, IsStat, change_of, have_stat_places, stat_at}
 use Rattle.fact_groups.specs.Groups.{Group, group_at}
 use Rattle.fact_records.specs.Shape.{width_of_all}
 use Rattle.fact_records.specs.Valid.{IsEditOver}
@@ -18,8 +17,7 @@ use Rattle.region_index.specs.Content.{Content, ids_at}
 use Rattle.region_index.specs.Indexed.{is_indexed_at}
 use Rattle.group_sum.specs.Terms.{TermList}
 use Rattle.view_store.specs.declared.change.ViewChange.{ViewChange}
-use Rattle.view_store.specs.Changes.{HaveRoomFor}
-use Rattle.view_store.specs.Changes.{given as given_by, taken as taken_by, IsStagedFor as AreStagedFor}
+use Rattle.view_store.specs.Changes.{AreStagedFor, HaveRoomFor, facts_put, facts_taken_away}
 use Rattle.view_store.specs.Facts.{FollowBy}
 use Rattle.view_store.specs.Views.{ViewMaps}
 use Rattle.facts_kept.specs.declared.kept.FactsKept.{FactsKept}
@@ -50,14 +48,14 @@ pub record SetIndex (dims : List Dimension) (facts : List Fact) (content : Conte
 pub record SetGroups (policy : Policy) (columns : ℕ) (dims : List Dimension) (facts : List Fact) (places : Places Group) (entries : Entries Group) : Type 0 where
   pub different : AreOfDifferentKeys entries
   pub placed : have_places places entries ≡ true
-  pub made : (code : ℕ) → unwrap_or (entry_of entries code) (value_at places code) ≡ group_at policy columns dims facts code
+  pub made : (code : ℕ) → unwrap_or (staged_entry entries code) (value_at places code) ≡ group_at policy columns dims facts code
 
 -- and of the views: what is staged was staged for these changes, with which the facts' rows are those after
 pub record SetViews (dims : List Dimension) (before after : List ExtendedFact) (maps : ViewMaps) (stage : List (Entries TermList)) : Type 0 where
   pub room : HaveRoomFor maps stage
   pub changes : List ViewChange
   pub staged : AreStagedFor dims changes maps stage
-  pub follow : FollowBy before (taken_by changes) (given_by changes) after
+  pub follow : FollowBy before (facts_taken_away changes) (facts_put changes) after
 
 -- there is room for an edit's new fact
 abbrev pub has_room : Edit → List Fact → ℕ → Bool

@@ -3,13 +3,13 @@ use Rattle.std.specs.Prelude.{ℕ, All, true, false, List, ◌++◌, Option}
 use Rattle.std.specs.List.{flat_map}
 use Rattle.cube_model.specs.Tree.{Dimension}
 use Rattle.fact_groups.specs.Groups.{Group}
-use Rattle.facts_kept.specs.ViewChanges.{IsOfRegion, changes_of}
+use Rattle.facts_kept.specs.ViewChanges.{IsOfRegion, group_changes}
 use Rattle.staged_map.specs.Staged.{Entries}
 use Rattle.view_store.specs.declared.change.ViewChange.{ViewChange}
 
 -- the group before is taken away, where there is one, and the group after is put, where there is one
 abbrev pub changes_at : List Dimension → ℕ → Option Group → Option Group → List ViewChange
-changes_at dims code before now = changes_of false dims code before ++ changes_of true dims code now
+changes_at dims code before now = group_changes false dims code before ++ group_changes true dims code now
 
 -- so at each of these codes, which have groups of which these are the ones after
 abbrev pub changes_by : List Dimension → (ℕ → Option Group) → Entries Group → List ViewChange

@@ -3,7 +3,7 @@ ghost use Rattle.std.specs.Prelude.{◌≡◌, IfOk};
 ghost use Rattle.region_algebra.specs.Inside.{cells_inside};
 ghost use Rattle.region_algebra.specs.Space.{IsRegion};
 ghost use Rattle.region_index.specs.Touching.{codes_touching};
-ghost use Rattle.cube_state.specs.Answering.{groups_found, groups_held, share_of, shares_of};
+ghost use Rattle.cube_state.specs.Answering.{group_share, groups_found, groups_held, shares_of};
 ghost use Rattle.cube_state.specs.State.{terms_in};
 
 use crate::{Group, State};
@@ -108,7 +108,7 @@ impl<P: WeightPolicy + Drop> State<P> {
 
 /// What a group has among the cells of a test.
 fn share_in(group: &Group, region: &Inside<'_>) -> Share
-    ensures { result ≡ share_of (cells_inside region.now) group.now }
+    ensures { result ≡ group_share (cells_inside region.now) group.now }
 {
     Share {
         facts: group.members,

@@ -6,7 +6,7 @@ ghost use Rattle.cube_model.specs.Limits.{MAX_COLS, MAX_FACTS, MAX_VALUE};
 ghost use Rattle.fact_groups.specs.Groups.{group_at};
 ghost use Rattle.fact_records.specs.Shape.{width_of_all};
 ghost use Rattle.region_algebra.specs.Space.{IsRegion};
-ghost use Rattle.cube_state.specs.GroupAfter.{AreWithin, fact_at, members_of, number_of, sum_of, sums_after, value_of};
+ghost use Rattle.cube_state.specs.GroupAfter.{AreValuesWithin, fact_value, fact_with_code, group_total, members_of, number_of, sums_after};
 ghost use Rattle.cube_state.specs.Moves.{AreMoves};
 ghost use Rattle.cube_state.specs.Regrouped.{is_edited_at};
 ghost use Rattle.cube_state.specs.State.{policy_in};
@@ -58,7 +58,7 @@ impl<P: WeightPolicy + Drop> State<P> {
     /// The fact, if it is there and its region has the code.
     fn fact_at<'a>(&self, fact: Option<&'a Fact>, code: u64) -> Option<&'a Fact>
         requires { IfSome (option_copied fact) (λ f. IsRegion self.now.dims f.region) }
-        ensures { option_copied result ≡ fact_at self.now.dims code (option_copied fact.entry) }
+        ensures { option_copied result ≡ fact_with_code self.now.dims code (option_copied fact.entry) }
     {
         match fact {
             Some(fact) if self.space.code(fact.region) == code => Some(fact),
@@ -96,9 +96,9 @@ fn sums_after(
     given: Option<&Fact>,
 ) -> Cols
     requires few { columns ≤ MAX_COLS }
-    requires group { IfSome (option_copied group) (λ g. AreWithin columns (MAX_FACTS * MAX_VALUE) g.sums) }
-    requires taken { IfSome (option_copied taken) (λ f. AreWithin columns MAX_VALUE f.cols) }
-    requires given { IfSome (option_copied given) (λ f. AreWithin columns MAX_VALUE f.cols) }
+    requires group { IfSome (option_copied group) (λ g. AreValuesWithin columns (MAX_FACTS * MAX_VALUE) g.sums) }
+    requires taken { IfSome (option_copied taken) (λ f. AreValuesWithin columns MAX_VALUE f.cols) }
+    requires given { IfSome (option_copied given) (λ f. AreValuesWithin columns MAX_VALUE f.cols) }
     ensures { result ≡ sums_after columns (option_copied group.entry) (option_copied taken.entry) (option_copied given.entry) }
 {
     let mut sums = [0; MAX_COLS];
@@ -128,7 +128,7 @@ fn moved(sum: i64, taken: i64, given: i64) -> i64
 /// The sum of a column of a group, 0 where there is no group.
 fn sum_of(group: Option<&Group>, column: u32) -> i64
     requires { IfSome (option_copied group) (λ g. column < length g.sums) }
-    ensures { result ≡ sum_of (option_copied group.entry) column }
+    ensures { result ≡ group_total (option_copied group.entry) column }
 {
     match group {
         Some(group) => group.sums.get(column),
@@ -139,7 +139,7 @@ fn sum_of(group: Option<&Group>, column: u32) -> i64
 /// The value of a column of a fact, 0 where there is no fact.
 fn value_of(fact: Option<&Fact>, column: u32) -> i64
     requires { IfSome (option_copied fact) (λ f. column < length f.cols) }
-    ensures { result ≡ value_of (option_copied fact.entry) column }
+    ensures { result ≡ fact_value (option_copied fact.entry) column }
 {
     match fact {
         Some(fact) => fact.cols.get(column),

@@ -7,9 +7,9 @@ ghost use Rattle.cube_model.specs.Facts.{after};
 ghost use Rattle.cube_model.specs.Limits.{MAX_ROWS};
 ghost use Rattle.fact_groups.specs.Groups.{group_at};
 ghost use Rattle.fact_records.specs.Shape.{width_of_all};
-ghost use Rattle.cube_state.specs.GroupAfter.{rows_of};
+ghost use Rattle.cube_state.specs.GroupAfter.{group_row_count};
 ghost use Rattle.cube_state.specs.Moves.{AreMoves};
-ghost use Rattle.cube_state.specs.Regrouped.{HoldChanged, groups_after, is_spread_anew, spread_anew};
+ghost use Rattle.cube_state.specs.Regrouped.{HoldChanged, group_is_respread, groups_after, spread_anew};
 ghost use Rattle.cube_state.specs.State.{policy_in};
 
 use crate::moves::Moves;
@@ -95,8 +95,8 @@ impl<P: WeightPolicy + Drop> State<P> {
         requires moves { AreMoves (policy_in P.weigh self.now) self.now.shape self.now.dims self.now.facts moves.now }
         requires few_before { draft.old.before < 2 ^ 62 }
         requires few_after { draft.old.after < 2 ^ 62 }
-        ensures before { OnOk result (draft.new.before ≡ draft.old.before + rows_of (group_at (policy_in P.weigh self.now) (width_of_all self.now.shape.measures) self.now.dims self.now.facts code)) }
-        ensures after { OnOk result (draft.new.after ≡ draft.old.after + rows_of (group_at (policy_in P.weigh self.now) (width_of_all self.now.shape.measures) self.now.dims (after moves.now.edit self.now.facts) code)) }
+        ensures before { OnOk result (draft.new.before ≡ draft.old.before + group_row_count (group_at (policy_in P.weigh self.now) (width_of_all self.now.shape.measures) self.now.dims self.now.facts code)) }
+        ensures after { OnOk result (draft.new.after ≡ draft.old.after + group_row_count (group_at (policy_in P.weigh self.now) (width_of_all self.now.shape.measures) self.now.dims (after moves.now.edit self.now.facts) code)) }
         ensures spread_anew { OnOk result (draft.new.spread_anew ≡ draft.old.spread_anew ++ spread_anew (policy_in P.weigh self.now) (width_of_all self.now.shape.measures) self.now.dims moves.now.edit self.now.facts (code ∷ [])) }
         ensures groups { OnOk result (draft.new.after ≤ MAX_ROWS → draft.new.groups ≡ draft.old.groups ++ groups_after (policy_in P.weigh self.now) (width_of_all self.now.shape.measures) self.now.dims moves.now.edit self.now.facts (code ∷ [])) }
     {
@@ -122,7 +122,7 @@ impl<P: WeightPolicy + Drop> State<P> {
         requires moves { AreMoves (policy_in P.weigh self.now) self.now.shape self.now.dims self.now.facts moves.now }
         requires before { option_copied before ≡ group_at (policy_in P.weigh self.now) (width_of_all self.now.shape.measures) self.now.dims self.now.facts code }
         requires now { option_copied now ≡ group_at (policy_in P.weigh self.now) (width_of_all self.now.shape.measures) self.now.dims (after moves.now.edit self.now.facts) code }
-        ensures { result ≡ is_spread_anew (option_copied before.entry) (option_copied now.entry) }
+        ensures { result ≡ group_is_respread (option_copied before.entry) (option_copied now.entry) }
     {
         // What a space says of its dimensions.
         let _ = self.space.dims();
@@ -139,8 +139,8 @@ impl<P: WeightPolicy + Drop> State<P> {
 
 /// The number of rows of the facts of a group.
 fn rows_of(group: Option<&Group>) -> u64
-    requires { rows_of (option_copied group) < 2 ^ 64 }
-    ensures { result ≡ rows_of (option_copied group.entry) }
+    requires { group_row_count (option_copied group) < 2 ^ 64 }
+    ensures { result ≡ group_row_count (option_copied group.entry) }
 {
     match group {
         Some(group) => group.members * group.spread.rows().len() as u64,

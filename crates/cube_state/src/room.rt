@@ -2,13 +2,13 @@
 ghost use Rattle.std.specs.Prelude.{◌≡◌, ℕ, IfOk, IfSome, OnOk, true};
 ghost use Rattle.std.specs.Option.{option_to_list};
 ghost use Rattle.alloc_rows.specs.Changed.{new_stats};
-ghost use Rattle.cell_weight.specs.Stats.{have_places as have_stat_places, stat_at};
-ghost use Rattle.fact_groups.specs.Edits.{given as given_by, taken as taken_by};
+ghost use Rattle.cell_weight.specs.Stats.{have_stat_places, stat_at};
+ghost use Rattle.fact_groups.specs.Edits.{given, taken};
 ghost use Rattle.fact_records.specs.Shape.{width_of_all};
 ghost use Rattle.region_algebra.specs.Space.{IsRegion};
 ghost use Rattle.region_index.specs.Changes.{IsStagedFor, IsUnchanged};
 ghost use Rattle.staged_map.specs.Staged.{have_places, value_at};
-ghost use Rattle.view_store.specs.Changes.{FitsViews, given, taken};
+ghost use Rattle.view_store.specs.Changes.{FitsViews, facts_put, facts_taken_away};
 ghost use Rattle.view_store.specs.Facts.{FollowBy};
 ghost use Rattle.cube_state.specs.Moves.{AreMoves, indexed_as};
 ghost use Rattle.cube_state.specs.Sets.{AreSetsFor, has_room};
@@ -60,7 +60,7 @@ impl<P: WeightPolicy + Drop> State<P> {
     ) -> Result<Sets, Memory>
         requires moves { AreMoves (policy_in P.weigh self.old) self.old.shape self.old.dims self.old.facts moves.now }
         requires regrouped { IsRegrouped (policy_in P.weigh self.old) (width_of_all self.old.shape.measures) self.old.dims moves.now.edit self.old.facts regrouped }
-        requires follow { FollowBy (rows_in P.weigh self.old) (taken changes.now) (given changes.now) (rows_after P.weigh self.old moves.now.edit) }
+        requires follow { FollowBy (rows_in P.weigh self.old) (facts_taken_away changes.now) (facts_put changes.now) (rows_after P.weigh self.old moves.now.edit) }
         requires fit { FitsViews self.old.dims changes.now self.old.kept.views }
         ensures same { HaveSameContent self.old self.new }
         ensures sets { IfOk result (AreSetsFor P.weigh self.new moves.now.edit) }
@@ -78,7 +78,7 @@ impl<P: WeightPolicy + Drop> State<P> {
     ) -> Result<Stages, Memory>
         requires moves { AreMoves (policy_in P.weigh self.old) self.old.shape self.old.dims self.old.facts moves.now }
         requires regrouped { IsRegrouped (policy_in P.weigh self.old) (width_of_all self.old.shape.measures) self.old.dims moves.now.edit self.old.facts regrouped.now }
-        requires follow { FollowBy (rows_in P.weigh self.old) (taken changes.now) (given changes.now) (rows_after P.weigh self.old moves.now.edit) }
+        requires follow { FollowBy (rows_in P.weigh self.old) (facts_taken_away changes.now) (facts_put changes.now) (rows_after P.weigh self.old moves.now.edit) }
         requires fit { FitsViews self.old.dims changes.now self.old.kept.views }
         ensures same { HaveSameContent self.old self.new }
         ensures sets { IfOk result (λ stages. AreSetsFor P.weigh self.new moves.now.edit (record { stats = stages.stats; index = stages.index; groups = regrouped.now.groups; views = stages.views })) }
@@ -136,8 +136,8 @@ fn reserve(
     moves: &Moves,
     entries: &[(u64, Option<Group>)],
 ) -> Result<(), Memory>
-    requires takes { moves.now.taken ≡ taken_by moves.now.edit facts.old.facts }
-    requires gives { moves.now.given ≡ given_by moves.now.edit }
+    requires takes { moves.now.taken ≡ taken moves.now.edit facts.old.facts }
+    requires gives { moves.now.given ≡ given moves.now.edit }
     ensures same_facts { facts.new.facts ≡ facts.old.facts }
     ensures same_groups { (code : ℕ) → value_at groups.new code ≡ value_at groups.old code }
     ensures room { OnOk result (has_room moves.now.edit facts.old.facts facts.new.spare ≡ true) }
@@ -149,8 +149,8 @@ fn reserve(
 
 /// Makes room for an edit's new fact, where none of its id is there.
 fn reserve_fact(facts: &mut FactList, moves: &Moves) -> Result<(), Memory>
-    requires takes { moves.now.taken ≡ taken_by moves.now.edit facts.old.facts }
-    requires gives { moves.now.given ≡ given_by moves.now.edit }
+    requires takes { moves.now.taken ≡ taken moves.now.edit facts.old.facts }
+    requires gives { moves.now.given ≡ given moves.now.edit }
     ensures same { facts.new.facts ≡ facts.old.facts }
     ensures room { OnOk result (has_room moves.now.edit facts.old.facts facts.new.spare ≡ true) }
 {

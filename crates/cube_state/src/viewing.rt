@@ -4,7 +4,7 @@ ghost use Rattle.std.specs.Option.{option_copied};
 ghost use Rattle.fact_records.specs.Shape.{width_of_all};
 ghost use Rattle.region_algebra.specs.Space.{IsRegion};
 ghost use Rattle.staged_map.specs.Staged.{value_at};
-ghost use Rattle.view_store.specs.Changes.{FitsViews, given, taken};
+ghost use Rattle.view_store.specs.Changes.{FitsViews, facts_put, facts_taken_away};
 ghost use Rattle.view_store.specs.Facts.{FollowBy};
 ghost use Rattle.facts_kept.specs.ViewChanges.{AreOfRegions, IsOfRegion};
 ghost use Rattle.cube_state.specs.Moves.{AreMoves};
@@ -33,7 +33,7 @@ impl<P: WeightPolicy + Drop> State<P> {
     ) -> Result<Vec<ViewChange>, Memory>
         requires moves { AreMoves (policy_in P.weigh self.now) self.now.shape self.now.dims self.now.facts moves.now }
         requires regrouped { IsRegrouped (policy_in P.weigh self.now) (width_of_all self.now.shape.measures) self.now.dims moves.now.edit self.now.facts regrouped.now }
-        ensures follow { IfOk result (λ changes. FollowBy (rows_in P.weigh self.now) (taken changes.items) (given changes.items) (rows_after P.weigh self.now moves.now.edit)) }
+        ensures follow { IfOk result (λ changes. FollowBy (rows_in P.weigh self.now) (facts_taken_away changes.items) (facts_put changes.items) (rows_after P.weigh self.now moves.now.edit)) }
         ensures fit { IfOk result (λ changes. FitsViews self.now.dims changes.items self.now.kept.views) }
     {
         // What a space says of its dimensions, a shape of its measures, and views of their columns.

@@ -13,7 +13,7 @@ use Rattle.cube_model.specs.Limits.{MAX_DEPTH, MAX_NODES}
 use Rattle.cube_model.specs.Tree.{Dimension, Entry, IsTree, dim_fault, first_fault, is_numbered, line_fault, node_lines, numbered, numbers, tree_fault}
 use Rattle.dim_tree.specs.declared.node.Node.{Node}
 use Rattle.dim_tree.specs.Nodes.{ArePlaces, are_above, are_in_order, are_numbers, IsIndexed, depths_kept, node_at, nodes_of, numbers_kept}
-use Rattle.dim_tree.specs.Outline.{IsOutline, entries_of}
+use Rattle.dim_tree.specs.Outline.{IsOutline, outline_nodes}
 use Rattle.dim_tree.specs.Places.{leaves_from, parents_from}
 use Rattle.dim_tree.proofs.Climbing.{depths_of, together}
 use Rattle.dim_tree.proofs.Entries.{length-node_lines}
@@ -42,18 +42,18 @@ module _ (depths : List ℕ) (names : List (List ℕ)) (ns : List ℕ) (outline 
   -- few nodes, none of them deep
   pub outline_few : length depths ≤ MAX_NODES
   outline_few =
-      let made = entries_of depths names ns in
+      let made = outline_nodes depths names ns in
       omega (arith, (tree_fault_none (node_lines made) outline.tree.accepted).1, length-map made (λ (e : Entry). let line : NodeLine = record { depth = e.depth; name = e.name } in line), length-entries_of depths names ns outline.same_names outline.same_numbers)
 
   pub outline_shallow : list_all (λ depth. nat_le depth MAX_DEPTH) depths ≡ true
   outline_shallow =
-      let made = entries_of depths names ns in
+      let made = outline_nodes depths names ns in
       ap (list_all (λ depth. nat_le depth MAX_DEPTH)) (sym (depths_of-entries_of depths names ns outline.same_names outline.same_numbers)) ∙ first_fault-shallow [] 0 (node_lines made) (accepted_lines made outline.tree)
 
   -- the nodes that are kept give the dimension back
-  pub entries_of-nodes_of : (nodes : List Node) → nodes ≡ nodes_of depths ns → entries_of (depths_kept nodes) names (numbers_kept nodes) ≡ entries_of depths names ns
-  entries_of-nodes_of nodes made =
-      ap (λ xs. entries_of (depths_kept xs) names (numbers_kept xs)) made ∙ ap (λ ds. entries_of ds names (numbers_kept (nodes_of depths ns))) (depths_kept-nodes_of depths ns) ∙ ap (entries_of depths names) (numbers_kept-nodes_of depths ns outline.same_numbers)
+  pub outline_nodes-nodes_of : (nodes : List Node) → nodes ≡ nodes_of depths ns → outline_nodes (depths_kept nodes) names (numbers_kept nodes) ≡ outline_nodes depths names ns
+  outline_nodes-nodes_of nodes made =
+      ap (λ xs. outline_nodes (depths_kept xs) names (numbers_kept xs)) made ∙ ap (λ ds. outline_nodes ds names (numbers_kept (nodes_of depths ns))) (depths_kept-nodes_of depths ns) ∙ ap (outline_nodes depths names) (numbers_kept-nodes_of depths ns outline.same_numbers)
 
   -- and are indexed
   pub IsIndexed_of : (nodes : List Node) (places kept_leaves : List ℕ) → nodes ≡ nodes_of depths ns → ArePlaces ns places → kept_leaves ≡ leaves_from 0 depths → IsIndexed nodes names places kept_leaves
@@ -78,8 +78,8 @@ IsTree_numbered lines accepted named = record {
 
 module _ (lines : List NodeLine) (depths : List ℕ) (names : List (List ℕ)) (depths_are : depths ≡ map (λ line. line.depth) lines) (names_are : names ≡ map (λ line. line.name) lines) where
   -- the dimension of the depths and the names of lines
-  pub entries_of_lines : entries_of depths names (range_with_len 0 (length lines)) ≡ numbered lines
-  entries_of_lines = ap (λ ds. entries_of ds names (range_with_len 0 (length lines))) depths_are ∙ ap (λ ns. entries_of (map (λ (line : NodeLine). line.depth) lines) ns (range_with_len 0 (length lines))) names_are ∙ entries_of_range 0 lines
+  pub entries_of_lines : outline_nodes depths names (range_with_len 0 (length lines)) ≡ numbered lines
+  entries_of_lines = ap (λ ds. outline_nodes ds names (range_with_len 0 (length lines))) depths_are ∙ ap (λ ns. outline_nodes (map (λ (line : NodeLine). line.depth) lines) ns (range_with_len 0 (length lines))) names_are ∙ entries_of_range 0 lines
 
   -- they are a tree where the lines are
   pub IsOutline_lines : tree_fault lines ≡ None → list_all (λ line. is_name line.name) lines ≡ true → IsOutline depths names (range_with_len 0 (length lines))
@@ -104,9 +104,9 @@ module _ (dim : Dimension) (depths : List ℕ) (names : List (List ℕ)) (ns : L
   depths_of_numbered = depths_are ∙ sym (depths_of_entries dim)
 
   -- the dimension of the depths, the names and the numbers of nodes
-  pub entries_of_entries : entries_of depths names ns ≡ dim
+  pub entries_of_entries : outline_nodes depths names ns ≡ dim
   entries_of_entries =
-      ap (λ ds. entries_of ds names ns) depths_are ∙ ap (λ xs. entries_of (map (λ (e : Entry). e.depth) dim) xs ns) (names_are ∙ names_of_entries dim) ∙ ap (entries_of (map (λ (e : Entry). e.depth) dim) (map (λ (e : Entry). e.name) dim)) numbers_are ∙ entries_of_map dim
+      ap (λ ds. outline_nodes ds names ns) depths_are ∙ ap (λ xs. outline_nodes (map (λ (e : Entry). e.depth) dim) xs ns) (names_are ∙ names_of_entries dim) ∙ ap (outline_nodes (map (λ (e : Entry). e.depth) dim) (map (λ (e : Entry). e.name) dim)) numbers_are ∙ entries_of_map dim
 
   -- they are a tree where the nodes are
   pub IsOutline_entries : tree_fault (node_lines dim) ≡ None → list_all (λ line. is_name line.name) (node_lines dim) ≡ true → is_numbered dim ≡ true → IsOutline depths names ns
@@ -213,6 +213,6 @@ numbers_fault dim depths ns depths_are numbers_are some few accepted =
 -- nodes of a tree are in order
 pub order_of_outline : (depths : List ℕ) (names : List (List ℕ)) (ns : List ℕ) → IsOutline depths names ns → are_in_order ns depths ≡ true
 order_of_outline depths names ns outline =
-    let made : Dimension = entries_of depths names ns in
+    let made : Dimension = outline_nodes depths names ns in
     let depths_are : depths ≡ map (λ (e : Entry). e.depth) made = sym (depths_of-entries_of depths names ns outline.same_names outline.same_numbers) ∙ depths_of_entries made in
     sym (numbers_judged made depths ns depths_are (sym (numbers-entries_of depths names ns outline.same_names outline.same_numbers)) (accepted_lines made outline.tree)) ∙ outline.tree.numbered

@@ -6,7 +6,7 @@ use Rattle.std.specs.Str.{bytes_eq}
 use Rattle.std.proofs.lemmas.Bool.Decides.{nat_tests}
 use Rattle.cube_model.specs.Limits.{MAX_DEPTH}
 use Rattle.cube_model.specs.Tree.{Entry, climb, first_fault, line_fault, node_lines}
-use Rattle.dim_tree.specs.Outline.{line_of}
+use Rattle.dim_tree.specs.Outline.{line_of_node}
 use Rattle.dim_tree.specs.Places.{count_deeper, ends_from}
 use Rattle.dim_tree.proofs.Climbing.{both, depths_of, together}
 use Rattle.dim_tree.proofs.Judging.{bytes_eq_comm}
@@ -51,7 +51,7 @@ record StandsBehind (b : Entry) (earlier : List Entry) (n : Entry) : Type 0 wher
 -- the first of sound nodes stands behind the earlier ones
 stands_first : (b : Entry) (earlier : List Entry) (k : ℕ) (n : Entry) (ns : List Entry) → AreSound (b ∷ earlier) k (n ∷ ns) → StandsBehind b earlier n
 stands_first b earlier k n ns sound =
-    let fault : line_fault (node_lines (b ∷ earlier)) k (line_of n) ≡ None = (first_fault-parts (node_lines (b ∷ earlier)) k (line_of n) (node_lines ns) sound.judged).0 in
+    let fault : line_fault (node_lines (b ∷ earlier)) k (line_of_node n) ≡ None = (first_fault-parts (node_lines (b ∷ earlier)) k (line_of_node n) (node_lines ns) sound.judged).0 in
     record {
       deep = grind (arith, nat_tests, fault);
       shallow = grind (arith, nat_tests, fault);
@@ -63,14 +63,14 @@ stands_first b earlier k n ns sound =
 -- and the others are sound behind it
 sound_rest : (earlier : List Entry) (k : ℕ) (n : Entry) (ns : List Entry) → AreSound earlier k (n ∷ ns) → AreSound (n ∷ earlier) (k + 1) ns
 sound_rest earlier k n ns sound = record {
-  judged = (first_fault-parts (node_lines earlier) k (line_of n) (node_lines ns) sound.judged).1;
+  judged = (first_fault-parts (node_lines earlier) k (line_of_node n) (node_lines ns) sound.judged).1;
   above = (both (is_above_nearest earlier n) (above_from (n ∷ earlier) ns) sound.above).1;
 }
 
 -- other nodes may take their place
 sound_other : (earlier : List Entry) (k : ℕ) (n : Entry) (ns ms : List Entry) → AreSound earlier k (n ∷ ns) → AreSound (n ∷ earlier) (k + 1) ms → AreSound earlier k (n ∷ ms)
 sound_other earlier k n ns ms sound more =
-    let fault : line_fault (node_lines earlier) k (line_of n) ≡ None = (first_fault-parts (node_lines earlier) k (line_of n) (node_lines ns) sound.judged).0 in
+    let fault : line_fault (node_lines earlier) k (line_of_node n) ≡ None = (first_fault-parts (node_lines earlier) k (line_of_node n) (node_lines ns) sound.judged).0 in
     record {
       judged = grind (arith, fault, more.judged);
       above = together (both (is_above_nearest earlier n) (above_from (n ∷ earlier) ns) sound.above).0 more.above;
@@ -79,7 +79,7 @@ sound_other earlier k n ns ms sound more =
 -- a node that stands behind others, with those that are sound behind it
 sound_more : (b : Entry) (earlier : List Entry) (k : ℕ) (n : Entry) (ns : List Entry) → StandsBehind b earlier n → AreSound (n ∷ b ∷ earlier) (k + 1) ns → AreSound (b ∷ earlier) k (n ∷ ns)
 sound_more b earlier k n ns stand more =
-    let fault : line_fault (node_lines (b ∷ earlier)) k (line_of n) ≡ None = grind (arith, nat_tests, stand.deep, stand.shallow, stand.near, stand.new) in
+    let fault : line_fault (node_lines (b ∷ earlier)) k (line_of_node n) ≡ None = grind (arith, nat_tests, stand.deep, stand.shallow, stand.near, stand.new) in
     record {
       judged = grind (arith, fault, more.judged);
       above = together stand.above more.above;

@@ -13,7 +13,7 @@ use Rattle.cube_model.specs.declared.tree.NodeLine.{NodeLine}
 use Rattle.cube_model.specs.declared.tree.DimFault.{DimFault}
 use Rattle.cube_model.specs.declared.tree.DimFault.TheVariants.{Name}
 use Rattle.cube_model.specs.Tree.{line_fault, first_fault}
-use Rattle.dim_tree.specs.Fault.{IsCause}
+use Rattle.dim_tree.specs.Fault.{IsDimCause}
 use Rattle.dim_tree.specs.Outline.{depth_fault, name_fault}
 
 -- two texts compare alike both ways
@@ -124,5 +124,5 @@ module _ (lines : List NodeLine) (k : ℕ) (line : NodeLine) (before : Option �
   }
 
 -- a cause is carried over to what it decides
-pub IsCause_of : (cause whole : Option DimFault) → ((fault : DimFault) → cause ≡ Some fault → whole ≡ Some fault) → (fault : DimFault) → IsCause cause fault → IsCause whole fault
+pub IsCause_of : (cause whole : Option DimFault) → ((fault : DimFault) → cause ≡ Some fault → whole ≡ Some fault) → (fault : DimFault) → IsDimCause cause fault → IsDimCause whole fault
 IsCause_of cause whole over fault is known = over fault (is known)

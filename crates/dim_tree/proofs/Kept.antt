@@ -8,7 +8,7 @@ use Rattle.cube_model.specs.Limits.{MAX_NODES}
 use Rattle.cube_model.specs.Tree.{Dimension, Entry, IsTree, numbers, node_lines, entry_of, leaves, place_of}
 use Rattle.dim_tree.specs.declared.node.Node.{Node}
 use Rattle.dim_tree.specs.Nodes.{ArePlaces, IsIndexed, IsNode, depths_kept, node_at, numbers_kept}
-use Rattle.dim_tree.specs.Outline.{entries_of}
+use Rattle.dim_tree.specs.Outline.{outline_nodes}
 use Rattle.dim_tree.specs.Places.{leaves_from}
 use Rattle.dim_tree.proofs.Climbing.{depths_of}
 use Rattle.dim_tree.proofs.Entries.{length-node_lines}
@@ -82,10 +82,10 @@ place_read dim places tree are n within =
     (found, (number_at-place dim (AreNumbers_of dim tree) n (get_or places n 0) found).1)
 
 -- so what is kept answers for a dimension that it is kept for
-pub kept : {dim : Dimension} {nodes : List Node} {names : List (List ℕ)} {places kept_leaves : List ℕ} → IsIndexed nodes names places kept_leaves → entries_of (depths_kept nodes) names (numbers_kept nodes) ≡ dim → KeptFor dim nodes names places kept_leaves
+pub kept : {dim : Dimension} {nodes : List Node} {names : List (List ℕ)} {places kept_leaves : List ℕ} → IsIndexed nodes names places kept_leaves → outline_nodes (depths_kept nodes) names (numbers_kept nodes) ≡ dim → KeptFor dim nodes names places kept_leaves
 kept {dim} {nodes} {names} {places} {kept_leaves} indexed view_is =
     let outline = indexed.outline in
-    let made : Dimension = entries_of (depths_kept nodes) names (numbers_kept nodes) in
+    let made : Dimension = outline_nodes (depths_kept nodes) names (numbers_kept nodes) in
     let tree : IsTree made = outline.tree in
     let long : length made ≡ length nodes = length-entries_of (depths_kept nodes) names (numbers_kept nodes) outline.same_names outline.same_numbers ∙ length-map nodes (λ (node : Node). node.depth) in
     let depths_are : depths_of (node_lines made) ≡ depths_kept nodes = depths_of-entries_of (depths_kept nodes) names (numbers_kept nodes) outline.same_names outline.same_numbers in

@@ -10,7 +10,7 @@ use Rattle.cube_model.specs.Limits.{MAX_DEPTH, MAX_NODES}
 use Rattle.cube_model.specs.Tree.{Dimension, Entry, IsTree, entry_of, first_fault, is_leaf, leaves, node_lines, node_named}
 use Rattle.dim_tree.specs.declared.node.Node.{Node}
 use Rattle.dim_tree.specs.Nodes.{IsNode, entry}
-use Rattle.dim_tree.specs.Outline.{line_of}
+use Rattle.dim_tree.specs.Outline.{line_of_node}
 use Rattle.dim_tree.specs.Places.{count_deeper, ends_from, leaves_from}
 use Rattle.dim_tree.proofs.Climbing.{depths_of}
 use Rattle.dim_tree.proofs.Entries.{length-node_lines}
@@ -72,6 +72,6 @@ leaves-grown dim p name tree within shallow few new named =
     let more : Dimension = with_leaf dim p name tree within in
     let is : grown dim p name ≡ more = grown_is dim p name tree within in
     let inside : i < length ds = omega (arith, its.end_above, its.end_within, length-map (node_lines dim) (λ (line : NodeLine). line.depth), length-node_lines dim) in
-    let put : depths_of (node_lines more) ≡ insert ds node.end (node.depth + 1) = ap depths_of (map-insert line_of dim node.end leaf) ∙ map-insert (λ (line : NodeLine). line.depth) (node_lines dim) node.end (line_of leaf) in
+    let put : depths_of (node_lines more) ≡ insert ds node.end (node.depth + 1) = ap depths_of (map-insert line_of_node dim node.end leaf) ∙ map-insert (λ (line : NodeLine). line.depth) (node_lines dim) node.end (line_of_node leaf) in
     ap (λ d. length (leaves d)) is ∙ sym (leaves_counted more (subst IsTree is (IsTree-grown dim p name tree within shallow few new named))) ∙ ap (λ xs. length (leaves_from 0 xs)) put ∙ leaves_in node.depth 0 0 i node.end ds inside refl (sym its.end_is ∙ omega arith)
     ∙ ap (λ n. n + (if node.end == i + 1 then 0 else 1)) (leaves_counted dim tree) ∙ ap (λ b. length (leaves dim) + (if b then 0 else 1)) (sym its.leaf_is)

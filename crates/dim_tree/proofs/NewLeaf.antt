@@ -15,7 +15,7 @@ use Rattle.cube_model.specs.Limits.{MAX_DEPTH, MAX_NODES}
 use Rattle.cube_model.specs.Tree.{Dimension, Entry, IsTree, are_distinct, climb, entry_of, is_above_parent, is_numbered, is_under, node_lines, node_named, numbers, parent, path, path_after, place_of}
 use Rattle.dim_tree.specs.declared.node.Node.{Node}
 use Rattle.dim_tree.specs.Nodes.{IsIndexed, IsNode, depths_kept, entry, node_at, numbers_kept}
-use Rattle.dim_tree.specs.Outline.{IsOutline, entries_of}
+use Rattle.dim_tree.specs.Outline.{IsOutline, outline_nodes}
 use Rattle.dim_tree.proofs.Climbing.{both, depths_of, together}
 use Rattle.dim_tree.proofs.Entries.{length-node_lines}
 use Rattle.dim_tree.proofs.Insertion.{AreSound, above_from, climb-nearest_first, is_above_nearest, is_apart, nearest, put_in}
@@ -203,22 +203,22 @@ module _ (dim : Dimension) (p : ℕ) (name : List ℕ) (tree : IsTree dim) (with
       subst IsTree (sym grown_is) (IsTree_more dim tree p (place_at dim p) parent_found above above_is name (shallow_parent (entry_of dim p) above.depth above_is.depth_is shallow) few new named)
 
 -- the nodes of lists with one item more each
-pub entries_of-insert : (depths : List ℕ) (names : List (List ℕ)) (ns : List ℕ) (m d : ℕ) (name : List ℕ) (n : ℕ) → length names ≡ length depths → length ns ≡ length depths
-    → entries_of (insert depths m d) (insert names m name) (insert ns m n) ≡ insert (entries_of depths names ns) m (entry d name n)
-entries_of-insert depths names ns zero d name n same_names same_numbers = refl
-entries_of-insert [] [] [] (suc m) d name n same_names same_numbers = refl
-entries_of-insert [] [] (k ∷ ns) (suc m) d name n same_names same_numbers = absurd (omega arith)
-entries_of-insert [] (other ∷ names) ns (suc m) d name n same_names same_numbers = absurd (omega arith)
-entries_of-insert (depth ∷ depths) [] ns (suc m) d name n same_names same_numbers = absurd (omega arith)
-entries_of-insert (depth ∷ depths) (other ∷ names) [] (suc m) d name n same_names same_numbers = absurd (omega arith)
-entries_of-insert (depth ∷ depths) (other ∷ names) (k ∷ ns) (suc m) d name n same_names same_numbers = ap (λ es. record { depth = depth; name = other; number = k } ∷ es) (entries_of-insert depths names ns m d name n (omega arith) (omega arith))
+pub outline_nodes-insert : (depths : List ℕ) (names : List (List ℕ)) (ns : List ℕ) (m d : ℕ) (name : List ℕ) (n : ℕ) → length names ≡ length depths → length ns ≡ length depths
+    → outline_nodes (insert depths m d) (insert names m name) (insert ns m n) ≡ insert (outline_nodes depths names ns) m (entry d name n)
+outline_nodes-insert depths names ns zero d name n same_names same_numbers = refl
+outline_nodes-insert [] [] [] (suc m) d name n same_names same_numbers = refl
+outline_nodes-insert [] [] (k ∷ ns) (suc m) d name n same_names same_numbers = absurd (omega arith)
+outline_nodes-insert [] (other ∷ names) ns (suc m) d name n same_names same_numbers = absurd (omega arith)
+outline_nodes-insert (depth ∷ depths) [] ns (suc m) d name n same_names same_numbers = absurd (omega arith)
+outline_nodes-insert (depth ∷ depths) (other ∷ names) [] (suc m) d name n same_names same_numbers = absurd (omega arith)
+outline_nodes-insert (depth ∷ depths) (other ∷ names) (k ∷ ns) (suc m) d name n same_names same_numbers = ap (λ es. record { depth = depth; name = other; number = k } ∷ es) (outline_nodes-insert depths names ns m d name n (omega arith) (omega arith))
 
 -- The lists are a tree, which is the dimension with a new leaf.
 pub record HasMore (dim : Dimension) (p : ℕ) (name : List ℕ) (depths : List ℕ) (names : List (List ℕ)) (ns : List ℕ) : Type 0 where
   pub outline : IsOutline depths names ns
-  pub made : entries_of depths names ns ≡ grown dim p name
+  pub made : outline_nodes depths names ns ≡ grown dim p name
 
-module _ {dim : Dimension} {nodes : List Node} {names : List (List ℕ)} {places kept_leaves : List ℕ} (indexed : IsIndexed nodes names places kept_leaves) (view_is : entries_of (depths_kept nodes) names (numbers_kept nodes) ≡ dim) where
+module _ {dim : Dimension} {nodes : List Node} {names : List (List ℕ)} {places kept_leaves : List ℕ} (indexed : IsIndexed nodes names places kept_leaves) (view_is : outline_nodes (depths_kept nodes) names (numbers_kept nodes) ≡ dim) where
   -- a name that no node has is none of the names
   pub name_new : (name : List ℕ) → node_named dim name ≡ None → list_any (λ earlier. bytes_eq earlier name) names ≡ false
   name_new name new =
@@ -232,8 +232,8 @@ module _ {dim : Dimension} {nodes : List Node} {names : List (List ℕ)} {places
       let same_numbers = indexed.outline.same_numbers in
       let room : length nodes ≡ length dim = (kept indexed view_is).room_nodes in
       let counted : length (depths_kept nodes) ≡ length nodes = length-map nodes (λ (n : Node). n.depth) in
-      let made : entries_of (insert (depths_kept nodes) place depth) (insert names place name) (insert (numbers_kept nodes) place (length nodes)) ≡ grown dim p name =
-      entries_of-insert (depths_kept nodes) names (numbers_kept nodes) place depth name (length nodes) same_names same_numbers ∙ ap (λ d. insert d place (entry depth name (length nodes))) view_is ∙ ap (λ n. insert dim place (entry depth name n)) room ∙ sym is in
+      let made : outline_nodes (insert (depths_kept nodes) place depth) (insert names place name) (insert (numbers_kept nodes) place (length nodes)) ≡ grown dim p name =
+      outline_nodes-insert (depths_kept nodes) names (numbers_kept nodes) place depth name (length nodes) same_names same_numbers ∙ ap (λ d. insert d place (entry depth name (length nodes))) view_is ∙ ap (λ n. insert dim place (entry depth name n)) room ∙ sym is in
       let long_depths : length (insert (depths_kept nodes) place depth) ≡ length (depths_kept nodes) + 1 = length-insert (depths_kept nodes) place depth (omega arith) in
       let long_names : length (insert names place name) ≡ length names + 1 = length-insert names place name (omega arith) in
       let long_numbers : length (insert (numbers_kept nodes) place (length nodes)) ≡ length (numbers_kept nodes) + 1 = length-insert (numbers_kept nodes) place (length nodes) (omega arith) in

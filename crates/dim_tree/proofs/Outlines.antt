@@ -10,7 +10,7 @@ use Rattle.cube_model.specs.declared.tree.NodeLine.{NodeLine}
 use Rattle.cube_model.specs.declared.tree.DimFault.TheVariants.{Empty, Many}
 use Rattle.cube_model.specs.Limits.{MAX_NODES}
 use Rattle.cube_model.specs.Tree.{Dimension, Entry, tree_fault, first_fault, numbers, numbered_from, node_lines, node_named}
-use Rattle.dim_tree.specs.Outline.{entries_of}
+use Rattle.dim_tree.specs.Outline.{outline_nodes}
 use Rattle.dim_tree.proofs.Climbing.{depths_of}
 use Rattle.dim_tree.proofs.Entries.{length-node_lines}
 use Rattle.dim_tree.proofs.Judging.{bytes_eq_comm}
@@ -58,30 +58,30 @@ names-copied (key ∷ keys) [] same = absurd same
 names-copied (key ∷ keys) (copy ∷ copied) same = rw (same.0, names-copied keys copied same.1) refl
 
 -- nodes are given back by their depths, names and numbers
-pub entries_of_map : (dim : Dimension) → entries_of (map (λ e. e.depth) dim) (map (λ e. e.name) dim) (numbers dim) ≡ dim
+pub entries_of_map : (dim : Dimension) → outline_nodes (map (λ e. e.depth) dim) (map (λ e. e.name) dim) (numbers dim) ≡ dim
 entries_of_map [] = refl
 entries_of_map (e ∷ dim) = ap (λ es. e ∷ es) (entries_of_map dim)
 
 -- with places as numbers they are the numbered lines
-pub entries_of_range : (k : ℕ) (lines : List NodeLine) → entries_of (map (λ line. line.depth) lines) (map (λ line. line.name) lines) (range_with_len k (length lines)) ≡ numbered_from k lines
+pub entries_of_range : (k : ℕ) (lines : List NodeLine) → outline_nodes (map (λ line. line.depth) lines) (map (λ line. line.name) lines) (range_with_len k (length lines)) ≡ numbered_from k lines
 entries_of_range k [] = refl
 entries_of_range k (line ∷ lines) = ap (λ es. record { depth = line.depth; name = line.name; number = k } ∷ es) (entries_of_range (k + 1) lines)
 
 -- what they were made of is given back
-pub depths_of-entries_of : (depths : List ℕ) (names : List (List ℕ)) (ns : List ℕ) → length names ≡ length depths → length ns ≡ length depths → depths_of (node_lines (entries_of depths names ns)) ≡ depths
+pub depths_of-entries_of : (depths : List ℕ) (names : List (List ℕ)) (ns : List ℕ) → length names ≡ length depths → length ns ≡ length depths → depths_of (node_lines (outline_nodes depths names ns)) ≡ depths
 depths_of-entries_of [] names ns same_names same_numbers = refl
 depths_of-entries_of (depth ∷ depths) [] ns same_names same_numbers = absurd (omega arith)
 depths_of-entries_of (depth ∷ depths) (name ∷ names) [] same_names same_numbers = absurd (omega arith)
 depths_of-entries_of (depth ∷ depths) (name ∷ names) (n ∷ ns) same_names same_numbers = ap (λ ds. depth ∷ ds) (depths_of-entries_of depths names ns (omega arith) (omega arith))
 
-pub numbers-entries_of : (depths : List ℕ) (names : List (List ℕ)) (ns : List ℕ) → length names ≡ length depths → length ns ≡ length depths → numbers (entries_of depths names ns) ≡ ns
+pub numbers-entries_of : (depths : List ℕ) (names : List (List ℕ)) (ns : List ℕ) → length names ≡ length depths → length ns ≡ length depths → numbers (outline_nodes depths names ns) ≡ ns
 numbers-entries_of [] names [] same_names same_numbers = refl
 numbers-entries_of [] names (n ∷ ns) same_names same_numbers = absurd (omega arith)
 numbers-entries_of (depth ∷ depths) [] ns same_names same_numbers = absurd (omega arith)
 numbers-entries_of (depth ∷ depths) (name ∷ names) [] same_names same_numbers = absurd (omega arith)
 numbers-entries_of (depth ∷ depths) (name ∷ names) (n ∷ ns) same_names same_numbers = ap (λ ms. n ∷ ms) (numbers-entries_of depths names ns (omega arith) (omega arith))
 
-pub names-entries_of : (depths : List ℕ) (names : List (List ℕ)) (ns : List ℕ) → length names ≡ length depths → length ns ≡ length depths → map (λ e. e.name) (entries_of depths names ns) ≡ names
+pub names-entries_of : (depths : List ℕ) (names : List (List ℕ)) (ns : List ℕ) → length names ≡ length depths → length ns ≡ length depths → map (λ e. e.name) (outline_nodes depths names ns) ≡ names
 names-entries_of [] [] ns same_names same_numbers = refl
 names-entries_of [] (name ∷ names) ns same_names same_numbers = absurd (omega arith)
 names-entries_of (depth ∷ depths) [] ns same_names same_numbers = absurd (omega arith)
@@ -89,8 +89,8 @@ names-entries_of (depth ∷ depths) (name ∷ names) [] same_names same_numbers 
 names-entries_of (depth ∷ depths) (name ∷ names) (n ∷ ns) same_names same_numbers = ap (λ ms. name ∷ ms) (names-entries_of depths names ns (omega arith) (omega arith))
 
 -- as many nodes as depths
-pub length-entries_of : (depths : List ℕ) (names : List (List ℕ)) (ns : List ℕ) → length names ≡ length depths → length ns ≡ length depths → length (entries_of depths names ns) ≡ length depths
-length-entries_of depths names ns same_names same_numbers = sym (length-node_lines (entries_of depths names ns)) ∙ sym (length-map (node_lines (entries_of depths names ns)) (λ (line : NodeLine). line.depth)) ∙ ap length (depths_of-entries_of depths names ns same_names same_numbers)
+pub length-entries_of : (depths : List ℕ) (names : List (List ℕ)) (ns : List ℕ) → length names ≡ length depths → length ns ≡ length depths → length (outline_nodes depths names ns) ≡ length depths
+length-entries_of depths names ns same_names same_numbers = sym (length-node_lines (outline_nodes depths names ns)) ∙ sym (length-map (node_lines (outline_nodes depths names ns)) (λ (line : NodeLine). line.depth)) ∙ ap length (depths_of-entries_of depths names ns same_names same_numbers)
 
 -- whether the names of numbered lines are names
 pub all_names-numbered_from : (k : ℕ) (lines : List NodeLine) → list_all (λ e. is_name e.name) (numbered_from k lines) ≡ list_all (λ line. is_name line.name) lines

@@ -8,7 +8,7 @@ use Rattle.cube_model.specs.Tree.{Dimension, Entry, IsTree, numbers, numbered_fr
 use Rattle.cube_model.specs.Cells.{leaf_places}
 use Rattle.cube_model.specs.Cut.{first_child, in_cut, next_sibling}
 use Rattle.dim_tree.specs.declared.node.Node.{Node}
-use Rattle.dim_tree.specs.Nodes.{IsNode, end_at, node_at}
+use Rattle.dim_tree.specs.Nodes.{IsNode, node_at, node_end}
 use Rattle.dim_tree.specs.Places.{parents_from, ends_from}
 use Rattle.dim_tree.proofs.Climbing.{depths_of}
 use Rattle.dim_tree.proofs.Rising.{first_fault-shallow}
@@ -110,7 +110,7 @@ module _ (dim : Dimension) (tree : IsTree dim) (n i : ℕ) (found : place_of dim
         | inr more ↦ ap (λ o. if end_of i == i + 1 then None else o) (sym (number_at-read dim (i + 1) (omega (arith, more, end_least, end_most i within))))
       ]
 
-  sibling_kept : (j : ℕ) → place_of dim kept.parent ≡ Some j → next_sibling dim n ≡ (if nat_lt (end_of i) (end_at dim j) then option_map (λ e. e.number) (slice_get dim (end_of i)) else None)
+  sibling_kept : (j : ℕ) → place_of dim kept.parent ≡ Some j → next_sibling dim n ≡ (if nat_lt (end_of i) (node_end dim j) then option_map (λ e. e.number) (slice_get dim (end_of i)) else None)
   sibling_kept j there =
       let same : above ≡ j = number_at-same dim (are_numbers dim tree) above j (above_is ∙ sym (number_at-place dim (are_numbers dim tree) kept.parent j there).0) in
       ap (next_sibling dim) (sym at) ∙ next_sibling-number_at dim (are_numbers dim tree) i ∙ ap (option_map (number_at dim)) (next_sibling-place (node_lines dim) (accepted_lines dim tree) i in_lines) ∙ option_map-where (number_at dim) (nat_lt (end_of i) (end_of above)) (end_of i)

@@ -66,8 +66,8 @@ pub record IsIndexed (nodes : List Node) (names : List (List ℕ)) (places kept_
   pub of_leaves : kept_leaves ≡ leaves_from 0 (depths_kept nodes)
 
 -- the place after the last node under the one at a place
-abbrev pub end_at : Dimension → ℕ → ℕ
-end_at dim i = slice_index (ends_from 0 (map (λ line. line.depth) (node_lines dim))) i
+abbrev pub node_end : Dimension → ℕ → ℕ
+node_end dim i = slice_index (ends_from 0 (map (λ line. line.depth) (node_lines dim))) i
 
 -- what is kept for the node of number n, which stands at place i, answers for it
 pub record IsNode (dim : Dimension) (n i : ℕ) (node : Node) : Type 0 where
@@ -78,13 +78,13 @@ pub record IsNode (dim : Dimension) (n i : ℕ) (node : Node) : Type 0 where
   pub parent_is : parent dim n ≡ (if n == 0 then None else Some node.parent)
   pub parent_within : node.parent < length dim
   pub parent_below : 0 < n → node.parent < n
-  pub end_is : node.end ≡ end_at dim i
+  pub end_is : node.end ≡ node_end dim i
   pub end_above : i < node.end
   pub end_within : node.end ≤ length dim
   pub leaf_is : is_leaf dim n ≡ (node.end == i + 1)
   pub under_is : (x j : ℕ) → place_of dim x ≡ Some j → is_under dim x n ≡ (nat_le i j && nat_lt j node.end)
   pub child_is : first_child dim n ≡ (if node.end == i + 1 then None else option_map (λ e. e.number) (slice_get dim (i + 1)))
-  pub sibling_is : (j : ℕ) → place_of dim node.parent ≡ Some j → next_sibling dim n ≡ (if nat_lt node.end (end_at dim j) then option_map (λ e. e.number) (slice_get dim node.end) else None)
+  pub sibling_is : (j : ℕ) → place_of dim node.parent ≡ Some j → next_sibling dim n ≡ (if nat_lt node.end (node_end dim j) then option_map (λ e. e.number) (slice_get dim node.end) else None)
   pub cut_is : (depth : ℕ) → option_map (in_cut dim depth) (entry_of dim n) ≡ Some (node.depth == depth || (nat_lt node.depth depth && is_leaf dim n))
   pub range_is : leaf_places dim n ≡ range_with_len node.first_leaf (node.leaves_end - node.first_leaf)
   pub range_some : node.first_leaf < node.leaves_end

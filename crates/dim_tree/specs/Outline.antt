@@ -9,21 +9,21 @@ use Rattle.cube_model.specs.Limits.{MAX_DEPTH}
 use Rattle.cube_model.specs.Tree.{Dimension, Entry, IsTree}
 
 -- the nodes with these depths, names and numbers
-abbrev pub entries_of : List ℕ → List (List ℕ) → List ℕ → Dimension
-entries_of [] names numbers = []
-entries_of (depth ∷ depths) [] numbers = []
-entries_of (depth ∷ depths) (name ∷ names) [] = []
-entries_of (depth ∷ depths) (name ∷ names) (number ∷ numbers) = record { depth = depth; name = name; number = number } ∷ entries_of depths names numbers
+abbrev pub outline_nodes : List ℕ → List (List ℕ) → List ℕ → Dimension
+outline_nodes [] names numbers = []
+outline_nodes (depth ∷ depths) [] numbers = []
+outline_nodes (depth ∷ depths) (name ∷ names) [] = []
+outline_nodes (depth ∷ depths) (name ∷ names) (number ∷ numbers) = record { depth = depth; name = name; number = number } ∷ outline_nodes depths names numbers
 
 -- as many depths as names and as numbers, and together they are a tree
 pub record IsOutline (depths : List ℕ) (names : List (List ℕ)) (numbers : List ℕ) : Type 0 where
   pub same_names : length names ≡ length depths
   pub same_numbers : length numbers ≡ length depths
-  pub tree : IsTree (entries_of depths names numbers)
+  pub tree : IsTree (outline_nodes depths names numbers)
 
 -- the line of a node
-abbrev pub line_of : Entry → NodeLine
-line_of e = record { depth = e.depth; name = e.name }
+abbrev pub line_of_node : Entry → NodeLine
+line_of_node e = record { depth = e.depth; name = e.name }
 
 -- why a line of this depth may not stand at place k, after a line of the depth `before`
 abbrev pub depth_fault : Option ℕ → ℕ → ℕ → Option DimFault

@@ -8,9 +8,9 @@ ghost use Rattle.cube_model.specs.Cells.{leaf_places};
 ghost use Rattle.cube_model.specs.Cut.{first_child, in_cut, next_sibling};
 ghost use Rattle.cube_model.specs.Growing.{grown};
 ghost use Rattle.cube_model.specs.Limits.{MAX_DEPTH, MAX_NODES};
-ghost use Rattle.dim_tree.specs.Fault.{IsCause};
+ghost use Rattle.dim_tree.specs.Fault.{IsDimCause};
 ghost use Rattle.dim_tree.specs.Nodes.{ArePlaces, IsNode, entry};
-ghost use Rattle.dim_tree.specs.Outline.{IsOutline, entries_of};
+ghost use Rattle.dim_tree.specs.Outline.{IsOutline, outline_nodes};
 
 use crate::growing::{depths_with, names_with, numbers_with};
 use crate::node::{Node, kept_nodes};
@@ -42,11 +42,11 @@ impl Model for Dim {
     ghost use Rattle.std.specs.Prelude.{map, string_bytes};
     ghost use Rattle.cube_model.specs.Tree.{Dimension};
     ghost use Rattle.dim_tree.specs.Nodes.{IsIndexed, depths_kept, numbers_kept};
-    ghost use Rattle.dim_tree.specs.Outline.{entries_of};
+    ghost use Rattle.dim_tree.specs.Outline.{outline_nodes};
 
     ghost Value = { Dimension };
 
-    ghost view = { λ d. entries_of (depths_kept d.nodes.items) (map string_bytes d.names.keys) (numbers_kept d.nodes.items) };
+    ghost view = { λ d. outline_nodes (depths_kept d.nodes.items) (map string_bytes d.names.keys) (numbers_kept d.nodes.items) };
 
     ghost invariant = { λ d. IsIndexed d.nodes.items (map string_bytes d.names.keys) d.places.items d.leaves.items };
 }
@@ -59,7 +59,7 @@ impl Dim {
     pub fn build(alloc: Global, lines: &[NodeLine]) -> Result<Self, DimFault>
         ensures built { IfOk result (λ dim. dim ≡ numbered lines.now) }
         ensures accepted { OnOk result (tree_fault lines.now ≡ None) }
-        ensures refused { IfErr result (IsCause (tree_fault lines.now)) }
+        ensures refused { IfErr result (IsDimCause (tree_fault lines.now)) }
         ensures empty { tree_fault lines.now ≡ Some Empty → result ≡ Err Empty }
         ensures many { tree_fault lines.now ≡ Some Many → result ≡ Err Many }
     {
@@ -78,7 +78,7 @@ impl Dim {
     pub fn build_numbered(alloc: Global, lines: &[NumberedLine]) -> Result<Self, DimFault>
         ensures built { IfOk result (λ dim. dim ≡ lines.now) }
         ensures accepted { OnOk result (dim_fault lines.now ≡ None) }
-        ensures refused { IfErr result (IsCause (dim_fault lines.now)) }
+        ensures refused { IfErr result (IsDimCause (dim_fault lines.now)) }
         ensures empty { dim_fault lines.now ≡ Some Empty → result ≡ Err Empty }
         ensures many { dim_fault lines.now ≡ Some Many → result ≡ Err Many }
     {
@@ -97,7 +97,7 @@ impl Dim {
         requires few { length lines.now ≤ MAX_NODES }
         ensures built { IfOk result (λ dim. dim ≡ numbered lines.now) }
         ensures accepted { OnOk result (tree_fault lines.now ≡ None) }
-        ensures refused { IfErr result (IsCause (tree_fault lines.now)) }
+        ensures refused { IfErr result (IsDimCause (tree_fault lines.now)) }
     {
         let names = judged_names(alloc, lines)?;
         let depths = depths_of(alloc, lines)?;
@@ -113,7 +113,7 @@ impl Dim {
         requires few { length lines.now ≤ MAX_NODES }
         ensures built { IfOk result (λ dim. dim ≡ lines.now) }
         ensures accepted { OnOk result (dim_fault lines.now ≡ None) }
-        ensures refused { IfErr result (IsCause (dim_fault lines.now)) }
+        ensures refused { IfErr result (IsDimCause (dim_fault lines.now)) }
     {
         let names = judged_names(alloc, lines)?;
         let depths = depths_of(alloc, lines)?;
@@ -131,7 +131,7 @@ impl Dim {
         numbers: &[u32],
     ) -> Result<Self, Memory>
         requires { IsOutline depths.now (map string_bytes names.keys) numbers.now }
-        ensures { IfOk result (λ dim. dim ≡ entries_of depths.now (map string_bytes names.keys) numbers.now) }
+        ensures { IfOk result (λ dim. dim ≡ outline_nodes depths.now (map string_bytes names.keys) numbers.now) }
     {
         let places = ordered_places(alloc, depths, numbers)?;
         let dim = Self::indexed(alloc, names, places, depths, numbers)?;
@@ -148,7 +148,7 @@ impl Dim {
     ) -> Result<Self, AllocError>
         requires outline { IsOutline depths.now (map string_bytes names.keys) numbers.now }
         requires places { ArePlaces numbers.now places.items }
-        ensures { IfOk result (λ dim. dim ≡ entries_of depths.now (map string_bytes names.keys) numbers.now) }
+        ensures { IfOk result (λ dim. dim ≡ outline_nodes depths.now (map string_bytes names.keys) numbers.now) }
     {
         let (leaves_before, leaves) = leaves_of(alloc, depths)?;
         let nodes = kept_nodes(alloc, depths, numbers, &leaves_before)?;

@@ -3,7 +3,7 @@ ghost use Rattle.std.specs.Prelude.{◌≡◌, ◌≤◌, length, true, None, So
 ghost use Rattle.std.specs.List.{list_all, range_with_len};
 ghost use Rattle.cube_model.specs.Limits.{MAX_DEPTH, MAX_NODES};
 ghost use Rattle.cube_model.specs.declared.tree.DimFault.TheVariants.{Number};
-ghost use Rattle.dim_tree.specs.Fault.{IsCause};
+ghost use Rattle.dim_tree.specs.Fault.{IsDimCause};
 ghost use Rattle.dim_tree.specs.Nodes.{ArePlaces, are_above, are_in_order, are_numbers};
 
 use crate::places::parents_of;
@@ -30,7 +30,7 @@ pub fn judged_places(alloc: Global, depths: &[u8], numbers: &[u32]) -> Result<Ve
     requires same_length { length numbers.now ≡ length depths.now }
     ensures placed { IfOk result (λ places. ArePlaces numbers.now places.items) }
     ensures accepted { OnOk result (are_in_order numbers.now depths.now ≡ true) }
-    ensures refused { IfErr result (IsCause (if are_in_order numbers.now depths.now then None else Some Number)) }
+    ensures refused { IfErr result (IsDimCause (if are_in_order numbers.now depths.now then None else Some Number)) }
 {
     let places = places_of(alloc, numbers)?;
     let parents = parents_of(alloc, depths)?;
@@ -61,7 +61,7 @@ fn places_of(alloc: Global, numbers: &[u32]) -> Result<Vec<u32>, DimFault>
     requires { length numbers.now ≤ MAX_NODES }
     ensures placed { IfOk result (λ places. ArePlaces numbers.now places.items) }
     ensures accepted { OnOk result (are_numbers numbers.now ≡ true) }
-    ensures refused { IfErr result (IsCause (if are_numbers numbers.now then None else Some Number)) }
+    ensures refused { IfErr result (IsDimCause (if are_numbers numbers.now then None else Some Number)) }
 {
     // Stands for the place of a number that has not been met.
     let none = numbers.len() as u32;

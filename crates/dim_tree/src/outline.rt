@@ -6,8 +6,8 @@ ghost use Rattle.cube_base.specs.Name.{is_name};
 ghost use Rattle.cube_model.specs.Limits.{MAX_NODES};
 ghost use Rattle.cube_model.specs.Tree.{first_fault};
 ghost use Rattle.cube_model.specs.declared.tree.NodeLine.{NodeLine};
-ghost use Rattle.dim_tree.specs.Fault.{IsCause};
-ghost use Rattle.dim_tree.specs.Outline.{depth_fault, line_of, name_fault};
+ghost use Rattle.dim_tree.specs.Fault.{IsDimCause};
+ghost use Rattle.dim_tree.specs.Outline.{depth_fault, line_of_node, name_fault};
 
 use cube_base::Name;
 use cube_model::{DimFault, MAX_DEPTH, NodeLine, NumberedLine};
@@ -41,7 +41,7 @@ impl Outlined for NodeLine {
 }
 
 impl Outlined for NumberedLine {
-    ghost line = { line_of };
+    ghost line = { line_of_node };
 
     fn depth(&self) -> u8 {
         self.depth
@@ -58,7 +58,7 @@ pub fn judged_names<L: Outlined>(alloc: Global, nodes: &[L]) -> Result<IndexSet<
     ensures names { IfOk result (λ names. map string_bytes names.keys ≡ map (λ line. line.name) (map L.line nodes.now)) }
     ensures are_names { OnOk result (list_all (λ line. is_name line.name) (map L.line nodes.now) ≡ true) }
     ensures accepted { OnOk result (first_fault [] 0 (map L.line nodes.now) ≡ None) }
-    ensures refused { IfErr result (IsCause (first_fault [] 0 (map L.line nodes.now))) }
+    ensures refused { IfErr result (IsDimCause (first_fault [] 0 (map L.line nodes.now))) }
 {
     let mut names = IndexSet::with_capacity(alloc, nodes.len())?;
     let mut before = None;
@@ -83,7 +83,7 @@ fn judge_line(
     ensures name { OnOk result (name_fault (map string_bytes names.old.keys) place name.now ≡ None) }
     ensures added { OnOk result (map string_bytes names.new.keys ≡ map string_bytes names.old.keys ++ name.now ∷ []) }
     ensures is_name { OnOk result (is_name name.now ≡ true) }
-    ensures refused { IfErr result (IsCause (option_or (depth_fault before place depth) (name_fault (map string_bytes names.old.keys) place name.now))) }
+    ensures refused { IfErr result (IsDimCause (option_or (depth_fault before place depth) (name_fault (map string_bytes names.old.keys) place name.now))) }
 {
     judge_depth(before, place, depth)?;
     add_name(alloc, names, place, name)
@@ -92,7 +92,7 @@ fn judge_line(
 /// Judges the depth of the line at a place, after a line of the depth `before`.
 fn judge_depth(before: Option<u8>, place: u32, depth: u8) -> Result<(), DimFault>
     ensures accepted { OnOk result (depth_fault before place depth ≡ None) }
-    ensures refused { IfErr result (IsCause (depth_fault before place depth)) }
+    ensures refused { IfErr result (IsDimCause (depth_fault before place depth)) }
 {
     match before {
         None if depth != 0 => Err(DimFault::Root),
@@ -114,7 +114,7 @@ fn add_name(
     ensures accepted { OnOk result (name_fault (map string_bytes names.old.keys) place name.now ≡ None) }
     ensures added { OnOk result (map string_bytes names.new.keys ≡ map string_bytes names.old.keys ++ name.now ∷ []) }
     ensures is_name { is_name name.now ≡ true }
-    ensures refused { IfErr result (IsCause (name_fault (map string_bytes names.old.keys) place name.now)) }
+    ensures refused { IfErr result (IsDimCause (name_fault (map string_bytes names.old.keys) place name.now)) }
 {
     let text = String::from_str(alloc, name.text())?;
     let added = names.insert(text)?;

@@ -12,8 +12,8 @@ use Rattle.cube_model.specs.declared.edit.Fact.{Fact}
 use Rattle.cube_model.specs.declared.statistic.CellStat.{CellStat}
 use Rattle.cube_model.specs.Facts.{after}
 use Rattle.fact_records.specs.Judge.{judge}
-use Rattle.cube_core.specs.Cube.{CubeValue, edited, judge_in, refreshed_in}
-use Rattle.schema_text.specs.Schema.{SchemaValue, policy_in, shape_of, weigh_of}
+use Rattle.cube_core.specs.Cube.{CubeValue, cube_judgement, cube_refreshed, edited}
+use Rattle.schema_text.specs.Schema.{SchemaValue, schema_policy, shape_of, weigh_of}
 use Rattle.drill_run.specs.Doing.{Tally, cube_after, edit_once, size_refreshed, with_refusal}
 
 filter-le : {X : Type 0} (p : X → Bool) (xs : List X) → length (filter p xs) ≤ length xs
@@ -43,10 +43,10 @@ module _ {P : Type 0} (weigh : P → CellStat → ℕ) (cube : CubeValue P) (edi
       → edit_once cube.schema edit (record { facts = cube.facts; refreshed = refreshes; refused = refuses })
       ≡ counted (cube_after weigh cube edit).facts (size_refreshed weigh cube edit) (record { facts = cube.facts; refreshed = refreshes; refused = refuses })
   own weighs =
-      subst (λ w. option_map_or (λ refusal. with_refusal (record { facts = cube.facts; refreshed = refreshes; refused = refuses })) (judge (policy_in w cube.schema) (shape_of cube.schema) cube.schema.dims edit cube.facts)
-      (record { facts = after edit cube.facts; refreshed = refreshes + length (refreshed (policy_in w cube.schema) cube.schema.dims cube.facts (after edit cube.facts)); refused = refuses })
+      subst (λ w. option_map_or (λ refusal. with_refusal (record { facts = cube.facts; refreshed = refreshes; refused = refuses })) (judge (schema_policy w cube.schema) (shape_of cube.schema) cube.schema.dims edit cube.facts)
+      (record { facts = after edit cube.facts; refreshed = refreshes + length (refreshed (schema_policy w cube.schema) cube.schema.dims cube.facts (after edit cube.facts)); refused = refuses })
       ≡ counted (cube_after weigh cube edit).facts (size_refreshed weigh cube edit) (record { facts = cube.facts; refreshed = refreshes; refused = refuses }))
-      weighs (by_judge (judge_in weigh cube edit) (length (refreshed_in weigh cube edit)))
+      weighs (by_judge (cube_judgement weigh cube edit) (length (cube_refreshed weigh cube edit)))
 
   -- the facts and both counts after an edit of a cube are those of the tally
   pub edit-counted : (schema : SchemaValue) (now : CubeValue P) (size : Option ℕ) → cube.schema ≡ schema → weigh cube.policy ≡ weigh_of schema.policy → size ≡ size_refreshed weigh cube edit → now ≡ cube_after weigh cube edit

@@ -4,26 +4,26 @@ use Rattle.cube_model.specs.Allocation.{extended, weigh_count}
 use Rattle.cube_model.specs.Answer.{answer}
 use Rattle.cube_model.specs.declared.statistic.CellStat.{CellStat}
 use Rattle.fact_records.specs.Shape.{width_of_all}
-use Rattle.schema_text.specs.Schema.{policy_in}
-use Rattle.cube_core.specs.Cube.{CubeValue, answer_in, rows_in}
+use Rattle.schema_text.specs.Schema.{schema_policy}
+use Rattle.cube_core.specs.Cube.{CubeValue, cube_answer, cube_rows}
 use Rattle.drill_run.specs.Doing.{Tally, blank_tally, drill_of, edit_all}
 use Rattle.drill_run.specs.Edits.{first_puts, thirds}
 use Rattle.drill_run.specs.Space.{drill_schema, everything}
-use Rattle.drill_run.specs.Summary.{rows_of, terms_of}
+use Rattle.drill_run.specs.Summary.{drill_rows, terms_of}
 use Rattle.drill_run.proofs.Folding.{edit_all-both}
 use Rattle.drill_run.proofs.Lying.{weighs-counts}
 
 module _ {P : Type 0} (weigh : P → CellStat → ℕ) (cube : CubeValue P) (is : cube.schema ≡ drill_schema) (weighs : weigh cube.policy ≡ weigh_count) where
-  pub rows-are : rows_in weigh cube ≡ rows_of cube.facts
+  pub rows-are : cube_rows weigh cube ≡ drill_rows cube.facts
   rows-are =
-      ap (λ s. extended (policy_in (weigh cube.policy) s) s.dims cube.facts) is
-      ∙ ap (λ w. extended (policy_in w drill_schema) drill_schema.dims cube.facts) (weighs ∙ sym weighs-counts)
+      ap (λ s. extended (schema_policy (weigh cube.policy) s) s.dims cube.facts) is
+      ∙ ap (λ w. extended (schema_policy w drill_schema) drill_schema.dims cube.facts) (weighs ∙ sym weighs-counts)
 
-  pub terms-are : (region : List ℕ) → region ≡ everything → answer_in weigh cube region ≡ terms_of cube.facts
+  pub terms-are : (region : List ℕ) → region ≡ everything → cube_answer weigh cube region ≡ terms_of cube.facts
   terms-are region all =
-      ap (answer (width_of_all cube.schema.measures) cube.schema.dims (rows_in weigh cube)) all
+      ap (answer (width_of_all cube.schema.measures) cube.schema.dims (cube_rows weigh cube)) all
       ∙ ap (λ rows. answer (width_of_all cube.schema.measures) cube.schema.dims rows everything) rows-are
-      ∙ ap (λ s. answer (width_of_all s.measures) s.dims (rows_of cube.facts) everything) is
+      ∙ ap (λ s. answer (width_of_all s.measures) s.dims (drill_rows cube.facts) everything) is
 
 -- the facts come, and then go
 pub drill-done : (n : ℕ) (full last : Tally) → full ≡ edit_all drill_schema (first_puts n n) blank_tally → last ≡ edit_all drill_schema (thirds n) full → last ≡ drill_of n

@@ -13,7 +13,7 @@ use Rattle.dim_tree.proofs.Placing.{range_more}
 use Rattle.schema_text.specs.Schema.{SchemaValue}
 use Rattle.drill_run.specs.Doing.{Tally, edit_all, edit_once}
 use Rattle.drill_run.specs.Edits.{fact_after, fact_drawn, first_puts, thirds}
-use Rattle.drill_run.specs.Numbers.{next_state, number_at, state_after}
+use Rattle.drill_run.specs.Numbers.{drawn_number, drawn_state, next_state}
 
 -- edits, and then others
 pub edit_all-both : (schema : SchemaValue) (first then : List Edit) (tally : Tally) → edit_all schema (first ++ then) tally ≡ edit_all schema then (edit_all schema first tally)
@@ -45,17 +45,17 @@ third-stays schema k id tally is stays =
     ap (λ l. edit_all schema (map (λ id. Withdraw id) l) tally) ids
 
 -- one draw more
-state-next : (seed k j : ℕ) → j ≡ k + 1 → state_after seed j ≡ next_state (state_after seed k)
-state-next seed k j is = let same : j ≡ suc k = omega (arith, is) in ap (state_after seed) same
+state-next : (seed k j : ℕ) → j ≡ k + 1 → drawn_state seed j ≡ next_state (drawn_state seed k)
+state-next seed k j is = let same : j ≡ suc k = omega (arith, is) in ap (drawn_state seed) same
 
 -- four draws more
 record FourDraws (seed k state : ℕ) : Type 0 where
-  first : state_after seed (4 * k + 1) ≡ next_state state
-  second : state_after seed (4 * k + 2) ≡ next_state (next_state state)
-  third : state_after seed (4 * k + 3) ≡ next_state (next_state (next_state state))
-  fourth : state_after seed (4 * k + 4) ≡ next_state (next_state (next_state (next_state state)))
+  first : drawn_state seed (4 * k + 1) ≡ next_state state
+  second : drawn_state seed (4 * k + 2) ≡ next_state (next_state state)
+  third : drawn_state seed (4 * k + 3) ≡ next_state (next_state (next_state state))
+  fourth : drawn_state seed (4 * k + 4) ≡ next_state (next_state (next_state (next_state state)))
 
-four_draws : (seed k state : ℕ) → state ≡ state_after seed (4 * k) → FourDraws seed k state
+four_draws : (seed k state : ℕ) → state ≡ drawn_state seed (4 * k) → FourDraws seed k state
 four_draws seed k state is =
     let first = state-next seed (4 * k) (4 * k + 1) refl ∙ ap next_state (sym is) in
     let second = state-next seed (4 * k + 1) (4 * k + 2) (omega arith) ∙ ap next_state first in
@@ -64,14 +64,14 @@ four_draws seed k state is =
     record { first = first; second = second; third = third; fourth = fourth }
 
 -- the state after the draws of one fact more
-pub state-more : (seed k state after : ℕ) → state ≡ state_after seed (4 * k) → after ≡ next_state (next_state (next_state (next_state state))) → after ≡ state_after seed (4 * (k + 1))
+pub state-more : (seed k state after : ℕ) → state ≡ drawn_state seed (4 * k) → after ≡ next_state (next_state (next_state (next_state state))) → after ≡ drawn_state seed (4 * (k + 1))
 state-more seed k state after is fourth =
     let same : 4 * k + 4 ≡ 4 * (k + 1) = omega arith in
-    fourth ∙ sym (four_draws seed k state is).fourth ∙ ap (state_after seed) same
+    fourth ∙ sym (four_draws seed k state is).fourth ∙ ap (drawn_state seed) same
 
 -- these draws make the next fact
-pub fact-next : (seed k id state after : ℕ) (fact : Fact) → state ≡ state_after seed (4 * k) → id ≡ k + 1 → after ≡ next_state (next_state (next_state (next_state state)))
-    → fact ≡ fact_drawn id (number_at (next_state state)) (number_at (next_state (next_state state))) (number_at (next_state (next_state (next_state state)))) (number_at after)
+pub fact-next : (seed k id state after : ℕ) (fact : Fact) → state ≡ drawn_state seed (4 * k) → id ≡ k + 1 → after ≡ next_state (next_state (next_state (next_state state)))
+    → fact ≡ fact_drawn id (drawn_number (next_state state)) (drawn_number (next_state (next_state state))) (drawn_number (next_state (next_state (next_state state)))) (drawn_number after)
     → fact ≡ fact_after seed k
 fact-next seed k id state after fact is is_id fourth made =
     let draws = four_draws seed k state is in

@@ -21,7 +21,7 @@ use Rattle.drill_run.specs.Doing.{drill_of}
 use Rattle.drill_run.specs.Edits.{edits_of}
 use Rattle.drill_run.specs.Examples.{fact_of_one, line_of_one, tally_of_one}
 use Rattle.drill_run.specs.Space.{drill_schema, everything, places, times}
-use Rattle.drill_run.specs.Summary.{line_of_tally, rows_of, summary_of, terms_of}
+use Rattle.drill_run.specs.Summary.{drill_rows, line_of_tally, summary_of, terms_of}
 use Rattle.drill_run.proofs.Lying.{dims-are, one-column}
 
 -- the city is the seventh of all, and everything has all of them
@@ -65,7 +65,7 @@ spread-evenly : (dims : List Dimension) → cells_of dims (8 ∷ 29 ∷ []) ≡ 
 unfolding extended allocation row_of_one
 spread-evenly dims cells = rw cells refl
 
-rows-of-one : rows_of (fact_of_one ∷ []) ≡ row_of_one ∷ []
+rows-of-one : drill_rows (fact_of_one ∷ []) ≡ row_of_one ∷ []
 rows-of-one = ap (λ policy. extended policy drill_schema.dims (fact_of_one ∷ [])) policy-is ∙ spread-evenly drill_schema.dims cells-of-fact
 
 -- what these add up to
@@ -78,7 +78,7 @@ add-up dims cells = rw cells refl
 
 terms-of-one : terms_of (fact_of_one ∷ []) ≡ term_of_one ∷ []
 terms-of-one =
-    ap (λ width. answer width drill_schema.dims (rows_of (fact_of_one ∷ [])) everything) one-column
+    ap (λ width. answer width drill_schema.dims (drill_rows (fact_of_one ∷ [])) everything) one-column
     ∙ ap (λ rows. answer 1 drill_schema.dims rows everything) rows-of-one
     ∙ add-up drill_schema.dims cells-of-everything
 

@@ -8,7 +8,7 @@ use Rattle.cube_model.specs.Difference.{refreshed}
 use Rattle.cube_model.specs.Facts.{after}
 use Rattle.fact_records.specs.Judge.{judge}
 use Rattle.schema_text.specs.Schema.{SchemaValue, policy_of, shape_of}
-use Rattle.cube_core.specs.Cube.{CubeValue, edited, judge_in, refreshed_in}
+use Rattle.cube_core.specs.Cube.{CubeValue, cube_judgement, cube_refreshed, edited}
 use Rattle.drill_run.specs.Edits.{edits_of}
 use Rattle.drill_run.specs.Space.{drill_schema}
 
@@ -40,10 +40,10 @@ edit_all schema (edit ∷ edits) tally = edit_all schema edits (edit_once schema
 
 -- The same of a cube: what it is after an edit, and how many facts the edit refreshes, unless it is refused.
 abbrev pub cube_after : {P : Type 0} → (P → CellStat → ℕ) → CubeValue P → Edit → CubeValue P
-cube_after weigh cube edit = option_map_or (λ refusal. cube) (judge_in weigh cube edit) (edited edit cube)
+cube_after weigh cube edit = option_map_or (λ refusal. cube) (cube_judgement weigh cube edit) (edited edit cube)
 
 abbrev pub size_refreshed : {P : Type 0} → (P → CellStat → ℕ) → CubeValue P → Edit → Option ℕ
-size_refreshed weigh cube edit = option_map_or (λ refusal. None) (judge_in weigh cube edit) (Some (length (refreshed_in weigh cube edit)))
+size_refreshed weigh cube edit = option_map_or (λ refusal. None) (cube_judgement weigh cube edit) (Some (length (cube_refreshed weigh cube edit)))
 
 -- the drill of a number
 unfoldable pub drill_of : ℕ → Tally

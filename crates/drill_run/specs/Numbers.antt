@@ -10,14 +10,14 @@ abbrev pub next_state : ℕ → ℕ
 next_state state = (state * 1103515245 + 12345) % MODULUS
 
 -- the number that a state gives
-abbrev pub number_at : ℕ → ℕ
-number_at state = state / 65536
+abbrev pub drawn_number : ℕ → ℕ
+drawn_number state = state / 65536
 
 -- the state after so many draws
-abbrev pub state_after : ℕ → ℕ → ℕ
-state_after seed zero = seed
-state_after seed (suc k) = next_state (state_after seed k)
+abbrev pub drawn_state : ℕ → ℕ → ℕ
+drawn_state seed zero = seed
+drawn_state seed (suc k) = next_state (drawn_state seed k)
 
 -- the draw of this number, counted from 1
 abbrev pub drawn : ℕ → ℕ → ℕ
-drawn seed k = number_at (state_after seed k)
+drawn seed k = drawn_number (drawn_state seed k)

@@ -14,15 +14,15 @@ use Rattle.drill_run.specs.Doing.{Tally, drill_of}
 use Rattle.drill_run.specs.Space.{drill_schema, everything}
 
 -- the rows of facts, and what these add up to altogether
-abbrev pub rows_of : List Fact → List ExtendedFact
-rows_of facts = extended (policy_of drill_schema) drill_schema.dims facts
+abbrev pub drill_rows : List Fact → List ExtendedFact
+drill_rows facts = extended (policy_of drill_schema) drill_schema.dims facts
 
 abbrev pub terms_of : List Fact → List Term
-terms_of facts = answer (width_of_all drill_schema.measures) drill_schema.dims (rows_of facts) everything
+terms_of facts = answer (width_of_all drill_schema.measures) drill_schema.dims (drill_rows facts) everything
 
 -- the number that was drilled, the facts that are left, their rows, and how many were refreshed
 abbrev pub count_fields : ℕ → Tally → List (List ℕ)
-count_fields n tally = decimal n ∷ decimal (length tally.facts) ∷ decimal (row_count (rows_of tally.facts)) ∷ decimal tally.refreshed ∷ []
+count_fields n tally = decimal n ∷ decimal (length tally.facts) ∷ decimal (row_count (drill_rows tally.facts)) ∷ decimal tally.refreshed ∷ []
 
 -- the count and the sum of all
 abbrev pub total_fields : List Term → List (List ℕ)

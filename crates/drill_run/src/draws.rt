@@ -1,7 +1,7 @@
 //! The facts that a seed draws.
 ghost use Rattle.std.specs.Prelude.{◌≡◌, ◌<◌};
 ghost use Rattle.drill_run.specs.Edits.{fact_drawn, place_node, time_node};
-ghost use Rattle.drill_run.specs.Numbers.{MODULUS, next_state, number_at};
+ghost use Rattle.drill_run.specs.Numbers.{MODULUS, drawn_number, next_state};
 
 use cube_base::Cols;
 use cube_model::{Fact, Region};
@@ -39,7 +39,7 @@ impl Draws {
     // The next number.
     fn draw(&mut self) -> u64
         ensures state { self.new ≡ next_state self.old }
-        ensures number { result ≡ number_at self.new }
+        ensures number { result ≡ drawn_number self.new }
     {
         self.state = (self.state * 1_103_515_245 + 12_345) % MODULUS;
         self.state / 65_536
@@ -48,8 +48,8 @@ impl Draws {
     /// The fact of the next four draws, with this id.
     pub fn fact(&mut self, id: u64) -> Fact
         ensures state { self.new ≡ next_state (next_state (next_state (next_state self.old))) }
-        ensures fact { result ≡ fact_drawn id (number_at (next_state self.old)) (number_at (next_state (next_state self.old)))
-            (number_at (next_state (next_state (next_state self.old)))) (number_at self.new) }
+        ensures fact { result ≡ fact_drawn id (drawn_number (next_state self.old)) (drawn_number (next_state (next_state self.old)))
+            (drawn_number (next_state (next_state (next_state self.old)))) (drawn_number self.new) }
     {
         let place = self.draw();
         let time = self.draw();

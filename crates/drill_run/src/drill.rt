@@ -7,7 +7,7 @@ ghost use Rattle.fact_records.specs.Valid.{IsEditOver};
 ghost use Rattle.drill_run.specs.Doing.{blank_tally, edit_all, edit_once};
 ghost use Rattle.drill_run.specs.Edits.{MAX_DRILL, first_puts, thirds};
 ghost use Rattle.drill_run.specs.Space.{drill_schema};
-ghost use Rattle.drill_run.specs.Summary.{rows_of, terms_of};
+ghost use Rattle.drill_run.specs.Summary.{drill_rows, terms_of};
 
 use crate::draws::Draws;
 use crate::edit_cube::edit_cube;
@@ -77,7 +77,7 @@ impl Drill {
 
     /// The number of their rows.
     pub fn row_count(&self) -> u64
-        ensures { result ≡ row_count (rows_of self.now.facts) }
+        ensures { result ≡ row_count (drill_rows self.now.facts) }
     {
         self.cube.row_count()
     }

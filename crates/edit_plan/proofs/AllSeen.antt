@@ -21,7 +21,7 @@ use Rattle.region_algebra.specs.Space.{code_of}
 use Rattle.cube_state.specs.Sets.{AreAllFor}
 use Rattle.edit_plan.specs.Refreshing.{is_same_spread}
 use Rattle.cube_state.specs.State.{StateValue, policy_in}
-use Rattle.edit_plan.specs.Whole.{difference_with, facts_with, ids_otherwise, lay_so, new_kept, refreshed_by, rows_otherwise}
+use Rattle.edit_plan.specs.Whole.{difference_with, facts_with_new, ids_otherwise, lay_so, new_kept, refreshed_by, rows_otherwise}
 use Rattle.cube_state.proofs.Accepting.{AreValid-new}
 use Rattle.edit_plan.proofs.AllRefreshed.{IsKeptFact, ascend-refreshed, ids-refreshed, kept-each, lay-none, lay-some, rows-refreshed}
 use Rattle.edit_plan.proofs.AllStored.{new-stored}
@@ -52,17 +52,17 @@ module _ {P : Type 0} (weigh : P → CellStat → ℕ) (state : StateValue P) wh
         (its ∙ ap option_copied some) at before_is lay_is
 
 -- the plan of new facts
-module _ {P : Type 0} (weigh : P → CellStat → ℕ) (state : StateValue P) (new : List Fact) (are : AreNew state.shape state.dims state.facts new) (valid : AreValid state.shape state.dims state.facts) (later : List Fact) (is : later ≡ facts_with state new) where
-  all-valid : AreValid state.shape state.dims (facts_with state new)
+module _ {P : Type 0} (weigh : P → CellStat → ℕ) (state : StateValue P) (new : List Fact) (are : AreNew state.shape state.dims state.facts new) (valid : AreValid state.shape state.dims state.facts) (later : List Fact) (is : later ≡ facts_with_new state new) where
+  all-valid : AreValid state.shape state.dims (facts_with_new state new)
   all-valid = AreValid-new state.shape state.dims new state.facts are valid
 
   pub ids-planned : (ids : List ℕ) → ids ≡ ids_otherwise (policy_in weigh state) state.dims state.facts later later → ids ≡ refreshed_by weigh state new
-  ids-planned ids ids_are = ids_are ∙ ap (λ fs. ids_otherwise (policy_in weigh state) state.dims state.facts fs fs) is ∙ ids-refreshed (policy_in weigh state) state.dims state.facts (facts_with state new) all-valid.ascending
+  ids-planned ids ids_are = ids_are ∙ ap (λ fs. ids_otherwise (policy_in weigh state) state.dims state.facts fs fs) is ∙ ids-refreshed (policy_in weigh state) state.dims state.facts (facts_with_new state new) all-valid.ascending
 
   pub ids-ascend : (ids : List ℕ) → ids ≡ ids_otherwise (policy_in weigh state) state.dims state.facts later later → ascends_from (λ id. id) 1 ids ≡ true
   ids-ascend ids ids_are =
       subst (λ xs. ascends_from (λ id. id) 1 xs ≡ true) (sym (ids-planned ids ids_are))
-      (ascend-refreshed (policy_in weigh state) state.dims state.facts (facts_with state new) all-valid.ascending (All-weaker (IsValid state.shape state.dims) (λ f. 1 ≤ f.id) (λ f one. one.accepted.placed.id.least) (facts_with state new) all-valid.each))
+      (ascend-refreshed (policy_in weigh state) state.dims state.facts (facts_with_new state new) all-valid.ascending (All-weaker (IsValid state.shape state.dims) (λ f. 1 ≤ f.id) (λ f one. one.accepted.placed.id.least) (facts_with_new state new) all-valid.each))
 
   abbrev batch_of : List KeptFact → List KeptRows → Batch
   batch_of facts rows = record { schema = None; gone = []; facts = facts; rows = rows }
@@ -73,4 +73,4 @@ module _ {P : Type 0} (weigh : P → CellStat → ℕ) (state : StateValue P) (n
       ap (λ (ids : List ℕ). record { schema = None; gone = ids; facts = facts; rows = rows }) none
       ∙ ap (λ fs. batch_of fs rows) (facts_are ∙ ap (new_kept state.facts) is ∙ new-stored state.shape state.dims new state.facts are all-valid.ascending)
       ∙ ap (batch_of (difference_with (policy_in weigh state) state.dims new state.facts).facts)
-      (rows_are ∙ ap (λ fs. rows_otherwise (policy_in weigh state) state.dims state.facts fs fs) is ∙ rows-refreshed (policy_in weigh state) state.dims state.facts (facts_with state new) all-valid.ascending)
+      (rows_are ∙ ap (λ fs. rows_otherwise (policy_in weigh state) state.dims state.facts fs fs) is ∙ rows-refreshed (policy_in weigh state) state.dims state.facts (facts_with_new state new) all-valid.ascending)

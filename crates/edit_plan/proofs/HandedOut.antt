@@ -22,9 +22,9 @@ use Rattle.fact_groups.proofs.Groups.{group_at-region}
 use Rattle.fact_groups.proofs.Refreshing.{otherwise}
 use Rattle.fact_groups.proofs.Statistics.{sum-reweighed}
 use Rattle.edit_plan.specs.Bound.{covering_pairs}
-use Rattle.edit_plan.specs.Refreshing.{ids_at}
+use Rattle.edit_plan.specs.Refreshing.{id_count_at}
 use Rattle.cube_state.specs.State.{ids_with}
-use Rattle.cube_state.specs.Regrouped.{HoldChanged, is_spread_anew, spread_anew}
+use Rattle.cube_state.specs.Regrouped.{HoldChanged, group_is_respread, spread_anew}
 use Rattle.edit_plan.proofs.CountedOnce.{from-some, none-counted, some-counted, sums-le}
 use Rattle.edit_plan.proofs.FlatLists.{any-alike}
 use Rattle.edit_plan.proofs.RefreshedPairs.{ascends-anew}
@@ -48,7 +48,7 @@ module _ (policy : Policy) (columns : ℕ) (dims : List Dimension) (edit : Edit)
   reweighed = reweighed_cells policy dims edit facts
 
   abbrev spreads_anew : ℕ → Bool
-  spreads_anew code = is_spread_anew (group_at policy columns dims facts code) (group_at policy columns dims later code)
+  spreads_anew code = group_is_respread (group_at policy columns dims facts code) (group_at policy columns dims later code)
 
   abbrev group_of : List Fact → List ℕ → Group
   group_of among region = record { spread = spread_at policy dims among region; count = length (facts_with dims (code_of dims region) among); sums = column_sums columns (facts_with dims (code_of dims region) among) }
@@ -57,11 +57,11 @@ module _ (policy : Policy) (columns : ℕ) (dims : List Dimension) (edit : Edit)
   spread-otherwise : (region : List ℕ) → IsRegion dims region → spreads_anew (code_of dims region) ≡ true → is_spread_otherwise policy dims edit facts region region ≡ true
   spread-otherwise region named anew =
       either (length (facts_with dims (code_of dims region) facts) == 0) (length (facts_with dims (code_of dims region) later) == 0)
-      (sym (ap (λ o. is_spread_anew o (group_at policy columns dims later (code_of dims region))) (group_at-region policy columns dims facts region trees regions named)
-      ∙ ap (is_spread_anew (if length (facts_with dims (code_of dims region) facts) == 0 then None else Some (group_of facts region))) (group_at-region policy columns dims later region trees later_regions named))
+      (sym (ap (λ o. group_is_respread o (group_at policy columns dims later (code_of dims region))) (group_at-region policy columns dims facts region trees regions named)
+      ∙ ap (group_is_respread (if length (facts_with dims (code_of dims region) facts) == 0 then None else Some (group_of facts region))) (group_at-region policy columns dims later region trees later_regions named))
       ∙ anew)
     where
-      either : (none none_later : Bool) → is_spread_anew (if none then None else Some (group_of facts region)) (if none_later then None else Some (group_of later region)) ≡ true → is_spread_otherwise policy dims edit facts region region ≡ true
+      either : (none none_later : Bool) → group_is_respread (if none then None else Some (group_of facts region)) (if none_later then None else Some (group_of later region)) ≡ true → is_spread_otherwise policy dims edit facts region region ≡ true
       either true none_later is = cc
       either false true is = cc
       either false false is = is
@@ -103,7 +103,7 @@ module _ (policy : Policy) (columns : ℕ) (dims : List Dimension) (edit : Edit)
             (λ code. covers-reweighed fact named code) in
             omega (arith, few, one, least (list_any (λ code. c == code) anew), some-counted (λ cell. covers dims cell fact) reweighed covered)
 
-    counted : (some : List ℕ) → ids_at dims facts some ≡ sum_by (λ code. count_by (is_indexed_at dims code) facts) some
+    counted : (some : List ℕ) → id_count_at dims facts some ≡ sum_by (λ code. count_by (is_indexed_at dims code) facts) some
     counted [] = refl
     counted (code ∷ some) =
         omega (
@@ -115,7 +115,7 @@ module _ (policy : Policy) (columns : ℕ) (dims : List Dimension) (edit : Edit)
           counted some,
         )
 
-    pub handed-out : ids_at dims facts anew ≤ covering_pairs policy dims edit facts
+    pub handed-out : id_count_at dims facts anew ≤ covering_pairs policy dims edit facts
     handed-out =
         omega (
           arith,

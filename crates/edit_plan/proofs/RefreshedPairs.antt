@@ -27,7 +27,7 @@ use Rattle.fact_groups.proofs.Edits.{find-after}
 use Rattle.fact_groups.proofs.Refreshing.{ascends-refreshed}
 use Rattle.fact_groups.proofs.Respreading.{among-respread}
 use Rattle.edit_plan.specs.Refreshing.{AreOfFacts, others_at, own_pair}
-use Rattle.cube_state.specs.Regrouped.{HoldChanged, is_spread_anew, spread_anew}
+use Rattle.cube_state.specs.Regrouped.{HoldChanged, group_is_respread, spread_anew}
 use Rattle.edit_plan.proofs.ByKeys.{ascends-sorted}
 use Rattle.edit_plan.proofs.OtherPairs.{All-others, among-all, any-map, once-all}
 
@@ -93,7 +93,7 @@ module _ (policy : Policy) (dims : List Dimension) (edit : Edit) (facts : List F
     anew = spread_anew policy columns dims edit facts codes
 
     pub ascends-anew : AreAscending anew
-    ascends-anew = ascends_filter (λ (code : ℕ). code) (λ code. is_spread_anew (group_at policy columns dims facts code) (group_at policy columns dims later code)) 0 codes hold.ascending
+    ascends-anew = ascends_filter (λ (code : ℕ). code) (λ code. group_is_respread (group_at policy columns dims facts code) (group_at policy columns dims later code)) 0 codes hold.ascending
 
     abbrev all : List (ℕ × ℕ)
     all = others_at dims facts (edited_id edit) anew ++ option_to_list (own_pair policy dims edit facts)

@@ -16,7 +16,7 @@ use Rattle.cube_state.specs.declared.moves.Moves.{Moves}
 use Rattle.cube_state.specs.declared.regrouped.Regrouped.{Regrouped}
 use Rattle.edit_plan.specs.Bound.{covering_pairs}
 use Rattle.cube_state.specs.Moves.{AreMoves}
-use Rattle.edit_plan.specs.Refreshing.{AreOfFacts, ids_at, others_at, own_pair}
+use Rattle.edit_plan.specs.Refreshing.{AreOfFacts, id_count_at, others_at, own_pair}
 use Rattle.cube_state.specs.Regrouped.{IsRegrouped}
 use Rattle.cube_state.specs.Regrouped.{spread_anew}
 use Rattle.cube_state.specs.State.{StateValue, policy_in}
@@ -41,12 +41,12 @@ module _ {P : Type 0} (weigh : P → CellStat → ℕ) (state : StateValue P) (v
 
   module _ (regrouped : Regrouped) (is : IsRegrouped (policy_in weigh state) (width_of_all state.shape.measures) state.dims moves.edit state.facts regrouped) (trees : All IsTree state.dims) where
     -- the ids that are handed out are few
-    pub handed-seen : (codes : List ℕ) (before now : ℕ) → codes ≡ regrouped.spread_anew → now ≤ before + ids_at state.dims state.facts codes → now ≤ before + covering_pairs (policy_in weigh state) state.dims moves.edit state.facts
+    pub handed-seen : (codes : List ℕ) (before now : ℕ) → codes ≡ regrouped.spread_anew → now ≤ before + id_count_at state.dims state.facts codes → now ≤ before + covering_pairs (policy_in weigh state) state.dims moves.edit state.facts
     handed-seen codes before now codes_are few =
         omega (
           arith,
           few,
-          ap (ids_at state.dims state.facts) (codes_are ∙ is.anew),
+          ap (id_count_at state.dims state.facts) (codes_are ∙ is.anew),
           handed-out (policy_in weigh state) (width_of_all state.shape.measures) state.dims moves.edit state.facts valid.ascending trees regions later-regions is.codes is.hold,
         )
 

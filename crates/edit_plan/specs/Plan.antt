@@ -70,7 +70,7 @@ IsPlanFor weigh state plan = IsChangeFor weigh state plan.change
 
 -- Why an edit is not planned. Where it is refused for the number of rows, that number is reported, else the code. Out
 -- of memory is said only where the fact is not refused.
-abbrev pub IsFaultOf : {P : Type 0} → (P → CellStat → ℕ) → StateValue P → Edit → PlanFault → Type 0
-IsFaultOf weigh state edit (plan_fault.Code refusal) = (judge_in weigh state edit ≡ Some refusal) × (refusal ≢ code.Rows)
-IsFaultOf weigh state edit (plan_fault.Rows would) = (judge_in weigh state edit ≡ Some code.Rows) × (would ≡ row_count (rows_after weigh state edit))
-IsFaultOf weigh state edit plan_fault.Memory = fact_refusal state.shape state.dims edit state.facts ≡ None
+abbrev pub IsPlanFaultOf : {P : Type 0} → (P → CellStat → ℕ) → StateValue P → Edit → PlanFault → Type 0
+IsPlanFaultOf weigh state edit (plan_fault.Code refusal) = (judge_in weigh state edit ≡ Some refusal) × (refusal ≢ code.Rows)
+IsPlanFaultOf weigh state edit (plan_fault.Rows would) = (judge_in weigh state edit ≡ Some code.Rows) × (would ≡ row_count (rows_after weigh state edit))
+IsPlanFaultOf weigh state edit plan_fault.Memory = fact_refusal state.shape state.dims edit state.facts ≡ None

@@ -10,27 +10,27 @@ use Rattle.cube_model.specs.Difference.{is_same, refreshed}
 use Rattle.cube_model.specs.Facts.{after}
 use Rattle.cube_model.specs.Tree.{Dimension}
 use Rattle.region_algebra.specs.Space.{code_of}
-use Rattle.staged_map.specs.Staged.{Entries, entry_of}
+use Rattle.staged_map.specs.Staged.{Entries, staged_entry}
 use Rattle.fact_groups.specs.Edits.{given}
 use Rattle.fact_groups.specs.Groups.{Group}
 use Rattle.fact_groups.specs.Refreshed.{is_new_or_moved}
 use Rattle.cube_state.specs.State.{ids_with}
 
 -- each code once, ascending
-abbrev pub AreByCode : Entries Group → Type 0
-AreByCode entries = ascends_from (λ entry. entry.0) 0 entries ≡ true
+abbrev pub AscendByCode : Entries Group → Type 0
+AscendByCode entries = ascends_from (λ entry. entry.0) 0 entries ≡ true
 
 -- the group of a code, which is the one before where there is no entry
 abbrev pub group_now : Entries Group → (ℕ → Option Group) → ℕ → Option Group
-group_now entries before code = unwrap_or (entry_of entries code) (before code)
+group_now entries before code = unwrap_or (staged_entry entries code) (before code)
 
 -- both are there and the same
 abbrev pub is_same_spread : Option Allocation → Option Allocation → Bool
 is_same_spread before now = option_map_or (λ a. option_map_or (is_same a) now false) before false
 
 -- how many there are at codes
-abbrev pub ids_at : List Dimension → List Fact → List ℕ → ℕ
-ids_at dims facts codes = sum_by (λ code. length (ids_with dims facts code)) codes
+abbrev pub id_count_at : List Dimension → List Fact → List ℕ → ℕ
+id_count_at dims facts codes = sum_by (λ code. length (ids_with dims facts code)) codes
 
 -- the ids but for one, each with a code
 abbrev pub others_with : ℕ → ℕ → List ℕ → List (ℕ × ℕ)

@@ -21,16 +21,16 @@ use Rattle.edit_plan.specs.Plan.{kept_fact, kept_rows}
 use Rattle.cube_state.specs.State.{StateValue, policy_in}
 
 -- the facts of a state with new ones
-abbrev pub facts_with : {P : Type 0} → StateValue P → List Fact → List Fact
-facts_with state new = put_all new state.facts
+abbrev pub facts_with_new : {P : Type 0} → StateValue P → List Fact → List Fact
+facts_with_new state new = put_all new state.facts
 
 -- the ids that new facts refresh
 abbrev pub refreshed_by : {P : Type 0} → (P → CellStat → ℕ) → StateValue P → List Fact → List ℕ
-refreshed_by weigh state new = refreshed (policy_in weigh state) state.dims state.facts (facts_with state new)
+refreshed_by weigh state new = refreshed (policy_in weigh state) state.dims state.facts (facts_with_new state new)
 
 -- the rows of the facts then
-abbrev pub rows_with : {P : Type 0} → (P → CellStat → ℕ) → StateValue P → List Fact → List ExtendedFact
-rows_with weigh state new = extended (policy_in weigh state) state.dims (facts_with state new)
+abbrev pub rows_with_new : {P : Type 0} → (P → CellStat → ℕ) → StateValue P → List Fact → List ExtendedFact
+rows_with_new weigh state new = extended (policy_in weigh state) state.dims (facts_with_new state new)
 
 -- What new facts change of what is kept: they are put, in order of their ids, and so are the rows of the facts that they refresh.
 abbrev pub difference_with : Policy → List Dimension → List Fact → List Fact → Batch
@@ -66,7 +66,7 @@ new_kept facts some = map kept_fact (filter (λ f. not (has_id f.id facts)) some
 
 -- Why new facts are not planned: there would be too many rows, so many; or out of memory, of which nothing is said.
 abbrev pub IsAllFaultOf : {P : Type 0} → (P → CellStat → ℕ) → StateValue P → List Fact → PlanAllFault → Type 0
-IsAllFaultOf weigh state new (plan_all_fault.Rows would) = (would ≡ row_count (rows_with weigh state new)) × (MAX_ROWS < would)
+IsAllFaultOf weigh state new (plan_all_fault.Rows would) = (would ≡ row_count (rows_with_new weigh state new)) × (MAX_ROWS < would)
 IsAllFaultOf weigh state new plan_all_fault.Memory = ⊤
 
 -- what is answered where not all is kept

@@ -8,7 +8,7 @@ ghost use Rattle.fact_records.specs.Valid.{AreValid, IsEditOver};
 ghost use Rattle.edit_plan.specs.Bound.{covering_pairs, step_bound};
 ghost use Rattle.cube_state.specs.Covering.{probes_over};
 ghost use Rattle.cube_state.specs.Moves.{AreMoves};
-ghost use Rattle.edit_plan.specs.Plan.{IsFaultOf, IsPlanFor, difference, edit_in};
+ghost use Rattle.edit_plan.specs.Plan.{IsPlanFaultOf, IsPlanFor, difference, edit_in};
 ghost use Rattle.cube_state.specs.Regrouped.{IsRegrouped};
 ghost use Rattle.cube_state.specs.State.{HaveSameContent, judge_in, policy_in, refreshed_in, rows_after};
 
@@ -50,7 +50,7 @@ pub fn plan<P: WeightPolicy + Drop, L: Ledger>(
     ensures ascending { IfOk result (λ plan. ascends_from (λ id. id) 1 plan.refreshed ≡ true) }
     ensures batch { IfOk result (λ plan. plan.batch ≡ difference (policy_in P.weigh state.old) state.old.dims edit.now state.old.facts) }
     ensures accepted { OnOk result (judge_in P.weigh state.old edit.now ≡ None) }
-    ensures fault { IfErr result (IsFaultOf P.weigh state.old edit.now) }
+    ensures fault { IfErr result (IsPlanFaultOf P.weigh state.old edit.now) }
     ensures steps { steps.new ≤ steps.old + step_bound P.weigh state.old edit.now }
 {
     let moves = judged(state, edit)?;
@@ -122,7 +122,7 @@ fn judged<P: WeightPolicy + Drop>(state: &State<P>, edit: &Edit) -> Result<Moves
     ensures edit { IfOk result (λ moves. moves.edit ≡ edit.now) }
     ensures trees { All IsTree state.now.dims }
     ensures valid { AreValid state.now.shape state.now.dims state.now.facts }
-    ensures fault { IfErr result (IsFaultOf P.weigh state.now edit.now) }
+    ensures fault { IfErr result (IsPlanFaultOf P.weigh state.now edit.now) }
 {
     if let Err(code) = judge_fact(state.shape(), state.space(), edit, state.facts()) {
         return Err(PlanFault::Code(code));
@@ -140,7 +140,7 @@ fn regroup_few<P: WeightPolicy + Drop, L: Ledger>(
     ensures regrouped { IfOk result (IsRegrouped (policy_in P.weigh state.now) (width_of_all state.now.shape.measures) state.now.dims moves.now.edit state.now.facts) }
     ensures rows { IfOk result (λ regrouped. regrouped.rows ≡ row_count (rows_after P.weigh state.now moves.now.edit)) }
     ensures accepted { OnOk result (judge_in P.weigh state.now moves.now.edit ≡ None) }
-    ensures fault { IfErr result (IsFaultOf P.weigh state.now moves.now.edit) }
+    ensures fault { IfErr result (IsPlanFaultOf P.weigh state.now moves.now.edit) }
     ensures steps { steps.new ≤ steps.old + probes_over state.now.dims moves.now.reweighing }
 {
     let codes = state.codes(moves, steps)?;

@@ -11,7 +11,7 @@ ghost use Rattle.cube_state.specs.Moves.{AreMoves};
 ghost use Rattle.cube_state.specs.Regrouped.{IsRegrouped};
 ghost use Rattle.cube_state.specs.State.{policy_in};
 ghost use Rattle.edit_plan.specs.Bound.{covering_pairs};
-ghost use Rattle.edit_plan.specs.Refreshing.{AreOfFacts, ids_at, is_same_spread, others_at, others_with, own_pair};
+ghost use Rattle.edit_plan.specs.Refreshing.{AreOfFacts, id_count_at, is_same_spread, others_at, others_with, own_pair};
 
 use crate::spread::{is_same_spread, spread_now};
 use alloc_rows::Alloc;
@@ -63,7 +63,7 @@ fn others_at<P: WeightPolicy + Drop, L: Ledger>(
     steps: &mut Steps<L>,
 ) -> Result<Vec<(u64, u64)>, Memory>
     ensures pairs { IfOk result (λ pairs. pairs.items ≡ others_at state.now.dims state.now.facts id codes.now) }
-    ensures steps { steps.new ≤ steps.old + ids_at state.now.dims state.now.facts codes.now }
+    ensures steps { steps.new ≤ steps.old + id_count_at state.now.dims state.now.facts codes.now }
 {
     let mut pairs = Vec::new(alloc);
     for code in codes {

@@ -3,9 +3,9 @@ ghost use Rattle.std.specs.Prelude.{◌≡◌};
 ghost use Rattle.std.specs.Option.{option_copied, option_map};
 ghost use Rattle.fact_groups.specs.Groups.{group_at};
 ghost use Rattle.fact_records.specs.Shape.{width_of_all};
-ghost use Rattle.staged_map.specs.Staged.{entry_of};
+ghost use Rattle.staged_map.specs.Staged.{staged_entry};
 ghost use Rattle.cube_state.specs.State.{policy_in};
-ghost use Rattle.edit_plan.specs.Refreshing.{AreByCode, group_now, is_same_spread};
+ghost use Rattle.edit_plan.specs.Refreshing.{AscendByCode, group_now, is_same_spread};
 
 use alloc_rows::Alloc;
 use cell_weight::WeightPolicy;
@@ -17,7 +17,7 @@ pub fn spread_now<'a, P: WeightPolicy + Drop>(
     regrouped: &'a Regrouped,
     code: u64,
 ) -> Option<&'a Alloc>
-    requires { AreByCode regrouped.now.groups }
+    requires { AscendByCode regrouped.now.groups }
     ensures { option_copied result ≡ option_map (λ g. g.spread) (group_now regrouped.now.groups (group_at (policy_in P.weigh state.now) (width_of_all state.now.shape.measures) state.now.dims state.now.facts) code) }
 {
     match entry(regrouped, code) {
@@ -28,8 +28,8 @@ pub fn spread_now<'a, P: WeightPolicy + Drop>(
 
 /// The group of a code after the edit, if it may be another one than before: None in it where no fact is left.
 fn entry(regrouped: &Regrouped, code: u64) -> Option<&Option<Group>>
-    requires { AreByCode regrouped.now.groups }
-    ensures { option_copied result ≡ entry_of regrouped.now.groups code }
+    requires { AscendByCode regrouped.now.groups }
+    ensures { option_copied result ≡ staged_entry regrouped.now.groups code }
 {
     let groups = regrouped.groups.as_slice();
     match groups.binary_search_by_key(&code, |entry| entry.0) {

@@ -11,7 +11,7 @@ ghost use Rattle.cube_state.specs.Sets.{AreAllFor};
 ghost use Rattle.edit_plan.specs.Plan.{IsPlanFor, facts_after};
 ghost use Rattle.cube_state.specs.State.{policy_in};
 ghost use Rattle.edit_plan.specs.declared.plan_change.PlanChange.TheVariants as plan_change;
-ghost use Rattle.edit_plan.specs.Whole.{IsAllFaultOf, difference_with, facts_with, ids_otherwise, lay_so, new_kept, refreshed_by, rows_otherwise, rows_with};
+ghost use Rattle.edit_plan.specs.Whole.{IsAllFaultOf, difference_with, facts_with_new, ids_otherwise, lay_so, new_kept, refreshed_by, rows_otherwise, rows_with_new};
 
 use crate::plan_change::PlanChange;
 use crate::spread::is_same_spread;
@@ -37,12 +37,12 @@ pub fn plan_all<P: WeightPolicy + Drop>(
     facts: &FactRun,
 ) -> Result<Plan, PlanAllFault>
     requires { AreNew state.now.shape state.now.dims state.now.facts facts.now }
-    ensures facts { IfOk result (λ plan. facts_after plan.change state.now.facts ≡ facts_with state.now facts.now) }
+    ensures facts { IfOk result (λ plan. facts_after plan.change state.now.facts ≡ facts_with_new state.now facts.now) }
     ensures fits { IfOk result (IsPlanFor P.weigh state.now) }
     ensures refreshed { IfOk result (λ plan. plan.refreshed ≡ refreshed_by P.weigh state.now facts.now) }
     ensures ascending { IfOk result (λ plan. ascends_from (λ id. id) 1 plan.refreshed ≡ true) }
     ensures batch { IfOk result (λ plan. plan.batch ≡ difference_with (policy_in P.weigh state.now) state.now.dims facts.now state.now.facts) }
-    ensures accepted { OnOk result (row_count (rows_with P.weigh state.now facts.now) ≤ MAX_ROWS) }
+    ensures accepted { OnOk result (row_count (rows_with_new P.weigh state.now facts.now) ≤ MAX_ROWS) }
     ensures fault { IfErr result (IsAllFaultOf P.weigh state.now facts.now) }
 {
     // What a state says of its facts.

@@ -2,7 +2,7 @@
 use Rattle.std.proofs.Common.{◌≡◌, ℕ, suc, ◌*◌, ◌<◌, ◌≤◌, ◌==◌, ◌⊎◌, true, false, if◌then◌else◌, List, [], ◌∷◌, length, refl, sym, ap, ◌∙◌, inl, inr, arith, ℤ, pos, negsuc, neg_ℤ, ◌*ℤ◌, ◌≤ℤ◌}
 use Rattle.std.specs.Prelude.{nat_abs}
 use Rattle.exact_fraction.specs.declared.sums.Value.{Value}
-use Rattle.exact_fraction.specs.Ratio.{joint_den, quotient_of, exact_quotient, wide_quotient, is_wide_quotient, quotient_or_bounds, ratio_of, IsExactQuotient}
+use Rattle.exact_fraction.specs.Ratio.{joint_den, reduced_quotient, exact_quotient, wide_quotient, is_wide_quotient, quotient_or_bounds, ratio_of, IsExactQuotient}
 use Rattle.exact_fraction.specs.Laws.{TellsSum, TellsQuotient, EqualsQuotient}
 use Rattle.exact_fraction.proofs.Sizes.{positive, count_below, count_above, column_can_divide}
 use Rattle.exact_fraction.proofs.Shares.{count_over, count_some}
@@ -121,9 +121,9 @@ module _ (scale : ℕ) (fs cs : List Fraction) (some_scale : 1 ≤ scale) (count
     some_den = mul-pos some_count some_scale
 
     -- over every common multiple it is the quotient
-    quotient_equals : EqualsQuotient scale fs cs (quotient_of scale fs cs).num (quotient_of scale fs cs).den
+    quotient_equals : EqualsQuotient scale fs cs (reduced_quotient scale fs cs).num (reduced_quotient scale fs cs).den
     quotient_equals m is_fs is_cs =
-        let f = quotient_of scale fs cs in
+        let f = reduced_quotient scale fs cs in
         let A = sum_over J fs in
         let B = abs_over J cs in
         let g = gcd (nat_abs A) (B * scale) in
@@ -145,9 +145,9 @@ module _ (scale : ℕ) (fs cs : List Fraction) (some_scale : 1 ≤ scale) (count
         turn_den : (d g B : ℕ) → d * g ≡ B * scale → J * (B * scale) ≡ d * (g * J)
         turn_den d g B e = omega (arith, ap (λ k. k * J) e)
 
-    pub exact_tells : TellsQuotient scale fs cs (exact_quotient (quotient_of scale fs cs))
+    pub exact_tells : TellsQuotient scale fs cs (exact_quotient (reduced_quotient scale fs cs))
     exact_tells =
-        let f = quotient_of scale fs cs in
+        let f = reduced_quotient scale fs cs in
         let lowest = reduced_lowest (sum_over J fs) (abs_over J cs * scale) some_den in
         record {
           below = λ m is_fs is_cs. (equal_bounds (floor_of f) (ceiling_of f) f.num (sum_over m fs) f.den (abs_over m cs * scale) lowest.some lowest.bounds (quotient_equals m is_fs is_cs)).above_lo;
@@ -158,7 +158,7 @@ module _ (scale : ℕ) (fs cs : List Fraction) (some_scale : 1 ≤ scale) (count
 
 -- the same of terms
 module _ (list : TermList) (column scale : ℕ) (are : AreTerms list) (moderate : IsModerate list.terms) (in_columns : column < list.columns) (some : 1 ≤ length list.terms) (some_scale : 1 ≤ scale) where
-  exact_terms_tell : TellsQuotient scale (column_fractions column list.terms) (column_fractions 0 list.terms) (exact_quotient (quotient_of scale (column_fractions column list.terms) (column_fractions 0 list.terms)))
+  exact_terms_tell : TellsQuotient scale (column_fractions column list.terms) (column_fractions 0 list.terms) (exact_quotient (reduced_quotient scale (column_fractions column list.terms) (column_fractions 0 list.terms)))
   exact_terms_tell =
       let fs = column_fractions column list.terms in
       let cs = column_fractions 0 list.terms in

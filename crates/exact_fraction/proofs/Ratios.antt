@@ -8,7 +8,7 @@ use Rattle.exact_fraction.specs.Number.{lcm, within}
 use Rattle.exact_fraction.specs.Fraction.{Fraction, reduced, column_fractions, common_den, abs_over}
 use Rattle.exact_fraction.specs.Moderate.{IsModerate}
 use Rattle.exact_fraction.specs.Signed.{signed, AreSignedSums, IsSumOver, StandsFor}
-use Rattle.exact_fraction.specs.Ratio.{joint_den, quotient_of, is_wide_quotient, IsExactQuotient}
+use Rattle.exact_fraction.specs.Ratio.{joint_den, reduced_quotient, is_wide_quotient, IsExactQuotient}
 use Rattle.exact_fraction.specs.Laws.{IsCommonMultiple}
 use Rattle.exact_fraction.specs.declared.fraction.SignedFraction.{SignedFraction}
 use Rattle.exact_fraction.specs.declared.column.SignedSums.{SignedSums}
@@ -40,19 +40,19 @@ module _ (a b c d : ℕ) where
 -- as it is told of a quotient
 module _ (scale : ℕ) (fs cs : List Fraction) where
   wide_den : WIDE < joint_den fs cs → is_wide_quotient scale fs cs ≡ true
-  wide_den = first_wide (joint_den fs cs) (abs_over (joint_den fs cs) fs) (abs_over (joint_den fs cs) cs) (quotient_of scale fs cs).den
+  wide_den = first_wide (joint_den fs cs) (abs_over (joint_den fs cs) fs) (abs_over (joint_den fs cs) cs) (reduced_quotient scale fs cs).den
 
   wide_sum : WIDE < abs_over (joint_den fs cs) fs → is_wide_quotient scale fs cs ≡ true
-  wide_sum = second_wide (joint_den fs cs) (abs_over (joint_den fs cs) fs) (abs_over (joint_den fs cs) cs) (quotient_of scale fs cs).den
+  wide_sum = second_wide (joint_den fs cs) (abs_over (joint_den fs cs) fs) (abs_over (joint_den fs cs) cs) (reduced_quotient scale fs cs).den
 
   wide_count : WIDE < abs_over (joint_den fs cs) cs → is_wide_quotient scale fs cs ≡ true
-  wide_count = third_wide (joint_den fs cs) (abs_over (joint_den fs cs) fs) (abs_over (joint_den fs cs) cs) (quotient_of scale fs cs).den
+  wide_count = third_wide (joint_den fs cs) (abs_over (joint_den fs cs) fs) (abs_over (joint_den fs cs) cs) (reduced_quotient scale fs cs).den
 
-  wide_ratio : WIDE < (quotient_of scale fs cs).den → is_wide_quotient scale fs cs ≡ true
-  wide_ratio = fourth_wide (joint_den fs cs) (abs_over (joint_den fs cs) fs) (abs_over (joint_den fs cs) cs) (quotient_of scale fs cs).den
+  wide_ratio : WIDE < (reduced_quotient scale fs cs).den → is_wide_quotient scale fs cs ≡ true
+  wide_ratio = fourth_wide (joint_den fs cs) (abs_over (joint_den fs cs) fs) (abs_over (joint_den fs cs) cs) (reduced_quotient scale fs cs).den
 
-  narrow_ratio : joint_den fs cs ≤ WIDE → abs_over (joint_den fs cs) fs ≤ WIDE → abs_over (joint_den fs cs) cs ≤ WIDE → (quotient_of scale fs cs).den ≤ WIDE → is_wide_quotient scale fs cs ≡ false
-  narrow_ratio = none_wide (joint_den fs cs) (abs_over (joint_den fs cs) fs) (abs_over (joint_den fs cs) cs) (quotient_of scale fs cs).den
+  narrow_ratio : joint_den fs cs ≤ WIDE → abs_over (joint_den fs cs) fs ≤ WIDE → abs_over (joint_den fs cs) cs ≤ WIDE → (reduced_quotient scale fs cs).den ≤ WIDE → is_wide_quotient scale fs cs ≡ false
+  narrow_ratio = none_wide (joint_den fs cs) (abs_over (joint_den fs cs) fs) (abs_over (joint_den fs cs) cs) (reduced_quotient scale fs cs).den
 
 -- the common denominator of two lists
 pub joint_is : (fs cs : List Fraction) → AreFractions fs → AreFractions cs → joint_den fs cs ≡ lcm (common_den fs) (common_den cs)
@@ -140,10 +140,10 @@ module _ (list : TermList) (column scale : ℕ) (are : AreTerms list) (moderate 
             let bound = abs_over_count list.columns column in_columns common 1 list.terms (omega arith) are.terms moderate.each multiple multiple_count in
             rw den_is (omega (arith, is.size, are_sum.size, bound))
 
-        quotient_is : quotient_of scale fs cs ≡ reduced (signed p.negative p.size) (p.den * scale)
+        quotient_is : reduced_quotient scale fs cs ≡ reduced (signed p.negative p.size) (p.den * scale)
         quotient_is = rw (joint_told.0, ← den_is, are_sum.sum, ← is.num) refl
 
-        same_den : (quotient_of scale fs cs).den ≡ (reduced (signed p.negative p.size) (p.den * scale)).den
+        same_den : (reduced_quotient scale fs cs).den ≡ (reduced (signed p.negative p.size) (p.den * scale)).den
         same_den = ap (λ (f : Fraction). f.den) quotient_is
 
         -- the denominator of the quotient passes WIDE, or the quotient is told
@@ -152,7 +152,7 @@ module _ (list : TermList) (column scale : ℕ) (are : AreTerms list) (moderate 
         quotient_told None wide = let P : ℕ → Type 0 = λ n. WIDE < n in wide_ratio scale fs cs (subst P (sym same_den) wide)
         quotient_told (Some q) parts =
             let P : ℕ → Type 0 = λ n. n ≤ WIDE in
-            let den_told : (quotient_of scale fs cs).den ≤ WIDE = subst P (ap (λ (f : Fraction). f.den) parts.fraction ∙ sym same_den) parts.narrow in
+            let den_told : (reduced_quotient scale fs cs).den ≤ WIDE = subst P (ap (λ (f : Fraction). f.den) parts.fraction ∙ sym same_den) parts.narrow in
             record {
               narrow = narrow_ratio scale fs cs (rw joint_told.0 joint_told.1) (rw (joint_told.0, ← are_sum.size) are_sum.within) (rw (joint_told.0, ← are_count.size) are_count.within) den_told;
               parts = rw quotient_is parts;

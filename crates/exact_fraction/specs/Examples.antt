@@ -11,8 +11,8 @@ abbrev pub two_thirds : List Term
 two_thirds = term_with 1 2 (pos 400 ∷ []) ∷ term_with 3 2 (pos 1200 ∷ []) ∷ []
 
 -- three facts of 150, and a fact of 600
-abbrev pub four_facts : List Term
-four_facts = term_with 1 3 (pos 450 ∷ []) ∷ term_with 3 3 (pos 1800 ∷ []) ∷ []
+abbrev pub four_facts_terms : List Term
+four_facts_terms = term_with 1 3 (pos 450 ∷ []) ∷ term_with 3 3 (pos 1800 ∷ []) ∷ []
 
 -- a third of a fact of -1, and with it a fact of 0
 abbrev pub less_than_nothing : List Term

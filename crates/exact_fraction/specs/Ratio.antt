@@ -16,13 +16,13 @@ abbrev pub joint_den : List Fraction → List Fraction → ℕ
 joint_den fs cs = common_den (fs ++ cs)
 
 -- the quotient of two sums and a scale in lowest terms
-abbrev pub quotient_of : ℕ → List Fraction → List Fraction → Fraction
-quotient_of scale fs cs = reduced (sum_over (joint_den fs cs) fs) (abs_over (joint_den fs cs) cs * scale)
+abbrev pub reduced_quotient : ℕ → List Fraction → List Fraction → Fraction
+reduced_quotient scale fs cs = reduced (sum_over (joint_den fs cs) fs) (abs_over (joint_den fs cs) cs * scale)
 
 -- it cannot be given as one fraction
 abbrev pub is_wide_quotient : ℕ → List Fraction → List Fraction → Bool
 is_wide_quotient scale fs cs =
-    nat_lt WIDE (joint_den fs cs) || nat_lt WIDE (abs_over (joint_den fs cs) fs) || nat_lt WIDE (abs_over (joint_den fs cs) cs) || nat_lt WIDE (quotient_of scale fs cs).den
+    nat_lt WIDE (joint_den fs cs) || nat_lt WIDE (abs_over (joint_den fs cs) fs) || nat_lt WIDE (abs_over (joint_den fs cs) cs) || nat_lt WIDE (reduced_quotient scale fs cs).den
 
 -- a fraction, with the whole numbers next to it
 abbrev pub exact_quotient : Fraction → Quotient
@@ -47,7 +47,7 @@ abbrev pub quotient_or_bounds : ℕ → ℕ → List Term → Quotient
 quotient_or_bounds column scale terms =
     if is_wide_quotient scale (column_fractions column terms) (column_fractions 0 terms)
     then wide_quotient scale (one_of column terms) (one_of 0 terms)
-    else exact_quotient (quotient_of scale (column_fractions column terms) (column_fractions 0 terms))
+    else exact_quotient (reduced_quotient scale (column_fractions column terms) (column_fractions 0 terms))
 
 unfoldable pub ratio_of : ℕ → ℕ → List Term → Quotient
 ratio_of column scale [] = Undefined
@@ -56,7 +56,7 @@ ratio_of column scale (t ∷ terms) = quotient_or_bounds column scale (t ∷ ter
 -- p is the quotient, which can be given as one fraction
 pub record IsExactQuotient (scale : ℕ) (fs cs : List Fraction) (p : SignedFraction) : Type 0 where
   pub narrow : is_wide_quotient scale fs cs ≡ false
-  pub parts : StandsFor (quotient_of scale fs cs) p
+  pub parts : StandsFor (reduced_quotient scale fs cs) p
 
 -- the bounds of a sum can be divided by those of a count and a scale
 pub record CanDivide (scale : ℕ) (sum count : Value) : Type 0 where

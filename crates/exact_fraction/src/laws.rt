@@ -1,6 +1,6 @@
 //! Examples that are computed from the definitions. The functions do nothing: the laws are their contracts.
 ghost use Rattle.std.specs.Prelude.{◌≡◌, [], pos, negsuc, None, Some};
-ghost use Rattle.exact_fraction.specs.Examples.{below_a_unit, far_apart, far_apart_losses, far_apart_values, four_facts, large_column, large_count, large_divisor, large_sum, less_than_nothing, nothing_and_less, two_outcomes, two_thirds};
+ghost use Rattle.exact_fraction.specs.Examples.{below_a_unit, far_apart, far_apart_losses, far_apart_values, four_facts_terms, large_column, large_count, large_divisor, large_sum, less_than_nothing, nothing_and_less, two_outcomes, two_thirds};
 ghost use Rattle.exact_fraction.specs.One.{one_of};
 ghost use Rattle.exact_fraction.specs.Ratio.{ratio_of};
 ghost use Rattle.exact_fraction.specs.declared.quotients.Quotient.TheVariants.{Is, Undefined};
@@ -11,7 +11,7 @@ pub fn worked_examples()
     ensures sum { one_of 1 two_thirds ≡ record { lo = pos 800000000000; hi = pos 800000000000; exact = Some (pos 800, 1) } }
     ensures nothing { one_of 1 [] ≡ record { lo = pos 0; hi = pos 0; exact = Some (pos 0, 1) } }
     ensures negative { one_of 1 less_than_nothing ≡ record { lo = negsuc 333333333; hi = negsuc 333333332; exact = Some (negsuc 0, 3) } }
-    ensures average { ratio_of 1 1 four_facts ≡ Is (Some (pos 262500000000)) (Some (pos 262500000000)) (Some (pos 525, 2)) }
+    ensures average { ratio_of 1 1 four_facts_terms ≡ Is (Some (pos 262500000000)) (Some (pos 262500000000)) (Some (pos 525, 2)) }
     ensures negative_average { ratio_of 1 1 nothing_and_less ≡ Is (Some (negsuc 249999999)) (Some (negsuc 249999999)) (Some (negsuc 0, 4)) }
     ensures first_outcome { ratio_of 1 100 two_outcomes ≡ Is (Some (pos 700000000)) (Some (pos 700000000)) (Some (pos 7, 10)) }
     ensures second_outcome { ratio_of 2 100 two_outcomes ≡ Is (Some (pos 300000000)) (Some (pos 300000000)) (Some (pos 3, 10)) }

@@ -15,7 +15,7 @@ use Rattle.cube_model.specs.Cells.{is_among}
 use Rattle.cube_model.specs.Tree.{Dimension, IsTree}
 use Rattle.cube_model.proofs.Ascending.{ascends_cons, ascends_filter}
 use Rattle.region_algebra.specs.Space.{IsRegion, code_of}
-use Rattle.fact_groups.specs.Groups.{AreGrouped, Group, HaveSameGroupsBut, count_in, group_at, groups_at, rows_in, sum_in}
+use Rattle.fact_groups.specs.Groups.{AreGrouped, Group, HaveSameGroupsBut, count_in, group_at, group_rows, groups_at, sum_in}
 use Rattle.fact_groups.proofs.Ascending.{ascends-from_increasing, once_among, same_members}
 use Rattle.fact_groups.proofs.Groups.{count-grouped, count_in-sum, count_over, rows-grouped, sum-grouped, sum_by-filter_map, sum_in-total, sum_over, total_by-filter_map}
 use Rattle.fact_groups.proofs.Partition.{sum_by-filter, total_by-filter}
@@ -174,7 +174,7 @@ module _ (policy : Policy) (columns : ℕ) (dims : List Dimension) (facts later 
       (λ x other. ap (λ o. option_map_or value o (pos 0)) (sym (same x other))) in
       omega (arith, ints, all_before, all_now, some_before, some_now, changed)
 
-  pub rows-differ : row_count (extended policy dims later) + rows_in (groups_of facts codes) ≡ row_count (extended policy dims facts) + rows_in (groups_of later codes)
+  pub rows-differ : row_count (extended policy dims later) + group_rows (groups_of facts codes) ≡ row_count (extended policy dims facts) + group_rows (groups_of later codes)
   rows-differ =
       omega (arith, rows-grouped policy columns dims facts all_codes before, rows-grouped policy columns dims later all_codes now, sums-apart (λ g. g.count * length g.spread.rows))
 

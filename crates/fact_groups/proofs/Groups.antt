@@ -17,7 +17,7 @@ use Rattle.cube_model.specs.Tree.{Dimension, IsTree}
 use Rattle.region_algebra.specs.Space.{IsRegion, code_of}
 use Rattle.region_algebra.proofs.Tuples.{code_of-same}
 use Rattle.exact_fraction.proofs.TotalLaws.{total_by-same}
-use Rattle.fact_groups.specs.Groups.{AreGrouped, Group, column_sums, count_in, facts_with, group_at, groups_at, has_code, rows_in, spread_at, sum_in}
+use Rattle.fact_groups.specs.Groups.{AreGrouped, Group, column_sums, count_in, facts_with, group_at, group_rows, groups_at, has_code, spread_at, sum_in}
 use Rattle.fact_groups.specs.Partition.{IsPartition}
 use Rattle.fact_groups.proofs.Ascending.{ascends-from_increasing, once_among}
 use Rattle.fact_groups.proofs.Partition.{shares_over_keys, sum_by-alike, sum_by-filter, total_by-filter, values_over_keys}
@@ -201,7 +201,7 @@ module _ (policy : Policy) (columns : ℕ) (dims : List Dimension) (facts : List
     abbrev extended_fact : Fact → ExtendedFact
     extended_fact f = record { id = f.id; values = f.cols; allocation = allocation policy dims facts f }
 
-    pub rows-grouped : row_count (extended policy dims facts) ≡ rows_in (groups_at policy columns dims facts codes)
+    pub rows-grouped : row_count (extended policy dims facts) ≡ group_rows (groups_at policy columns dims facts codes)
     unfolding extended
     rows-grouped = sum_by-map (λ (e : ExtendedFact). length e.allocation.rows) extended_fact facts ∙ values-grouped (λ a. length a.rows)
 

@@ -59,8 +59,8 @@ pub record AreGrouped (dims : List Dimension) (facts : List Fact) (codes : List 
   pub held : IsPartition (has_code dims) codes facts
 
 -- the rows of groups: as many times those of a group's spread as it has facts
-abbrev pub rows_in : List Group → ℕ
-rows_in groups = sum_by (λ g. g.count * length g.spread.rows) groups
+abbrev pub group_rows : List Group → ℕ
+group_rows groups = sum_by (λ g. g.count * length g.spread.rows) groups
 
 -- the groups whose spread has a denominator
 abbrev pub groups_over : ℕ → List Group → List Group

@@ -17,7 +17,7 @@ ghost use Rattle.region_algebra.specs.Space.{IsRegion, code_of};
 ghost use Rattle.fact_groups.specs.Changes.{HasCodesOf, changed_cells, covers_any, holds_any, is_changed, is_reweighed, reweighed_cells, touched_cells};
 ghost use Rattle.fact_groups.specs.Edits.{edited_id, given, taken};
 ghost use Rattle.fact_groups.specs.Examples.{five_facts, group_of, move_third, put_sixth, put_third, revalue_second, spread_over, three_codes, valued_at, withdraw_fourth};
-ghost use Rattle.fact_groups.specs.Groups.{AreGrouped, Group, HaveSameGroupsBut, answer_in, column_sums, count_in, fact_over, facts_with, group_at, group_facts, groups_at, has_code, rows_in, spread_at, sum_in};
+ghost use Rattle.fact_groups.specs.Groups.{AreGrouped, Group, HaveSameGroupsBut, answer_in, column_sums, count_in, fact_over, facts_with, group_at, group_facts, group_rows, groups_at, has_code, spread_at, sum_in};
 ghost use Rattle.fact_groups.specs.Partition.{IsPartition, held_by};
 ghost use Rattle.fact_groups.specs.Refreshed.{imprecise_ids, is_new_or_moved, is_refreshed, respread_codes};
 
@@ -136,7 +136,7 @@ pub fn other_regions_keep_their_spread()
 /// region's code is there where a fact has the region, and is spread as the region is.
 pub fn groups_stand_for_their_facts()
     ensures rows { (policy : Policy) (columns : ℕ) (dims : List Dimension) (facts : List Fact) (codes : List ℕ) → AreGrouped dims facts codes
-        → row_count (extended policy dims facts) ≡ rows_in (groups_at policy columns dims facts codes) }
+        → row_count (extended policy dims facts) ≡ group_rows (groups_at policy columns dims facts codes) }
     ensures counts { (policy : Policy) (columns : ℕ) (dims : List Dimension) (facts : List Fact) (codes : List ℕ) → AreGrouped dims facts codes → (cells : List ℕ) (den : ℕ)
         → count_at cells (extended policy dims facts) den ≡ count_in cells (groups_at policy columns dims facts codes) den }
     ensures sums { (policy : Policy) (columns : ℕ) (dims : List Dimension) (facts : List Fact) (codes : List ℕ) → AreGrouped dims facts codes → (cells : List ℕ) (column den : ℕ) → column < columns
@@ -185,7 +185,7 @@ pub fn rows_differ_by_the_groups_that_differ()
     ensures rows { (policy : Policy) (columns : ℕ) (dims : List Dimension) (facts later : List Fact) (codes : List ℕ) → All IsTree dims
         → All (λ f. IsRegion dims f.region) facts → All (λ f. IsRegion dims f.region) later → IsStrictlyIncreasing codes
         → HaveSameGroupsBut codes policy columns dims facts later
-        → row_count (extended policy dims later) + rows_in (groups_at policy columns dims facts codes) ≡ row_count (extended policy dims facts) + rows_in (groups_at policy columns dims later codes) }
+        → row_count (extended policy dims later) + group_rows (groups_at policy columns dims facts codes) ≡ row_count (extended policy dims facts) + group_rows (groups_at policy columns dims later codes) }
     ensures sums { (f g : ℕ → ℕ) (a b : ℕ) (some all : List ℕ) → ascends_from (λ x. x) a some ≡ true → ascends_from (λ x. x) b all ≡ true
         → ((x : ℕ) → is_among some x ≡ true → is_among all x ≡ true) → ((x : ℕ) → is_among some x ≡ false → f x ≡ g x)
         → sum_by g all + sum_by f some ≡ sum_by f all + sum_by g some }
@@ -276,7 +276,7 @@ pub fn worked_groups()
     ensures groups { groups_at by_count 1 small_space five_facts three_codes
         ≡ group_of (spread_over 3 ((0, 2) ∷ (2, 1) ∷ [])) 2 610 ∷ group_of (spread_over 1 ((0, 1) ∷ [])) 2 400 ∷ group_of (spread_over 1 ((2, 1) ∷ [])) 1 50 ∷ [] }
     ensures no_group { group_at by_count 1 small_space five_facts 5 ≡ None }
-    ensures rows { rows_in (groups_at by_count 1 small_space five_facts three_codes) ≡ 7 }
+    ensures rows { group_rows (groups_at by_count 1 small_space five_facts three_codes) ≡ 7 }
     ensures all_rows { row_count (extended by_count small_space five_facts) ≡ 7 }
     ensures counted { count_in (0 ∷ []) (groups_at by_count 1 small_space five_facts three_codes) 3 ≡ 4 }
     ensures summed { sum_in (0 ∷ []) (groups_at by_count 1 small_space five_facts three_codes) 0 3 ≡ pos 1220 }

@@ -7,7 +7,7 @@ use Rattle.std.proofs.lemmas.Bool.{cases_Bool, cases_eq, false≢true}
 use Rattle.std.proofs.lemmas.Bool.Decides.{nat_tests}
 use Rattle.std.proofs.lemmas.List.Elements.{All-cons}
 use Rattle.fact_keeper.specs.Batch.{put, updated, without}
-use Rattle.fact_keeper.specs.Order.{IsAscending}
+use Rattle.fact_keeper.specs.Order.{AscendsBy}
 use Rattle.fact_keeper.proofs.Puts.{first_least, rest_ascends, put-ascends, without-ascends}
 
 -- an item put at a place, where it is the only one that passes if it does
@@ -65,7 +65,7 @@ module _ {X : Type 0} (id_of : X → ℕ) where
   entry_of-above n (x ∷ xs) above = grind (arith, nat_tests, above 0 x (omega arith), entry_of-above n xs (λ i d lt. above (suc i) d (omega arith)))
 
   -- new entries that ascend, put in turn, are found before the old ones
-  entry_of-fold : (n : ℕ) (entries new : List X) → IsAscending id_of new → entry_of n (fold (put id_of) entries new) ≡ option_or (entry_of n new) (entry_of n entries)
+  entry_of-fold : (n : ℕ) (entries new : List X) → AscendsBy id_of new → entry_of n (fold (put id_of) entries new) ≡ option_or (entry_of n new) (entry_of n entries)
   entry_of-fold n entries [] up = refl
   entry_of-fold n entries (x ∷ new) up =
       entry_of-fold n (put id_of entries x) new (rest_ascends id_of x new up) ∙ ap (option_or (entry_of n new)) (entry_of-put n entries x) ∙ once
@@ -77,23 +77,23 @@ module _ {X : Type 0} (id_of : X → ℕ) where
       ]
 
   -- the entry of an id after a batch whose new entries ascend
-  pub entry_of-updated : (n : ℕ) (gone : List ℕ) (new entries : List X) → IsAscending id_of new
+  pub entry_of-updated : (n : ℕ) (gone : List ℕ) (new entries : List X) → AscendsBy id_of new
       → entry_of n (updated id_of gone new entries) ≡ option_or (entry_of n new) (cond (list_any (λ g. g == n) gone) None (entry_of n entries))
   entry_of-updated n gone new entries up = entry_of-fold n (without id_of gone entries) new up ∙ ap (option_or (entry_of n new)) (entry_of-without n gone entries)
 
   -- entries that ascend do so after a batch
-  fold-ascends : (entries new : List X) → IsAscending id_of entries → IsAscending id_of (fold (put id_of) entries new)
+  fold-ascends : (entries new : List X) → AscendsBy id_of entries → AscendsBy id_of (fold (put id_of) entries new)
   fold-ascends entries [] up = up
   fold-ascends entries (x ∷ new) up = fold-ascends (put id_of entries x) new (put-ascends id_of x entries up)
 
-  pub updated-ascends : (gone : List ℕ) (new entries : List X) → IsAscending id_of entries → IsAscending id_of (updated id_of gone new entries)
+  pub updated-ascends : (gone : List ℕ) (new entries : List X) → AscendsBy id_of entries → AscendsBy id_of (updated id_of gone new entries)
   updated-ascends gone new entries up = fold-ascends (without id_of gone entries) new (without-ascends id_of gone entries up)
 
   -- the first entry is that of its id
   entry_of-first : (x : X) (xs : List X) → entry_of (id_of x) (x ∷ xs) ≡ Some x
   entry_of-first x xs = grind (arith, nat_tests)
 
-  module _ (x y : X) (xs ys : List X) (up : IsAscending id_of (x ∷ xs)) (up' : IsAscending id_of (y ∷ ys)) (same : (n : ℕ) → entry_of n (x ∷ xs) ≡ entry_of n (y ∷ ys)) where
+  module _ (x y : X) (xs ys : List X) (up : AscendsBy id_of (x ∷ xs)) (up' : AscendsBy id_of (y ∷ ys)) (same : (n : ℕ) → entry_of n (x ∷ xs) ≡ entry_of n (y ∷ ys)) where
     -- the other's first has no smaller id
     no_smaller : id_of x < id_of y → ⊥
     no_smaller less =
@@ -115,7 +115,7 @@ module _ {X : Type 0} (id_of : X → ℕ) where
     ]
 
   -- two lists that ascend are the same where each id has the same entry in both
-  pub same_from_entries : (xs ys : List X) → IsAscending id_of xs → IsAscending id_of ys → ((n : ℕ) → entry_of n xs ≡ entry_of n ys) → xs ≡ ys
+  pub same_from_entries : (xs ys : List X) → AscendsBy id_of xs → AscendsBy id_of ys → ((n : ℕ) → entry_of n xs ≡ entry_of n ys) → xs ≡ ys
   same_from_entries [] [] up up' same = refl
   same_from_entries [] (y ∷ ys) up up' same =
       let clash : None ≡ Some y = same (id_of y) ∙ entry_of-first y ys in

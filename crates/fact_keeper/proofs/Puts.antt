@@ -9,14 +9,14 @@ use Rattle.std.proofs.lemmas.List.Elements.{All-append, All-cons, All-filter}
 use Rattle.std.proofs.lemmas.List.Kept.{AllPairs-cons, AllPairs-filter}
 use Rattle.cube_base.specs.Search.{IsKeyAt, IsKeyGap}
 use Rattle.fact_keeper.specs.Batch.{put, without}
-use Rattle.fact_keeper.specs.Order.{IsAscending}
+use Rattle.fact_keeper.specs.Order.{AscendsBy}
 
 module _ {X : Type 0} (id_of : X → ℕ) where
   -- the first has a smaller id than the others, which ascend
-  pub first_least : (x : X) (xs : List X) → IsAscending id_of (x ∷ xs) → All (λ y. id_of x < id_of y) xs
+  pub first_least : (x : X) (xs : List X) → AscendsBy id_of (x ∷ xs) → All (λ y. id_of x < id_of y) xs
   first_least x xs up i d lt = up 0 (suc i) d (omega arith) (omega arith)
 
-  pub rest_ascends : (x : X) (xs : List X) → IsAscending id_of (x ∷ xs) → IsAscending id_of xs
+  pub rest_ascends : (x : X) (xs : List X) → AscendsBy id_of (x ∷ xs) → AscendsBy id_of xs
   rest_ascends x xs up i j d lt in_range = up (suc i) (suc j) d (omega arith) (omega arith)
 
   module _ (new : X) where
@@ -64,7 +64,7 @@ module _ {X : Type 0} (id_of : X → ℕ) where
     around-before xs above =
         ap (λ front. front ++ new ∷ filter (λ e. nat_lt (id_of new) (id_of e)) xs) (none_smaller xs above) ∙ ap (λ back. new ∷ back) (all_greater xs above)
 
-    all_above : (x : X) (xs : List X) → IsAscending id_of (x ∷ xs) → id_of new < id_of x → All (λ e. id_of new < id_of e) (x ∷ xs)
+    all_above : (x : X) (xs : List X) → AscendsBy id_of (x ∷ xs) → id_of new < id_of x → All (λ e. id_of new < id_of e) (x ∷ xs)
     all_above x xs up greater = All-cons (λ e. id_of new < id_of e) x xs greater (λ i d lt. omega (arith, first_least x xs up i d lt))
 
     -- an entry has a smaller id, the same or a greater one
@@ -76,7 +76,7 @@ module _ {X : Type 0} (id_of : X → ℕ) where
         ]
 
     -- a new entry put into entries that ascend stands between the smaller and the greater ones
-    pub put-ascending : (entries : List X) → IsAscending id_of entries → put id_of entries new ≡ around entries
+    pub put-ascending : (entries : List X) → AscendsBy id_of entries → put id_of entries new ≡ around entries
     put-ascending [] up = refl
     put-ascending (x ∷ xs) up =
         let later = put-ascending xs (rest_ascends x xs up) in
@@ -90,24 +90,24 @@ module _ {X : Type 0} (id_of : X → ℕ) where
     All-around P xs all it = All-append P _ _ (All-filter _ P xs all) (All-cons P new _ it (All-filter _ P xs all))
 
     -- they ascend afterwards
-    pub around-ascends : (entries : List X) → IsAscending id_of entries → IsAscending id_of (around entries)
+    pub around-ascends : (entries : List X) → AscendsBy id_of entries → AscendsBy id_of (around entries)
     around-ascends [] up = λ i j d lt in_range. absurd (omega arith)
     around-ascends (x ∷ xs) up =
         let later = around-ascends xs (rest_ascends x xs up) in
-        smaller_same_greater x (IsAscending id_of (around (x ∷ xs)))
-        (λ smaller. subst (IsAscending id_of) (sym (around-past x xs smaller))
+        smaller_same_greater x (AscendsBy id_of (around (x ∷ xs)))
+        (λ smaller. subst (AscendsBy id_of) (sym (around-past x xs smaller))
         (AllPairs-cons (λ a b. id_of a < id_of b) x (around xs) (All-around (λ e. id_of x < id_of e) xs (first_least x xs up) smaller) later))
-        (λ same. subst (IsAscending id_of) (sym (around-over x xs same)) later)
+        (λ same. subst (AscendsBy id_of) (sym (around-over x xs same)) later)
         (λ greater.
         let above = all_above x xs up greater in
-        subst (IsAscending id_of) (sym (around-before (x ∷ xs) above)) (AllPairs-cons (λ a b. id_of a < id_of b) new (x ∷ xs) above up))
+        subst (AscendsBy id_of) (sym (around-before (x ∷ xs) above)) (AllPairs-cons (λ a b. id_of a < id_of b) new (x ∷ xs) above up))
 
     -- a put into entries that ascend leaves them so
-    pub put-ascends : (entries : List X) → IsAscending id_of entries → IsAscending id_of (put id_of entries new)
-    put-ascends entries up = subst (IsAscending id_of) (sym (put-ascending entries up)) (around-ascends entries up)
+    pub put-ascends : (entries : List X) → AscendsBy id_of entries → AscendsBy id_of (put id_of entries new)
+    put-ascends entries up = subst (AscendsBy id_of) (sym (put-ascending entries up)) (around-ascends entries up)
 
     -- the entry of the id is at a place
-    around-found : (d : X) (entries : List X) → IsAscending id_of entries → (place : ℕ) → IsKeyAt id_of d entries (id_of new) place → around entries ≡ set entries place new
+    around-found : (d : X) (entries : List X) → AscendsBy id_of entries → (place : ℕ) → IsKeyAt id_of d entries (id_of new) place → around entries ≡ set entries place new
     around-found d [] up place found = absurd (omega (arith, found.in_range))
     around-found d (x ∷ xs) up zero found =
         around-over x xs found.has_key ∙ around-before xs (λ i e lt. omega (arith, first_least x xs up i e lt, found.has_key))
@@ -128,11 +128,11 @@ module _ {X : Type 0} (id_of : X → ℕ) where
         around-past x xs (gap.smaller_before 0 (omega arith)) ∙ ap (λ l. x ∷ l) (around-gap d xs place later)
 
     -- the new one over the entry of its id
-    pub put-found : (d : X) (entries : List X) → IsAscending id_of entries → (place : ℕ) → IsKeyAt id_of d entries (id_of new) place → put id_of entries new ≡ set entries place new
+    pub put-found : (d : X) (entries : List X) → AscendsBy id_of entries → (place : ℕ) → IsKeyAt id_of d entries (id_of new) place → put id_of entries new ≡ set entries place new
     put-found d entries up place found = put-ascending entries up ∙ around-found d entries up place found
 
     -- the new one at the gap for it
-    pub put-gap : (d : X) (entries : List X) → IsAscending id_of entries → (place : ℕ) → IsKeyGap id_of d entries (id_of new) place → put id_of entries new ≡ insert entries place new
+    pub put-gap : (d : X) (entries : List X) → AscendsBy id_of entries → (place : ℕ) → IsKeyGap id_of d entries (id_of new) place → put id_of entries new ≡ insert entries place new
     put-gap d entries up place gap = put-ascending entries up ∙ around-gap d entries place gap
 
   module _ (xs : List X) (adjacent : AllAdjacentBelow (λ x y. true ≡ nat_lt (id_of x) (id_of y)) xs (length xs)) where
@@ -149,7 +149,7 @@ module _ {X : Type 0} (id_of : X → ℕ) where
         omega (arith, before, last)
 
     -- entries of which each has a smaller id than the next ascend
-    pub ascending_from_adjacent : IsAscending id_of xs
+    pub ascending_from_adjacent : AscendsBy id_of xs
     ascending_from_adjacent i j d lt in_range = later_greater (j - suc i) i j d (omega arith) in_range
 
 -- no id is gone
@@ -158,5 +158,5 @@ without-none id_of [] = refl
 without-none id_of (x ∷ xs) = ap (λ l. x ∷ l) (without-none id_of xs)
 
 -- entries that ascend do so without some
-pub without-ascends : {X : Type 0} (id_of : X → ℕ) (gone : List ℕ) (entries : List X) → IsAscending id_of entries → IsAscending id_of (without id_of gone entries)
+pub without-ascends : {X : Type 0} (id_of : X → ℕ) (gone : List ℕ) (entries : List X) → AscendsBy id_of entries → AscendsBy id_of (without id_of gone entries)
 without-ascends id_of gone entries up = AllPairs-filter (λ a b. id_of a < id_of b) _ entries up

@@ -4,10 +4,10 @@ use Rattle.fact_keeper.specs.declared.content.Stored.{Stored}
 use Rattle.fact_keeper.specs.Batch.{fact_id, rows_id}
 
 -- each entry has a smaller id than every later one
-abbrev pub IsAscending : {X : Type 0} → (X → ℕ) → List X → Type 0
-IsAscending id_of entries = AllPairs (λ a b. id_of a < id_of b) entries
+abbrev pub AscendsBy : {X : Type 0} → (X → ℕ) → List X → Type 0
+AscendsBy id_of entries = AllPairs (λ a b. id_of a < id_of b) entries
 
 -- the facts ascend, and so do the rows
 pub record IsInOrder (content : Stored) : Type 0 where
-  pub facts : IsAscending fact_id content.facts
-  pub rows : IsAscending rows_id content.rows
+  pub facts : AscendsBy fact_id content.facts
+  pub rows : AscendsBy rows_id content.rows

@@ -1,7 +1,7 @@
 //! Entries in the order of their ids: whether they are, and where an entry stands among them.
 ghost use Rattle.std.specs.Prelude.{◌≡◌, IfErr, IfOk, IsTrue, nat_lt};
 ghost use Rattle.cube_base.specs.Search.{IsKeyAt, IsKeyGap};
-ghost use Rattle.fact_keeper.specs.Order.{IsAscending, IsInOrder};
+ghost use Rattle.fact_keeper.specs.Order.{AscendsBy, IsInOrder};
 
 use crate::Stored;
 use crate::entry::Entry;
@@ -15,7 +15,7 @@ pub(crate) fn is_in_order(content: &Stored) -> bool
 
 /// Whether each entry has a smaller id than the next.
 fn ascend<T: Entry>(entries: &[T]) -> bool
-    ensures { IsTrue result → IsAscending T.id_of entries.now }
+    ensures { IsTrue result → AscendsBy T.id_of entries.now }
 {
     entries.is_sorted_by(|a, b| stands_before(a, b))
 }
@@ -29,7 +29,7 @@ fn stands_before<T: Entry>(a: &T, b: &T) -> bool
 
 /// Where the id of an entry stands among entries that ascend, or where it would.
 pub(crate) fn search<T: Entry>(entries: &[T], entry: &T) -> Result<usize, usize>
-    requires { IsAscending T.id_of entries.now }
+    requires { AscendsBy T.id_of entries.now }
     ensures found { IfOk result (IsKeyAt T.id_of entry.now entries.now (T.id_of entry.now)) }
     ensures absent { IfErr result (IsKeyGap T.id_of entry.now entries.now (T.id_of entry.now)) }
 {

@@ -2,7 +2,7 @@
 ghost use Rattle.std.specs.Prelude.{◌≡◌, ◌==◌, ◌+◌, ◌<◌, ◌≤◌, IfOk, IsTrue, OnErr, OnOk, filter, insert, length, nat_lt, not, position, vec_capacity, vec_len};
 ghost use Rattle.std.specs.List.{list_any, position_or_len};
 ghost use Rattle.fact_keeper.specs.Batch.{apply_batch, put, updated, without};
-ghost use Rattle.fact_keeper.specs.Order.{IsAscending};
+ghost use Rattle.fact_keeper.specs.Order.{AscendsBy};
 
 use crate::entry::Entry;
 use crate::order::search;
@@ -88,9 +88,9 @@ fn take_with_room<T: Drop>(
 /// afterwards.
 fn update<T: Entry>(mut entries: Vec<T>, gone: &[u64], new: Vec<T>, ascend: bool) -> PlainList<T>
     requires room { vec_len entries + length new.items ≤ vec_capacity entries }
-    requires order { IsTrue ascend → IsAscending T.id_of entries.items }
+    requires order { IsTrue ascend → AscendsBy T.id_of entries.items }
     ensures entries { result ≡ updated T.id_of gone.now new.items entries.items }
-    ensures order { IsTrue ascend → IsAscending T.id_of result }
+    ensures order { IsTrue ascend → AscendsBy T.id_of result }
 {
     drop_gone(&mut entries, gone);
     'new: for entry in new {
@@ -114,7 +114,7 @@ fn drop_gone<T: Entry>(entries: &mut Vec<T>, gone: &[u64])
 /// Puts an entry in the place of those of its id, where there is room for one more.
 fn put<T: Entry>(entries: &mut Vec<T>, entry: T, ascend: bool)
     requires room { vec_len entries.old < vec_capacity entries.old }
-    requires order { IsTrue ascend → IsAscending T.id_of entries.old.items }
+    requires order { IsTrue ascend → AscendsBy T.id_of entries.old.items }
     ensures items { entries.new.items ≡ put T.id_of entries.old.items entry }
     ensures len { vec_len entries.new ≤ vec_len entries.old + 1 }
     ensures capacity { vec_capacity entries.old ≤ vec_capacity entries.new }
@@ -129,7 +129,7 @@ fn put<T: Entry>(entries: &mut Vec<T>, entry: T, ascend: bool)
 /// The same among entries that ascend.
 fn put_by_search<T: Entry>(entries: &mut Vec<T>, entry: T)
     requires room { vec_len entries.old < vec_capacity entries.old }
-    requires order { IsAscending T.id_of entries.old.items }
+    requires order { AscendsBy T.id_of entries.old.items }
     ensures items { entries.new.items ≡ put T.id_of entries.old.items entry }
     ensures len { vec_len entries.new ≤ vec_len entries.old + 1 }
     ensures capacity { vec_capacity entries.old ≤ vec_capacity entries.new }

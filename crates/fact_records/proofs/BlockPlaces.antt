@@ -9,14 +9,14 @@ use Rattle.std.proofs.lemmas.Cmp.{ranked}
 use Rattle.std.proofs.lemmas.List.{get_or_read}
 use Rattle.cube_base.proofs.Search.{comparisons_rise}
 use Rattle.cube_model.specs.declared.edit.Fact.{Fact}
-use Rattle.fact_records.specs.BlockList.{AllFilled, IsAt, all_facts, block_at, place_in_all}
+use Rattle.fact_records.specs.BlockList.{AllFilled, IsAtPlace, all_facts, block_at, place_in_all}
 use Rattle.fact_records.specs.Cut.{no_fact, id_at, IsCut, IsIdAt, IsGapAt}
 use Rattle.fact_records.specs.FactList.{IsAscending}
 use Rattle.fact_records.proofs.Ascending.{id_at-rises}
 use Rattle.fact_records.proofs.Flat.{get_or-flat, length-flat, slice_get-flat, place-more, place-rises, place-end}
 
 -- what is read at a place of a block is what all facts have at its place
-pub read_at : (used : List (List Fact)) (i k : ℕ) (block facts : List Fact) (fact : Fact) → IsAt used i k → block ≡ get_or used i block → facts ≡ block → fact ≡ get_or facts k fact → slice_get (all_facts used) (place_in_all used i k) ≡ Some fact
+pub read_at : (used : List (List Fact)) (i k : ℕ) (block facts : List Fact) (fact : Fact) → IsAtPlace used i k → block ≡ get_or used i block → facts ≡ block → fact ≡ get_or facts k fact → slice_get (all_facts used) (place_in_all used i k) ≡ Some fact
 read_at used i k block facts fact at is_block is_facts is_fact =
     let same : facts ≡ block_at used i = is_facts ∙ get_or_read used i block at.block is_block [] in
     slice_get-flat used i k fact at.block at.at ∙ ap Some (sym (is_fact ∙ ap (λ l. get_or l k fact) same))

@@ -8,7 +8,7 @@ use Rattle.std.proofs.lemmas.Option.{slice_get-get_or, slice_get_past, slice_get
 use Rattle.cube_model.specs.declared.edit.Fact.{Fact}
 use Rattle.fact_records.specs.BlockList.{AllFilled, all_facts, block_at, place_in_all}
 use Rattle.fact_records.specs.Cut.{no_fact}
-use Rattle.fact_records.specs.Joining.{joined}
+use Rattle.fact_records.specs.Joining.{joined_blocks}
 use Rattle.fact_records.specs.Starts.{IsRising, IsStartBefore, mapped_from, starts_from, starts_of}
 use Rattle.fact_records.proofs.Flat.{flat-set, length-flat, place-end, place-more, place-rises, slice_get-flat}
 
@@ -228,7 +228,7 @@ module _ (used : List (List Fact)) where
   pub starts-retired : (i : ℕ) → i < length used → block_at used i ≡ [] → starts_of (remove used i) ≡ remove (starts_of used) i
   starts-retired i within empty = starts_from-remove 0 used i within empty
 
-  pub starts-joined : (i : ℕ) → i + 1 < length used → starts_of (joined used i) ≡ remove (starts_of used) (i + 1)
+  pub starts-joined : (i : ℕ) → i + 1 < length used → starts_of (joined_blocks used i) ≡ remove (starts_of used) (i + 1)
   starts-joined i within =
       ap (λ n. starts_of (remove (set used i (block_at used i ++ block_at used n)) n)) (add-one i) ∙ starts_from-join 0 used i (omega arith) ∙ ap (remove (starts_of used)) (sym (add-one i))
 

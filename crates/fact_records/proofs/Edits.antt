@@ -9,8 +9,8 @@ use Rattle.std.proofs.lemmas.Option.{slice_get-get_or}
 use Rattle.cube_model.specs.declared.edit.Fact.{Fact}
 use Rattle.std.proofs.lemmas.Bool.Decides.{nat_tests}
 use Rattle.fact_records.specs.declared.blocks.TheConstants.{HALF}
-use Rattle.fact_records.specs.BlockList.{AllFilled, BlockList, IsAt, IsFilled, all_facts, block_at, load, place_in_all, spare_of}
-use Rattle.fact_records.specs.Joining.{IsJoined, are_sparse, joined}
+use Rattle.fact_records.specs.BlockList.{AllFilled, BlockList, IsAtPlace, IsFilled, all_facts, block_at, load, place_in_all, spare_of}
+use Rattle.fact_records.specs.Joining.{IsJoined, are_sparse, joined_blocks}
 use Rattle.fact_records.specs.Room.{MakesRoom}
 use Rattle.fact_records.proofs.Flat.{flat-insert, flat-remove, flat-replace, flat-split, slice_get-flat}
 use Rattle.fact_records.proofs.Load.{load-behind, load_joined, load_set_more, load_set_less, load_remove}
@@ -24,7 +24,7 @@ pub all_facts-remove : (used : List (List Fact)) (i : ℕ) → i < length used �
 all_facts-remove used i lt empty =
     flat_map-append (λ b. b) (take i used) (drop (suc i) used) ∙ sym (flat-split used i lt ∙ ap (λ b. all_facts (take i used) ++ (b ++ all_facts (drop (suc i) used))) empty)
 
-module _ (old : BlockList) (i k : ℕ) (at : IsAt old.used i k) (all_filled : AllFilled old.used) where
+module _ (old : BlockList) (i k : ℕ) (at : IsAtPlace old.used i k) (all_filled : AllFilled old.used) where
   -- the fact in the block is that at the place among all
   pub had_in_all : (fact : Fact) → slice_get (block_at old.used i) k ≡ Some fact → slice_get (all_facts old.used) (place_in_all old.used i k) ≡ Some fact
   had_in_all fact had = slice_get-flat old.used i k fact at.block at.at ∙ sym (slice_get-get_or (block_at old.used i) k fact at.at) ∙ had
@@ -121,21 +121,21 @@ sparse-few used i sparse =
     let few : length (block_at used i) + length (block_at used (i + 1)) ≤ HALF = grind (arith, nat_tests, sparse) in
     omega (arith, few, ap length next)
 
-joined-parts : (used : List (List Fact)) (i : ℕ) → suc i < length used → joined used i ≡ take i used ++ (block_at used i ++ block_at used (suc i)) ∷ drop (suc (suc i)) used
-joined-parts used i within = ap (λ n. remove (set used i (block_at used i ++ block_at used n)) n) (add-one i) ∙ remove_behind_set used i (block_at used i ++ block_at used (suc i)) within
+joined_blocks-parts : (used : List (List Fact)) (i : ℕ) → suc i < length used → joined_blocks used i ≡ take i used ++ (block_at used i ++ block_at used (suc i)) ∷ drop (suc (suc i)) used
+joined_blocks-parts used i within = ap (λ n. remove (set used i (block_at used i ++ block_at used n)) n) (add-one i) ∙ remove_behind_set used i (block_at used i ++ block_at used (suc i)) within
 
 -- the facts stay
-pub all_facts-joined : (used : List (List Fact)) (i : ℕ) → i + 1 < length used → all_facts (joined used i) ≡ all_facts used
+pub all_facts-joined : (used : List (List Fact)) (i : ℕ) → i + 1 < length used → all_facts (joined_blocks used i) ≡ all_facts used
 all_facts-joined used i within =
     let front = block_at used i in
     let back = block_at used (suc i) in
     let rest = drop (suc (suc i)) used in
-    ap all_facts (joined-parts used i (omega arith)) ∙ flat_map-append (λ b. b) (take i used) ((front ++ back) ∷ rest)
+    ap all_facts (joined_blocks-parts used i (omega arith)) ∙ flat_map-append (λ b. b) (take i used) ((front ++ back) ∷ rest)
     ∙ ap (λ l. all_facts (take i used) ++ l) (append_assoc front back (all_facts rest))
     ∙ sym (ap all_facts (pair-at used i (omega arith)) ∙ flat_map-append (λ b. b) (take i used) (front ∷ back ∷ rest))
 
 -- the two were joined by taking the second out and writing both over the first
-pub joined_by : (used mid : List (List Fact)) (i : ℕ) (next here both : List Fact) → i + 1 < length used → mid ≡ remove used (i + 1) → next ≡ get_or used (i + 1) next → here ≡ get_or mid i here → both ≡ here ++ next → set mid i both ≡ joined used i
+pub joined_by : (used mid : List (List Fact)) (i : ℕ) (next here both : List Fact) → i + 1 < length used → mid ≡ remove used (i + 1) → next ≡ get_or used (i + 1) next → here ≡ get_or mid i here → both ≡ here ++ next → set mid i both ≡ joined_blocks used i
 joined_by used mid i next here both within is_mid is_next is_here is_both =
     let second : next ≡ block_at used (i + 1) = get_or_read used (i + 1) next within is_next [] in
     let few : i < length mid = omega (arith, ap length is_mid, length-remove used (i + 1) within) in
@@ -155,7 +155,7 @@ joined_by used mid i next here both within is_mid is_next is_here is_both =
     set-remove_later (first ∷ used) zero block = refl
     set-remove_later (first ∷ used) (suc i) block = ap (λ l. first ∷ l) (set-remove_later used i block)
 
-pub joins : (old new : BlockList) (i : ℕ) → true ≡ are_sparse old.used i → AllFilled old.used → new.used ≡ joined old.used i → new.stock ≡ old.stock + 1 → IsJoined old new
+pub joins : (old new : BlockList) (i : ℕ) → true ≡ are_sparse old.used i → AllFilled old.used → new.used ≡ joined_blocks old.used i → new.stock ≡ old.stock + 1 → IsJoined old new
 joins old new i is_sparse all_filled used stock =
     let sparse = sym is_sparse in
     let more : i + 1 < length old.used = sparse-within old.used i sparse in
@@ -165,7 +165,7 @@ joins old new i is_sparse all_filled used stock =
     let back = block_at old.used (suc i) in
     let rest = drop (suc (suc i)) old.used in
     let both = length-append (block_at old.used i) (block_at old.used (suc i)) in
-    let blocks : new.used ≡ take i old.used ++ (block_at old.used i ++ block_at old.used (suc i)) ∷ drop (suc (suc i)) old.used = used ∙ joined-parts old.used i within in
+    let blocks : new.used ≡ take i old.used ++ (block_at old.used i ++ block_at old.used (suc i)) ∷ drop (suc (suc i)) old.used = used ∙ joined_blocks-parts old.used i within in
     let whole : IsFilled (block_at old.used i ++ block_at old.used (suc i)) = record { some = omega (arith, both, (all_filled i [] (omega arith)).some); most = omega (arith, both, few) } in
     record {
       facts = ap all_facts used ∙ all_facts-joined old.used i more;
@@ -178,7 +178,7 @@ pub joins_none : (old : BlockList) → AllFilled old.used → IsJoined old old
 joins_none old all_filled = record { facts = refl; filled = all_filled; spare = omega arith }
 
 -- the fact was taken out, and then its block was joined with another
-pub removed_joined : (old mid new : BlockList) (i k : ℕ) (at : IsAt old.used i k) (all_filled : AllFilled old.used) → Removed old i k at all_filled mid → IsJoined mid new → Removed old i k at all_filled new
+pub removed_joined : (old mid new : BlockList) (i k : ℕ) (at : IsAtPlace old.used i k) (all_filled : AllFilled old.used) → Removed old i k at all_filled mid → IsJoined mid new → Removed old i k at all_filled new
 removed_joined old mid new i k at all_filled out whole = record {
   facts = whole.facts ∙ out.facts;
   filled = whole.filled;

@@ -9,7 +9,7 @@ use Rattle.fact_records.specs.declared.shape.Kind.TheVariants.{Number, Parts}
 use Rattle.fact_records.specs.declared.shape.Measure.{Measure}
 use Rattle.fact_records.specs.Fields.{cols_given, is_number_measure, is_parts_measure, some_wrong, values_given}
 use Rattle.fact_records.specs.Shape.{AreInOrder, ShapeValue, width_of}
-use Rattle.fact_records.specs.Values.{code_of, values_for}
+use Rattle.fact_records.specs.Values.{field_code, values_for}
 use Rattle.region_algebra.proofs.Turns.{drop-at}
 use Rattle.fact_records.proofs.GivenValues.{values_for-given}
 
@@ -90,23 +90,23 @@ ReadsValues-all shape fields i left cols before end =
 
 -- a field gives no values: it is wrong by the kind of its measure
 by_kind : (kind : Kind) (found : Option (List ℤ)) (later parts : Bool) (cols : List ℤ) → found ≡ None
-    → (if is_number_measure kind && is_none found || later then Err code.Value else (if is_parts_measure kind && is_none found || parts then Err code.Parts else Ok cols)) ≡ Err (if later then code.Value else code_of kind)
+    → (if is_number_measure kind && is_none found || later then Err code.Value else (if is_parts_measure kind && is_none found || parts then Err code.Parts else Ok cols)) ≡ Err (if later then code.Value else field_code kind)
 by_kind Number found true parts cols none = rw none refl
 by_kind Number found false parts cols none = rw none refl
 by_kind (Parts scale outcomes) found true parts cols none = refl
 by_kind (Parts scale outcomes) found false parts cols none = rw none refl
 
 refused-here : (shape : ShapeValue) (cols : List ℤ) (m : Measure) (measures : List Measure) (field : List ℕ) (fields : List (List ℕ)) → values_for shape m field ≡ None
-    → cols_after shape cols (m ∷ measures) (field ∷ fields) ≡ Err (if some_wrong is_number_measure shape measures fields then code.Value else code_of m.kind)
+    → cols_after shape cols (m ∷ measures) (field ∷ fields) ≡ Err (if some_wrong is_number_measure shape measures fields then code.Value else field_code m.kind)
 refused-here shape cols m measures field fields none =
     by_kind m.kind (values_for shape m field) (some_wrong is_number_measure shape measures fields) (some_wrong is_parts_measure shape measures fields) (cols ++ values_given shape (m ∷ measures) (field ∷ fields)) none
 
 pub ReadsValues-refused : (shape : ShapeValue) (fields : List (List ℕ)) (i : ℕ) (left : List (List ℕ)) (cols : List ℤ) (field : List ℕ) (more : List (List ℕ)) (refusal : Code) (later : Bool) → ReadsValues shape fields i left cols → left ≡ field ∷ more
-    → i < length shape.measures → IfSome (slice_get shape.measures i) (λ m. (values_for shape m field ≡ None) × (refusal ≡ code_of m.kind)) → later ≡ some_wrong is_number_measure shape (drop (i + 1) shape.measures) more
+    → i < length shape.measures → IfSome (slice_get shape.measures i) (λ m. (values_for shape m field ≡ None) × (refusal ≡ field_code m.kind)) → later ≡ some_wrong is_number_measure shape (drop (i + 1) shape.measures) more
     → Err (if later then code.Value else refusal) ≡ cols_given shape fields
 ReadsValues-refused shape fields i left cols field more refusal later before cut within refused e = found (slice_get shape.measures i) refl refused
   where
-    found : (found : Option Measure) → slice_get shape.measures i ≡ found → IfSome found (λ m. (values_for shape m field ≡ None) × (refusal ≡ code_of m.kind)) → Err (if later then code.Value else refusal) ≡ cols_given shape fields
+    found : (found : Option Measure) → slice_get shape.measures i ≡ found → IfSome found (λ m. (values_for shape m field ≡ None) × (refusal ≡ field_code m.kind)) → Err (if later then code.Value else refusal) ≡ cols_given shape fields
     found None at refused = absurd (none_within shape.measures i within at)
     found (Some m) at refused =
         sym (before.given ∙ rw (drop-at shape.measures i m at, cut, refused.1, e) (refused-here shape cols m (drop (i + 1) shape.measures) field more refused.0))

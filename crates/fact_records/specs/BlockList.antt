@@ -23,7 +23,7 @@ abbrev pub place_in_all : List (List Fact) → ℕ → ℕ → ℕ
 place_in_all used block at = length (all_facts (take block used)) + at
 
 -- a fact is at this place of this block
-pub record IsAt (used : List (List Fact)) (i k : ℕ) : Type 0 where
+pub record IsAtPlace (used : List (List Fact)) (i k : ℕ) : Type 0 where
   pub block : i < length used
   pub at : k < length (block_at used i)
 

@@ -9,8 +9,8 @@ use Rattle.fact_records.specs.Shape.{ShapeValue}
 abbrev pub number : ℕ → Measure
 number column = record { name = 110 ∷ []; kind = Number; first_col = column }
 
-abbrev pub parts : ℕ → Measure
-parts column = record { name = 112 ∷ []; kind = Parts 100 (codes "good" ∷ codes "bad" ∷ []); first_col = column }
+abbrev pub hundred_parts : ℕ → Measure
+hundred_parts column = record { name = 112 ∷ []; kind = Parts 100 (codes "good" ∷ codes "bad" ∷ []); first_col = column }
 
 -- one number
 abbrev pub one_number : ShapeValue
@@ -18,10 +18,10 @@ one_number = record { measures = number 1 ∷ []; weight = None }
 
 -- a number before a distribution, and after it
 abbrev pub number_and_parts : ShapeValue
-number_and_parts = record { measures = number 1 ∷ parts 2 ∷ []; weight = None }
+number_and_parts = record { measures = number 1 ∷ hundred_parts 2 ∷ []; weight = None }
 
 abbrev pub parts_and_number : ShapeValue
-parts_and_number = record { measures = parts 1 ∷ number 3 ∷ []; weight = None }
+parts_and_number = record { measures = hundred_parts 1 ∷ number 3 ∷ []; weight = None }
 
 -- two numbers, where cells weigh by the sum of the second
 abbrev pub second_weighs : ShapeValue

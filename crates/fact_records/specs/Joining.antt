@@ -9,8 +9,8 @@ abbrev pub are_sparse : List (List Fact) → ℕ → Bool
 are_sparse used block = nat_lt (block + 1) (length used) && nat_le (length (block_at used block) + length (block_at used (block + 1))) HALF
 
 -- the facts of a block and of the one after it in one
-abbrev pub joined : List (List Fact) → ℕ → List (List Fact)
-joined used block = remove (slice_set used block (block_at used block ++ block_at used (block + 1))) (block + 1)
+abbrev pub joined_blocks : List (List Fact) → ℕ → List (List Fact)
+joined_blocks used block = remove (slice_set used block (block_at used block ++ block_at used (block + 1))) (block + 1)
 
 -- the facts stay, and so does the room
 pub record IsJoined (old new : BlockList) : Type 0 where

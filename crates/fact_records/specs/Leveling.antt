@@ -18,8 +18,8 @@ leveled used block =
     slice_set (slice_set used block (first_half (block_at used block) (block_at used (block + 1)))) (block + 1) (second_half (block_at used block) (block_at used (block + 1)))
 
 -- a block has room for some facts
-abbrev pub has_room : List (List Fact) → ℕ → Bool
-has_room used block = nat_le (length (block_at used block)) ROOMY
+abbrev pub is_roomy : List (List Fact) → ℕ → Bool
+is_roomy used block = nat_le (length (block_at used block)) ROOMY
 
 -- a block and the one after it: one of them is this one, and together they have facts for more than one block, and not
 -- for two

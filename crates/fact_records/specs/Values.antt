@@ -51,6 +51,6 @@ values_for shape measure field =
     option_and_then (λ values. if is_weight shape measure && has_negative values then None else Some values) (values_in measure.kind field)
 
 -- the code of a field that gives none
-abbrev pub code_of : Kind → Code
-code_of Number = code.Value
-code_of (Parts _ _) = code.Parts
+abbrev pub field_code : Kind → Code
+field_code Number = code.Value
+field_code (Parts _ _) = code.Parts

@@ -2,9 +2,9 @@
 ghost use Rattle.std.specs.Prelude.{◌≡◌, ◌+◌, ◌*◌, ◌^◌, ◌<◌, ◌≤◌, [], Some, IfSome, length, take, drop, slice_get, slice_set, insert, remove, All, OnOk, true};
 ghost use Rattle.std.specs.Vec.{vec_capacity, vec_len};
 ghost use Rattle.std.specs.Option.{option_copied};
-ghost use Rattle.fact_records.specs.BlockList.{AllFilled, IsAt, IsPlace, all_facts, block_at, load, place_in_all, spare_of};
-ghost use Rattle.fact_records.specs.Joining.{IsJoined, are_sparse, joined};
-ghost use Rattle.fact_records.specs.Leveling.{IsPairWithRoom, IsPlaceInPair, has_room, leveled};
+ghost use Rattle.fact_records.specs.BlockList.{AllFilled, IsAtPlace, IsPlace, all_facts, block_at, load, place_in_all, spare_of};
+ghost use Rattle.fact_records.specs.Joining.{IsJoined, are_sparse, joined_blocks};
+ghost use Rattle.fact_records.specs.Leveling.{IsPairWithRoom, IsPlaceInPair, is_roomy, leveled};
 ghost use Rattle.fact_records.specs.Room.{MakesRoom};
 
 use crate::block::{BLOCK, Block};
@@ -90,7 +90,7 @@ impl Blocks {
 
     /// Writes a fact over the one at a place, which it hands back.
     pub(crate) fn replace(&mut self, place: Place, fact: Fact) -> Fact
-        requires place { IsAt self.old.used place.block place.at }
+        requires place { IsAtPlace self.old.used place.block place.at }
         requires filled { AllFilled self.old.used }
         ensures had { slice_get (all_facts self.old.used) (place_in_all self.old.used place.block place.at) ≡ Some result }
         ensures facts { all_facts self.new.used ≡ slice_set (all_facts self.old.used) (place_in_all self.old.used place.block place.at) fact }
@@ -103,7 +103,7 @@ impl Blocks {
     /// Takes out the fact at a place. Where its block and the one after it or before it have few facts between them,
     /// they become one. A block that is empty goes to the stock.
     pub(crate) fn remove(&mut self, place: Place) -> Fact
-        requires place { IsAt self.old.used place.block place.at }
+        requires place { IsAtPlace self.old.used place.block place.at }
         requires filled { AllFilled self.old.used }
         ensures had { slice_get (all_facts self.old.used) (place_in_all self.old.used place.block place.at) ≡ Some result }
         ensures facts { all_facts self.new.used ≡ remove (all_facts self.old.used) (place_in_all self.old.used place.block place.at) }
@@ -143,7 +143,7 @@ impl Blocks {
     /// Moves the facts of the block after a block to the end of that block, and gives the other to the stock.
     fn join(&mut self, block: usize)
         requires { are_sparse self.old.used block ≡ true }
-        ensures used { self.new.used ≡ joined self.old.used block }
+        ensures used { self.new.used ≡ joined_blocks self.old.used block }
         ensures stock { self.new.stock ≡ self.old.stock + 1 }
     {
         let mut next = self.used.remove(block + 1);
@@ -266,7 +266,7 @@ impl Blocks {
     /// Whether a block has room for some facts.
     fn has_room(&self, block: usize) -> bool
         requires { block < length self.now.used }
-        ensures { result ≡ has_room self.now.used block }
+        ensures { result ≡ is_roomy self.now.used block }
     {
         self.block(block).len() <= ROOMY
     }
@@ -298,7 +298,7 @@ impl Blocks {
 
     /// Writes a fact over one in its block.
     fn replace_within(&mut self, place: Place, fact: Fact) -> Fact
-        requires { IsAt self.old.used place.block place.at }
+        requires { IsAtPlace self.old.used place.block place.at }
         ensures had { slice_get (block_at self.old.used place.block) place.at ≡ Some result }
         ensures used { self.new.used ≡ slice_set self.old.used place.block (slice_set (block_at self.old.used place.block) place.at fact) }
         ensures stock { self.new.stock ≡ self.old.stock }
@@ -308,7 +308,7 @@ impl Blocks {
 
     /// Takes a fact out of its block.
     fn remove_within(&mut self, place: Place) -> Fact
-        requires { IsAt self.old.used place.block place.at }
+        requires { IsAtPlace self.old.used place.block place.at }
         ensures had { slice_get (block_at self.old.used place.block) place.at ≡ Some result }
         ensures used { self.new.used ≡ slice_set self.old.used place.block (remove (block_at self.old.used place.block) place.at) }
         ensures stock { self.new.stock ≡ self.old.stock }

@@ -8,7 +8,7 @@ ghost use Rattle.cube_model.specs.Allocation.{by_count};
 ghost use Rattle.cube_model.specs.Limits.{MAX_VALUE};
 ghost use Rattle.region_algebra.specs.Examples.{small_space};
 ghost use Rattle.fact_records.specs.Accepted.{cols_refusal};
-ghost use Rattle.fact_records.specs.Examples.{fact_at, four_facts, number, number_and_parts, one_number, parts, parts_and_number, second_weighs};
+ghost use Rattle.fact_records.specs.Examples.{fact_at, four_facts, hundred_parts, number, number_and_parts, one_number, parts_and_number, second_weighs};
 ghost use Rattle.fact_records.specs.Fields.{cols_given, fact_given, nodes_named};
 ghost use Rattle.fact_records.specs.Judge.{judge};
 ghost use Rattle.fact_records.specs.Shape.{IsShape, ShapeValue, adds_of, measure_named};
@@ -26,9 +26,9 @@ pub fn worked_fields()
         ≡ Some (pos 0 ∷ []) ∷ Some (pos 600 ∷ []) ∷ Some (negsuc 6 ∷ []) ∷ Some (pos 1000000000000 ∷ []) ∷ Some (negsuc 999999999999 ∷ []) ∷ [] }
     ensures no_numbers { list_all (λ field. is_none (values_for one_number (number 1) field)) (codes "1000000000001" ∷ codes "-1000000000001" ∷ codes "+5" ∷ codes "05" ∷ codes "-05"
         ∷ codes "-0" ∷ [] ∷ codes "-" ∷ codes "1.5" ∷ codes " 1" ∷ codes "--1" ∷ codes "99999999999999999999" ∷ []) ≡ true }
-    ensures parts { map (values_for number_and_parts (parts 2)) (codes "80:20" ∷ codes "0:100" ∷ codes "100:0" ∷ codes "50:50" ∷ [])
+    ensures parts { map (values_for number_and_parts (hundred_parts 2)) (codes "80:20" ∷ codes "0:100" ∷ codes "100:0" ∷ codes "50:50" ∷ [])
         ≡ Some (pos 80 ∷ pos 20 ∷ []) ∷ Some (pos 0 ∷ pos 100 ∷ []) ∷ Some (pos 100 ∷ pos 0 ∷ []) ∷ Some (pos 50 ∷ pos 50 ∷ []) ∷ [] }
-    ensures no_parts { list_all (λ field. is_none (values_for number_and_parts (parts 2) field)) (codes "80:21" ∷ codes "80:19" ∷ codes "100" ∷ codes "80:20:0" ∷ codes "80:"
+    ensures no_parts { list_all (λ field. is_none (values_for number_and_parts (hundred_parts 2) field)) (codes "80:21" ∷ codes "80:19" ∷ codes "100" ∷ codes "80:20:0" ∷ codes "80:"
         ∷ codes ":" ∷ codes "-1:101" ∷ codes "080:20" ∷ codes "101:0" ∷ [] ∷ []) ≡ true }
     ensures weighed { map (values_for second_weighs (number 2)) (codes "0" ∷ codes "7" ∷ codes "-7" ∷ []) ≡ Some (pos 0 ∷ []) ∷ Some (pos 7 ∷ []) ∷ None ∷ [] }
     ensures not_weighed { values_for second_weighs (number 1) (codes "-7") ≡ Some (negsuc 6 ∷ []) }

@@ -1,7 +1,7 @@
 //! Places of facts in blocks.
 ghost use Rattle.std.specs.Prelude.{◌≡◌, ◌+◌, ◌<◌, Some, length, slice_get, IfSome, IsNone, IfOk, IfErr};
 ghost use Rattle.std.specs.Option.{option_copied};
-ghost use Rattle.fact_records.specs.BlockList.{AllFilled, IsAt, IsPlace, all_facts, place_in_all};
+ghost use Rattle.fact_records.specs.BlockList.{AllFilled, IsAtPlace, IsPlace, all_facts, place_in_all};
 ghost use Rattle.fact_records.specs.Cut.{IsCut, IsGapAt, IsIdAt, id_at};
 ghost use Rattle.fact_records.specs.FactList.{IsAscending};
 ghost use Rattle.fact_records.specs.Starts.{IsStartBefore, starts_of};
@@ -21,7 +21,7 @@ pub(crate) struct Place {
 pub(crate) fn search(used: &[Block], id: u64) -> Result<Place, Place>
     requires ascending { IsAscending (all_facts used.now) }
     requires filled { AllFilled used.now }
-    ensures found { IfOk result (λ p. IsAt used.now p.block p.at) }
+    ensures found { IfOk result (λ p. IsAtPlace used.now p.block p.at) }
     ensures id { IfOk result (λ p. IsIdAt (all_facts used.now) id (place_in_all used.now p.block p.at)) }
     ensures absent { IfErr result (λ p. IsPlace used.now p.block p.at) }
     ensures gap { IfErr result (λ p. IsGapAt (all_facts used.now) id (place_in_all used.now p.block p.at)) }
@@ -71,7 +71,7 @@ fn first_id(block: &Block) -> u64
 
 /// The fact at a place.
 pub(crate) fn fact_at(used: &[Block], place: Place) -> &Fact
-    requires { IsAt used.now place.block place.at }
+    requires { IsAtPlace used.now place.block place.at }
     ensures { slice_get (all_facts used.now) (place_in_all used.now place.block place.at) ≡ Some result.now }
 {
     &used[place.block].as_slice()[place.at]

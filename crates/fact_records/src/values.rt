@@ -4,7 +4,7 @@ ghost use Rattle.std.specs.Option.{option_map};
 ghost use Rattle.cube_model.specs.Limits.{MAX_COLS};
 ghost use Rattle.text_lines.specs.Text.{number_in};
 ghost use Rattle.fact_records.specs.Shape.{width_of};
-ghost use Rattle.fact_records.specs.Values.{code_of, has_negative, parts_in, signed_number_in, values_for, values_in};
+ghost use Rattle.fact_records.specs.Values.{field_code, has_negative, parts_in, signed_number_in, values_for, values_in};
 
 use crate::checks::{has_negative, sums_to};
 use crate::places::{append, places_of};
@@ -23,7 +23,7 @@ pub fn read_value(shape: &Shape, measure: u32, field: &str, into: &mut Cols) -> 
     requires measure { measure < length shape.now.measures }
     requires place { IfSome (slice_get shape.now.measures measure) (λ m. length into.old + 1 ≡ m.first_col) }
     ensures read { OnOk result (IfSome (slice_get shape.now.measures measure) (λ m. IsSomeAnd (values_for shape.now m field.now) (λ values. into.new ≡ into.old ++ values))) }
-    ensures refused { IfErr result (λ code. IfSome (slice_get shape.now.measures measure) (λ m. (values_for shape.now m field.now ≡ None) × (code ≡ code_of m.kind))) }
+    ensures refused { IfErr result (λ code. IfSome (slice_get shape.now.measures measure) (λ m. (values_for shape.now m field.now ≡ None) × (code ≡ field_code m.kind))) }
     ensures kept { OnErr result (into.new ≡ into.old) }
 {
     let measure = shape.measure(measure);
@@ -57,7 +57,7 @@ fn some_negative(values: Cols) -> bool
 
 /// The code of a field that gives no values.
 fn code_of(kind: &Kind) -> Code
-    ensures { result ≡ code_of kind.now }
+    ensures { result ≡ field_code kind.now }
 {
     match kind {
         Kind::Number => Code::Value,

@@ -7,9 +7,9 @@ use Rattle.std.proofs.lemmas.List.Sums.{sum_by-cons}
 use Rattle.cube_model.specs.Tree.{Dimension}
 use Rattle.fact_groups.specs.Groups.{Group, group_facts}
 use Rattle.view_store.specs.declared.change.ViewChange.{ViewChange}
-use Rattle.view_store.specs.Changes.{facts_of, given, taken}
+use Rattle.view_store.specs.Changes.{change_facts, facts_put, facts_taken_away}
 use Rattle.view_store.specs.Views.{region_at}
-use Rattle.facts_kept.specs.ViewChanges.{change_of, changes_of}
+use Rattle.facts_kept.specs.ViewChanges.{group_change, group_changes}
 use Rattle.facts_kept.proofs.Modest.{members}
 
 -- the group of a change
@@ -27,15 +27,15 @@ abbrev pub puts : ViewChange → Bool
 puts change = change.put
 
 -- the facts of changes are those of their groups
-facts-groups : (changes : List ViewChange) → flat_map facts_of changes ≡ flat_map group_facts (map group_of changes)
+facts-groups : (changes : List ViewChange) → flat_map change_facts changes ≡ flat_map group_facts (map group_of changes)
 facts-groups [] = refl
-facts-groups (change ∷ changes) = ap (λ facts. facts_of change ++ facts) (facts-groups changes)
+facts-groups (change ∷ changes) = ap (λ facts. change_facts change ++ facts) (facts-groups changes)
 
-pub taken-groups : (changes : List ViewChange) → taken changes ≡ flat_map group_facts (groups_that takes_away changes)
-taken-groups changes = facts-groups (filter takes_away changes)
+pub facts_taken_away-groups : (changes : List ViewChange) → facts_taken_away changes ≡ flat_map group_facts (groups_that takes_away changes)
+facts_taken_away-groups changes = facts-groups (filter takes_away changes)
 
-pub given-groups : (changes : List ViewChange) → given changes ≡ flat_map group_facts (groups_that puts changes)
-given-groups changes = facts-groups (filter puts changes)
+pub facts_put-groups : (changes : List ViewChange) → facts_put changes ≡ flat_map group_facts (groups_that puts changes)
+facts_put-groups changes = facts-groups (filter puts changes)
 
 module _ (kind : ViewChange → Bool) where
   -- the first of them have no more facts
@@ -76,19 +76,19 @@ module _ (kind : ViewChange → Bool) where
 
 module _ (dims : List Dimension) where
   -- what the group at a code, if there is one, puts or takes away
-  pub taken-of : (put : Bool) (code : ℕ) (o : Option Group) (changes : List ViewChange) → groups_that takes_away (changes_of put dims code o ++ changes) ≡ (if put then groups_that takes_away changes else cons_option o (groups_that takes_away changes))
-  taken-of true code None changes = refl
-  taken-of true code (Some g) changes = refl
-  taken-of false code None changes = refl
-  taken-of false code (Some g) changes = refl
+  pub facts_taken_away-of : (put : Bool) (code : ℕ) (o : Option Group) (changes : List ViewChange) → groups_that takes_away (group_changes put dims code o ++ changes) ≡ (if put then groups_that takes_away changes else cons_option o (groups_that takes_away changes))
+  facts_taken_away-of true code None changes = refl
+  facts_taken_away-of true code (Some g) changes = refl
+  facts_taken_away-of false code None changes = refl
+  facts_taken_away-of false code (Some g) changes = refl
 
-  pub given-of : (put : Bool) (code : ℕ) (o : Option Group) (changes : List ViewChange) → groups_that puts (changes_of put dims code o ++ changes) ≡ (if put then cons_option o (groups_that puts changes) else groups_that puts changes)
-  given-of true code None changes = refl
-  given-of true code (Some g) changes = refl
-  given-of false code None changes = refl
-  given-of false code (Some g) changes = refl
+  pub facts_put-of : (put : Bool) (code : ℕ) (o : Option Group) (changes : List ViewChange) → groups_that puts (group_changes put dims code o ++ changes) ≡ (if put then cons_option o (groups_that puts changes) else groups_that puts changes)
+  facts_put-of true code None changes = refl
+  facts_put-of true code (Some g) changes = refl
+  facts_put-of false code None changes = refl
+  facts_put-of false code (Some g) changes = refl
 
   -- what holds of it and its region holds of those of its change
-  pub each-of : (P : List ℕ → Group → Type 0) (put : Bool) (code : ℕ) (o : Option Group) → ((g : Group) → o ≡ Some g → P (region_at dims code) g) → All (λ change. P change.region (group_of change)) (changes_of put dims code o)
+  pub each-of : (P : List ℕ → Group → Type 0) (put : Bool) (code : ℕ) (o : Option Group) → ((g : Group) → o ≡ Some g → P (region_at dims code) g) → All (λ change. P change.region (group_of change)) (group_changes put dims code o)
   each-of P put code None each = All-nil (λ change. P change.region (group_of change))
-  each-of P put code (Some g) each = All-cons (λ change. P change.region (group_of change)) (change_of put (region_at dims code) g) [] (each g refl) (All-nil (λ change. P change.region (group_of change)))
+  each-of P put code (Some g) each = All-cons (λ change. P change.region (group_of change)) (group_change put (region_at dims code) g) [] (each g refl) (All-nil (λ change. P change.region (group_of change)))

@@ -16,13 +16,13 @@ use Rattle.group_sum.specs.Terms.{AreTerms, TermList}
 use Rattle.fact_groups.specs.Groups.{Group, count_in, group_facts, sum_in}
 use Rattle.fact_groups.proofs.AsFacts.{count-as_facts, sum-as_facts}
 use Rattle.view_store.specs.declared.change.ViewChange.{ViewChange}
-use Rattle.view_store.specs.Changes.{CanChange, FitsView, IsChange, IsWithin, given, shares, taken, together}
+use Rattle.view_store.specs.Changes.{CanChange, FitsView, IsChange, IsWithinWide, facts_put, facts_taken_away, shares, together}
 use Rattle.view_store.specs.Facts.{IsViewOfFacts}
 use Rattle.view_store.specs.Views.{ViewMap, entry_at, region_at}
 use Rattle.view_store.proofs.Drafting.{AreRegular-terms}
 use Rattle.view_store.proofs.Merges.{count_of-merge, numerator_of-merge}
 use Rattle.view_store.proofs.Shares.{AreRegular-answer, count_of-answer, numerator_of-answer}
-use Rattle.facts_kept.proofs.ChangeGroups.{All-first, All-that, given-groups, group_of, groups_that, members-take, puts, taken-groups, takes_away}
+use Rattle.facts_kept.proofs.ChangeGroups.{All-first, All-that, facts_put-groups, facts_taken_away-groups, group_of, groups_that, members-take, puts, takes_away}
 use Rattle.facts_kept.proofs.Modest.{AreModest, IsModest, count-within, members, modest-groups, sum-within}
 
 -- a modest group of a region, whose rows are of cells there
@@ -67,7 +67,7 @@ module _ (width : ℕ) (dims : List Dimension) (code columns : ℕ) (facts : Lis
       let cells = cells_of dims (region_at dims code) in
       numerator_of-answer (columns - 1) dims facts (region_at dims code) d k (omega (arith, lt)) ∙ ap (λ (es : List ExtendedFact). sum_at cells es k d) same ∙ sum-as_facts cells k d groups
 
-  share-within : members groups ≤ MAX_FACTS → IsWithin columns (shares columns dims facts code).terms
+  share-within : members groups ≤ MAX_FACTS → IsWithinWide columns (shares columns dims facts code).terms
   share-within few =
       let cells = cells_of dims (region_at dims code) in
       let modest = modest-groups width cells groups each in
@@ -99,13 +99,13 @@ module _ (dims : List Dimension) (width : ℕ) (rows : List ExtendedFact) (chang
     gone = groups_that takes_away changes
 
     abbrev part : TermList
-    part = shares old.columns dims (taken changes) code
+    part = shares old.columns dims (facts_taken_away changes) code
 
     part-count : (d : ℕ) → count_of part.terms d ≡ count_in cells gone d
-    part-count d = share-count width dims code old.columns (taken changes) gone (taken-groups changes) (All-that takes_away (IsModest width) changes modest-each) d
+    part-count d = share-count width dims code old.columns (facts_taken_away changes) gone (facts_taken_away-groups changes) (All-that takes_away (IsModest width) changes modest-each) d
 
     part-sum : (d k : ℕ) → k + 1 < old.columns → numerator_of part.terms d (k + 1) ≡ sum_in cells gone k d
-    part-sum d k lt = share-sum width dims code old.columns (taken changes) gone (taken-groups changes) (All-that takes_away (IsModest width) changes modest-each) d k lt
+    part-sum d k lt = share-sum width dims code old.columns (facts_taken_away changes) gone (facts_taken_away-groups changes) (All-that takes_away (IsModest width) changes modest-each) d k lt
 
     whole-count : (d : ℕ) → count_of old.terms d ≡ count_of part.terms d + count_in cells others d
     whole-count d =
@@ -147,7 +147,7 @@ module _ (dims : List Dimension) (width : ℕ) (rows : List ExtendedFact) (chang
       added = groups_that puts (take n changes)
 
       abbrev more : TermList
-      more = shares old.columns dims (given (take n changes)) code
+      more = shares old.columns dims (facts_put (take n changes)) code
 
       added-modest : All (IsModest width) added
       added-modest = All-first puts (IsModest width) n changes modest-each
@@ -157,7 +157,7 @@ module _ (dims : List Dimension) (width : ℕ) (rows : List ExtendedFact) (chang
 
       left-sum : (d k : ℕ) → k + 1 < old.columns → numerator_of left.terms d (k + 1) ≡ sum_in cells others k d
       left-sum d k lt =
-          let merged = numerator_of-merge (old.columns - 1) left.terms part.terms (AreRegular-terms (old.columns - 1) left are) (AreRegular-answer (old.columns - 1) dims (taken changes) (region_at dims code)) d k (omega (arith, lt)) in
+          let merged = numerator_of-merge (old.columns - 1) left.terms part.terms (AreRegular-terms (old.columns - 1) left are) (AreRegular-answer (old.columns - 1) dims (facts_taken_away changes) (region_at dims code)) d k (omega (arith, lt)) in
           rest-is (numerator_of old.terms d (k + 1)) (numerator_of part.terms d (k + 1)) (sum_in cells others k d) (numerator_of left.terms d (k + 1)) (whole-sum d k lt)
           (sym merged ∙ ap (λ (terms : List Term). numerator_of terms d (k + 1)) difference.merges)
 
@@ -168,31 +168,31 @@ module _ (dims : List Dimension) (width : ℕ) (rows : List ExtendedFact) (chang
       both-few = omega (arith, stand.few_after, members-take puts n changes)
 
       more-count : (d : ℕ) → count_of more.terms d ≡ count_in cells added d
-      more-count d = share-count width dims code old.columns (given (take n changes)) added (given-groups (take n changes)) added-modest d
+      more-count d = share-count width dims code old.columns (facts_put (take n changes)) added (facts_put-groups (take n changes)) added-modest d
 
       more-sum : (d k : ℕ) → k + 1 < old.columns → numerator_of more.terms d (k + 1) ≡ sum_in cells added k d
-      more-sum d k lt = share-sum width dims code old.columns (given (take n changes)) added (given-groups (take n changes)) added-modest d k lt
+      more-sum d k lt = share-sum width dims code old.columns (facts_put (take n changes)) added (facts_put-groups (take n changes)) added-modest d k lt
 
-      merged-within : IsWithin old.columns (merge (old.columns - 1) left.terms more.terms)
+      merged-within : IsWithinWide old.columns (merge (old.columns - 1) left.terms more.terms)
       merged-within = record {
         counts = λ d.
             let most = count-within (members others + members added) (λ d. count_in cells others d + count_in cells added d) (λ k d. sum_in cells others k d +ℤ sum_in cells added k d) both-modest both-few d in
             omega (arith, count_of-merge (old.columns - 1) left.terms more.terms d, left-count d, more-count d, most);
         sums = λ d k lt.
             let most = sum-within (members others + members added) (λ d. count_in cells others d + count_in cells added d) (λ k d. sum_in cells others k d +ℤ sum_in cells added k d) both-modest both-few k d in
-            let regular = AreRegular-answer (old.columns - 1) dims (given (take n changes)) (region_at dims code) in
+            let regular = AreRegular-answer (old.columns - 1) dims (facts_put (take n changes)) (region_at dims code) in
             let merged = numerator_of-merge (old.columns - 1) left.terms more.terms (AreRegular-terms (old.columns - 1) left are) regular d k (omega (arith, lt)) in
             let whole = merged ∙ ap (λ z. z +ℤ numerator_of more.terms d (k + 1)) (left-sum d k lt) ∙ ap (λ z. sum_in cells others k d +ℤ z) (more-sum d k lt) in
             omega (arith, ap nat_abs whole, most);
       }
 
-      put-within : IsWithin old.columns (together left more)
-      put-within = subst (λ (c : ℕ). IsWithin old.columns (merge (c - 1) left.terms more.terms)) (sym difference.columns) merged-within
+      put-within : IsWithinWide old.columns (together left more)
+      put-within = subst (λ (c : ℕ). IsWithinWide old.columns (merge (c - 1) left.terms more.terms)) (sym difference.columns) merged-within
 
     can-change : CanChange dims changes old code
     can-change = record {
       taken_within = λ n.
-          share-within width dims code old.columns (taken (take n changes)) (groups_that takes_away (take n changes)) (taken-groups (take n changes)) (All-first takes_away (IsModest width) n changes modest-each)
+          share-within width dims code old.columns (facts_taken_away (take n changes)) (groups_that takes_away (take n changes)) (facts_taken_away-groups (take n changes)) (All-first takes_away (IsModest width) n changes modest-each)
           (omega (arith, members-take takes_away n changes, stand.few_before));
       there = is-there;
       left_within = left-within;

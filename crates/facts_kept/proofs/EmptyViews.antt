@@ -9,7 +9,7 @@ use Rattle.group_sum.specs.Terms.{TermList}
 use Rattle.staged_map.specs.Staged.{Places}
 use Rattle.fact_records.specs.Shape.{ShapeValue, width_of_all}
 use Rattle.view_store.specs.declared.change.ViewChange.{ViewChange}
-use Rattle.view_store.specs.Changes.{AreAfter, HaveSameContent, given, taken}
+use Rattle.view_store.specs.Changes.{AreAfter, HaveSameViews, facts_put, facts_taken_away}
 use Rattle.view_store.specs.Facts.{FollowBy, IsViewOfFacts}
 use Rattle.view_store.specs.Views.{ViewMap, ViewMaps, held_at}
 use Rattle.facts_kept.specs.Anew.{AreEmpty, cuts_of}
@@ -34,7 +34,7 @@ module _ (shape : ShapeValue) (dims : List Dimension) (empty : ViewMaps) (are : 
   views-none = record { columns_are = are.columns; cuts_are = refl; over = are.over; answers = answers-none }
 
   -- changes staged and installed make them the views of the facts that these put
-  pub views-put : (staged new : ViewMaps) (changes : List ViewChange) (facts : List ExtendedFact) → HaveSameContent empty staged → AreAfter dims changes staged new → FollowBy [] (taken changes) (given changes) facts
+  pub views-put : (staged new : ViewMaps) (changes : List ViewChange) (facts : List ExtendedFact) → HaveSameViews empty staged → AreAfter dims changes staged new → FollowBy [] (facts_taken_away changes) (facts_put changes) facts
       → AreViewsOfFacts dims (cuts_of empty) (width_of_all shape.measures + 1) facts new
   views-put staged new changes facts same after follow =
       let columns : ℕ = width_of_all shape.measures + 1 in

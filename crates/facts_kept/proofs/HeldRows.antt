@@ -11,7 +11,7 @@ use Rattle.cube_model.specs.Allocation.{Policy, extended, row_count}
 use Rattle.cube_model.specs.Limits.{MAX_CELLS, MAX_FACTS}
 use Rattle.cube_model.specs.Tree.{Dimension, IsTree}
 use Rattle.staged_map.specs.Staged.{Places, held, held_of}
-use Rattle.fact_groups.specs.Groups.{Group, rows_in}
+use Rattle.fact_groups.specs.Groups.{Group, group_rows}
 use Rattle.fact_groups.proofs.Groups.{rows-grouped}
 use Rattle.fact_records.specs.Shape.{ShapeValue, width_of_all}
 use Rattle.fact_records.specs.Valid.{AreValid}
@@ -21,12 +21,12 @@ use Rattle.facts_kept.proofs.ValidFacts.{few-rows, valid-regions}
 
 -- the rows of the groups that places hold
 abbrev pub rows_held : Places Group → ℕ
-rows_held places = rows_in (values_of (held places))
+rows_held places = group_rows (values_of (held places))
 
 abbrev rows_by : Group → ℕ
 rows_by g = g.count * length g.spread.rows
 
-rows-append : (first second : List (ℕ × Group)) → rows_in (values_of (first ++ second)) ≡ rows_in (values_of first) + rows_in (values_of second)
+rows-append : (first second : List (ℕ × Group)) → group_rows (values_of (first ++ second)) ≡ group_rows (values_of first) + group_rows (values_of second)
 rows-append first second = ap (sum_by rows_by) (map-append (λ (e : ℕ × Group). e.1) first second) ∙ sum_by-append rows_by (values_of first) (values_of second)
 
 -- some places hold no more rows than all
@@ -35,20 +35,20 @@ rows-take-le places i =
     omega (
       arith,
       ap rows_held (take-append-drop i places),
-      ap (λ (es : List (ℕ × Group)). rows_in (values_of es)) (filter_map-append held_of (take i places) (drop i places)),
+      ap (λ (es : List (ℕ × Group)). group_rows (values_of es)) (filter_map-append held_of (take i places) (drop i places)),
       rows-append (held (take i places)) (held (drop i places)),
     )
 
 -- a place more
 module _ (places : Places Group) (i : ℕ) where
   pub rows-none : held (take (i + 1) places) ≡ held (take i places) ++ [] → rows_held (take (i + 1) places) ≡ rows_held (take i places)
-  rows-none next = ap (λ (es : List (ℕ × Group)). rows_in (values_of es)) (next ∙ append-nil (held (take i places)))
+  rows-none next = ap (λ (es : List (ℕ × Group)). group_rows (values_of es)) (next ∙ append-nil (held (take i places)))
 
   pub rows-some : (code : ℕ) (g : Group) → held (take (i + 1) places) ≡ held (take i places) ++ (code, g) ∷ [] → rows_held (take (i + 1) places) ≡ rows_held (take i places) + g.count * length g.spread.rows
   rows-some code g next =
       omega (
         arith,
-        ap (λ (es : List (ℕ × Group)). rows_in (values_of es)) next,
+        ap (λ (es : List (ℕ × Group)). group_rows (values_of es)) next,
         rows-append (held (take i places)) ((code, g) ∷ []),
       )
 
@@ -59,7 +59,7 @@ module _ (policy : Policy) (shape : ShapeValue) (dims : List Dimension) (facts :
   rows-held =
       sym
       (rows-grouped policy (width_of_all shape.measures) dims facts (keys_of (held places)) (grouped-held policy (width_of_all shape.measures) dims facts places kept distinct once trees (valid-regions shape dims facts valid))
-      ∙ ap rows_in (groups-held policy (width_of_all shape.measures) dims facts places kept distinct once))
+      ∙ ap group_rows (groups-held policy (width_of_all shape.measures) dims facts places kept distinct once))
 
   -- which are not so many that their number would not fit
   pub rows-fit : (i code : ℕ) (g : Group) → held (take (i + 1) places) ≡ held (take i places) ++ (code, g) ∷ [] → rows_held (take i places) + g.count * length g.spread.rows ≤ MAX_FACTS * MAX_CELLS

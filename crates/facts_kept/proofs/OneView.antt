@@ -32,7 +32,7 @@ use Rattle.view_store.specs.Views.{ViewMap, region_at}
 use Rattle.view_store.proofs.OfFacts.{answers-alike}
 use Rattle.facts_kept.specs.Anew.{AreGroupsOf}
 use Rattle.facts_kept.specs.Kept.{IsCutView}
-use Rattle.facts_kept.specs.ViewChanges.{change_of}
+use Rattle.facts_kept.specs.ViewChanges.{group_change}
 use Rattle.facts_kept.proofs.ChangeGroups.{group_of}
 use Rattle.facts_kept.proofs.ChangedEntries.{IsPlaced, StandFor, fits-views}
 use Rattle.facts_kept.proofs.EmptyViews.{view-none}
@@ -126,7 +126,7 @@ module _ (weigh : CellStat → ℕ) (bound : (s : CellStat) → IsStat s → wei
   -- the group of the next place
   module _ (i code : ℕ) (g : Group) (at : option_and_then held_of (slice_get places i) ≡ Some (code, g)) (next : held (take (i + 1) places) ≡ held (take i places) ++ (code, g) ∷ []) where
     abbrev change : ViewChange
-    change = change_of true (region_at dims code) g
+    change = group_change true (region_at dims code) g
 
     its : group_at policy width dims facts code ≡ Some g
     its = held-group policy width dims facts places kept i code g distinct at

@@ -23,12 +23,12 @@ use Rattle.fact_groups.proofs.AsFacts.{counts-follow, sums-follow}
 use Rattle.fact_records.specs.Shape.{IsShape, ShapeValue, policy_over, width_of_all}
 use Rattle.fact_records.specs.Valid.{AreValid}
 use Rattle.view_store.specs.declared.change.ViewChange.{ViewChange}
-use Rattle.view_store.specs.Changes.{FitsView, given, taken}
+use Rattle.view_store.specs.Changes.{FitsView, facts_put, facts_taken_away}
 use Rattle.view_store.specs.Facts.{FollowBy, IsViewOfFacts}
 use Rattle.view_store.specs.Views.{ViewMap, region_at}
 use Rattle.facts_kept.specs.Anew.{AreGroupsOf}
-use Rattle.facts_kept.specs.ViewChanges.{changes_of, puts_at}
-use Rattle.facts_kept.proofs.ChangeGroups.{each-of, given-groups, given-of, group_of, groups_that, puts, taken-groups, taken-of, takes_away}
+use Rattle.facts_kept.specs.ViewChanges.{group_changes, puts_at}
+use Rattle.facts_kept.proofs.ChangeGroups.{each-of, facts_put-groups, facts_put-of, facts_taken_away-groups, facts_taken_away-of, group_of, groups_that, puts, takes_away}
 use Rattle.facts_kept.proofs.ChangedEntries.{IsPlaced, StandFor, fits-views}
 use Rattle.facts_kept.proofs.GroupRegions.{group-region}
 use Rattle.facts_kept.proofs.HeldGroups.{group-rows}
@@ -38,30 +38,30 @@ use Rattle.facts_kept.proofs.SplitGroups.{members-split}
 use Rattle.facts_kept.proofs.ValidFacts.{valid-regions}
 
 -- the group of one code more is put after the others
-pub puts-more : (dims : List Dimension) (groups : Places Group) (codes : List ℕ) (code : ℕ) → puts_at dims groups (codes ++ code ∷ []) ≡ puts_at dims groups codes ++ changes_of true dims code (value_at groups code)
+pub puts-more : (dims : List Dimension) (groups : Places Group) (codes : List ℕ) (code : ℕ) → puts_at dims groups (codes ++ code ∷ []) ≡ puts_at dims groups codes ++ group_changes true dims code (value_at groups code)
 puts-more dims groups codes code =
-    let f : ℕ → List ViewChange = λ c. changes_of true dims c (value_at groups c) in
+    let f : ℕ → List ViewChange = λ c. group_changes true dims c (value_at groups c) in
     flat_map-append f codes (code ∷ []) ∙ ap (λ (more : List ViewChange). puts_at dims groups codes ++ more) (flat_map-cons f code [] ∙ append-nil (f code))
 
 -- the groups at codes are put, and none is taken away
 module _ (dims : List Dimension) (groups : Places Group) where
   put-all : (codes : List ℕ) → groups_that puts (puts_at dims groups codes) ≡ filter_map (value_at groups) codes
   put-all [] = refl
-  put-all (code ∷ codes) = given-of dims true code (value_at groups code) (puts_at dims groups codes) ∙ ap (cons_option (value_at groups code)) (put-all codes)
+  put-all (code ∷ codes) = facts_put-of dims true code (value_at groups code) (puts_at dims groups codes) ∙ ap (cons_option (value_at groups code)) (put-all codes)
 
-  taken-none : (codes : List ℕ) → groups_that takes_away (puts_at dims groups codes) ≡ []
-  taken-none [] = refl
-  taken-none (code ∷ codes) = taken-of dims true code (value_at groups code) (puts_at dims groups codes) ∙ taken-none codes
+  facts_taken_away-none : (codes : List ℕ) → groups_that takes_away (puts_at dims groups codes) ≡ []
+  facts_taken_away-none [] = refl
+  facts_taken_away-none (code ∷ codes) = facts_taken_away-of dims true code (value_at groups code) (puts_at dims groups codes) ∙ facts_taken_away-none codes
 
   put-each : (P : List ℕ → Group → Type 0) → ((code : ℕ) (g : Group) → value_at groups code ≡ Some g → P (region_at dims code) g) → (codes : List ℕ) → All (λ change. P change.region (group_of change)) (puts_at dims groups codes)
   put-each P each [] = All-nil (λ change. P change.region (group_of change))
   put-each P each (code ∷ codes) =
-      All-append (λ change. P change.region (group_of change)) (changes_of true dims code (value_at groups code)) (puts_at dims groups codes) (each-of dims P true code (value_at groups code) (each code)) (put-each P each codes)
+      All-append (λ change. P change.region (group_of change)) (group_changes true dims code (value_at groups code)) (puts_at dims groups codes) (each-of dims P true code (value_at groups code) (each code)) (put-each P each codes)
 
 -- what codes give, where others give the same
-given-alike : (f h : ℕ → Option Group) → ((code : ℕ) → f code ≡ h code) → (codes : List ℕ) → filter_map f codes ≡ filter_map h codes
-given-alike f h same [] = refl
-given-alike f h same (code ∷ codes) = ap (λ (o : Option Group). cons_option o (filter_map f codes)) (same code) ∙ ap (cons_option (h code)) (given-alike f h same codes)
+facts_put-alike : (f h : ℕ → Option Group) → ((code : ℕ) → f code ≡ h code) → (codes : List ℕ) → filter_map f codes ≡ filter_map h codes
+facts_put-alike f h same [] = refl
+facts_put-alike f h same (code ∷ codes) = ap (λ (o : Option Group). cons_option o (filter_map f codes)) (same code) ∙ ap (cons_option (h code)) (facts_put-alike f h same codes)
 
 -- no facts have no groups
 groups-none : (policy : Policy) (columns : ℕ) (dims : List Dimension) (codes : List ℕ) → groups_at policy columns dims [] codes ≡ []
@@ -104,20 +104,20 @@ module _ (weigh : CellStat → ℕ) (bound : (s : CellStat) → IsStat s → wei
   changes = puts_at dims groups codes
 
   all-are : all ≡ groups_at policy width dims facts codes
-  all-are = given-alike (value_at groups) _ kept codes
+  all-are = facts_put-alike (value_at groups) _ kept codes
 
   regions : All (λ f. IsRegion dims f.region) facts
   regions = valid-regions shape dims facts valid
 
-  taken-nothing : taken changes ≡ []
-  taken-nothing = taken-groups changes ∙ ap (flat_map group_facts) (taken-none dims groups codes)
+  facts_taken_away-nothing : facts_taken_away changes ≡ []
+  facts_taken_away-nothing = facts_taken_away-groups changes ∙ ap (flat_map group_facts) (facts_taken_away-none dims groups codes)
 
-  given-are : given changes ≡ flat_map group_facts (groups_at policy width dims facts codes)
-  given-are = given-groups changes ∙ ap (flat_map group_facts) (put-all dims groups codes ∙ all-are)
+  facts_put-are : facts_put changes ≡ flat_map group_facts (groups_at policy width dims facts codes)
+  facts_put-are = facts_put-groups changes ∙ ap (flat_map group_facts) (put-all dims groups codes ∙ all-are)
 
   -- the facts of the groups are put
-  pub follow-some : FollowBy [] (taken changes) (given changes) (flat_map group_facts (groups_at policy width dims facts codes))
-  follow-some = rw (taken-nothing, given-are) (follow-alone (flat_map group_facts (groups_at policy width dims facts codes)))
+  pub follow-some : FollowBy [] (facts_taken_away changes) (facts_put changes) (flat_map group_facts (groups_at policy width dims facts codes))
+  follow-some = rw (facts_taken_away-nothing, facts_put-are) (follow-alone (flat_map group_facts (groups_at policy width dims facts codes)))
 
   -- and they are few
   each-placed : All (λ change. IsPlaced dims width change.region (group_of change)) changes
@@ -135,9 +135,9 @@ module _ (weigh : CellStat → ℕ) (bound : (s : CellStat) → IsStat s → wei
   stand-for = record {
     each = each-placed;
     stay = All-nil (IsModest width);
-    counts = λ cells d. subst (λ (gs : List Group). count_at cells [] d ≡ count_in cells gs d + count_in cells [] d) (sym (taken-none dims groups codes)) refl;
-    sums = λ cells k d lt. subst (λ (gs : List Group). sum_at cells [] k d ≡ sum_in cells gs k d +ℤ sum_in cells [] k d) (sym (taken-none dims groups codes)) refl;
-    few_before = subst (λ (gs : List Group). members gs + members [] ≤ MAX_FACTS) (sym (taken-none dims groups codes)) (omega arith);
+    counts = λ cells d. subst (λ (gs : List Group). count_at cells [] d ≡ count_in cells gs d + count_in cells [] d) (sym (facts_taken_away-none dims groups codes)) refl;
+    sums = λ cells k d lt. subst (λ (gs : List Group). sum_at cells [] k d ≡ sum_in cells gs k d +ℤ sum_in cells [] k d) (sym (facts_taken_away-none dims groups codes)) refl;
+    few_before = subst (λ (gs : List Group). members gs + members [] ≤ MAX_FACTS) (sym (facts_taken_away-none dims groups codes)) (omega arith);
     few_after = subst (λ (gs : List Group). members gs + members [] ≤ MAX_FACTS) (sym (put-all dims groups codes)) (let nothing : members [] ≡ 0 = refl in omega (arith, few, nothing));
   }
 
@@ -162,8 +162,8 @@ module _ (weigh : CellStat → ℕ) (bound : (s : CellStat) → IsStat s → wei
           (All-nil (λ f. length f.cols ≤ width)) (short-facts weigh bound shape dims facts is trees valid);
     }
 
-    taken-are : taken changes ≡ flat_map group_facts (groups_at policy width dims [] codes)
-    taken-are = taken-nothing ∙ ap (flat_map group_facts) (sym (groups-none policy width dims codes))
+    facts_taken_away-are : facts_taken_away changes ≡ flat_map group_facts (groups_at policy width dims [] codes)
+    facts_taken_away-are = facts_taken_away-nothing ∙ ap (flat_map group_facts) (sym (groups-none policy width dims codes))
 
-    pub follow-puts : FollowBy [] (taken changes) (given changes) (extended policy dims facts)
-    follow-puts = subst (λ (rows : List ExtendedFact). FollowBy rows (taken changes) (given changes) (extended policy dims facts)) (rows-none policy dims) (rw (taken-are, given-are) follow-groups)
+    pub follow-puts : FollowBy [] (facts_taken_away changes) (facts_put changes) (extended policy dims facts)
+    follow-puts = subst (λ (rows : List ExtendedFact). FollowBy rows (facts_taken_away changes) (facts_put changes) (extended policy dims facts)) (rows-none policy dims) (rw (facts_taken_away-are, facts_put-are) follow-groups)

@@ -6,7 +6,7 @@ use Rattle.cube_model.specs.Answer.{answer}
 use Rattle.cube_model.specs.Tree.{Dimension}
 use Rattle.group_sum.specs.Terms.{TermList}
 use Rattle.staged_map.specs.Staged.{value_at}
-use Rattle.view_store.specs.Changes.{HaveSameContent, IsSameView}
+use Rattle.view_store.specs.Changes.{HaveSameViews, IsSameView}
 use Rattle.view_store.specs.Facts.{IsViewOfFacts}
 use Rattle.view_store.specs.Views.{IsViewOf, ViewMap, ViewMaps, entry_at, is_in_view, no_terms, region_at}
 use Rattle.facts_kept.specs.Kept.{AreViewsOfFacts}
@@ -35,10 +35,10 @@ of_facts-same dims facts old new same is = record {
 }
 
 -- the cuts stay
-pub cuts-same : (old new : ViewMaps) → HaveSameContent old new → map (λ (view : ViewMap). view.depths) new.views ≡ map (λ (view : ViewMap). view.depths) old.views
+pub cuts-same : (old new : ViewMaps) → HaveSameViews old new → map (λ (view : ViewMap). view.depths) new.views ≡ map (λ (view : ViewMap). view.depths) old.views
 cuts-same old new same = depths-along IsSameView (λ a b one. one.depths) old.views new.views same.views.count same.views.each
 
-pub AreViewsOfFacts-same : (dims : List Dimension) (cuts : List (List ℕ)) (columns : ℕ) (facts : List ExtendedFact) (old new : ViewMaps) → HaveSameContent old new → AreViewsOfFacts dims cuts columns facts old → AreViewsOfFacts dims cuts columns facts new
+pub AreViewsOfFacts-same : (dims : List Dimension) (cuts : List (List ℕ)) (columns : ℕ) (facts : List ExtendedFact) (old new : ViewMaps) → HaveSameViews old new → AreViewsOfFacts dims cuts columns facts old → AreViewsOfFacts dims cuts columns facts new
 AreViewsOfFacts-same dims cuts columns facts old new same are = record {
   columns_are = same.columns ∙ are.columns_are;
   cuts_are = cuts-same old new same ∙ are.cuts_are;

@@ -9,7 +9,7 @@ use Rattle.region_algebra.specs.Space.{region_total}
 use Rattle.region_algebra.specs.declared.view_def.ViewDef.{ViewDef}
 use Rattle.staged_map.specs.Staged.{value_at}
 use Rattle.view_store.specs.declared.change.ViewChange.{ViewChange}
-use Rattle.view_store.specs.Changes.{AreAfter, IsAfter, given, taken}
+use Rattle.view_store.specs.Changes.{AreAfter, IsAfter, facts_put, facts_taken_away}
 use Rattle.view_store.specs.Facts.{FollowBy, IsViewOfFacts}
 use Rattle.view_store.specs.Views.{AreViewsOf, IsViewOf, ViewMap, ViewMaps, is_in_view, view_of, without_entries}
 use Rattle.view_store.proofs.OfFacts.{view-after, view-of_none}
@@ -80,7 +80,7 @@ module _ (dims : List Dimension) (changes : List ViewChange) where
       by code false outside some = was.regions code (ap is_some (sym (is.kept code outside)) ∙ some)
 
   -- the views after changes are those of the facts after them
-  pub AreViewsOfFacts-after : (cuts : List (List ℕ)) (columns : ℕ) (before after : List ExtendedFact) (old new : ViewMaps) → FollowBy before (taken changes) (given changes) after → AreAfter dims changes old new
+  pub AreViewsOfFacts-after : (cuts : List (List ℕ)) (columns : ℕ) (before after : List ExtendedFact) (old new : ViewMaps) → FollowBy before (facts_taken_away changes) (facts_put changes) after → AreAfter dims changes old new
       → AreViewsOfFacts dims cuts columns before old → AreViewsOfFacts dims (map (λ (view : ViewMap). view.depths) new.views) columns after new
   AreViewsOfFacts-after cuts columns before after old new follow is was = record {
     columns_are = is.columns ∙ was.columns_are;

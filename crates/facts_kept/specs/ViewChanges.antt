@@ -10,16 +10,16 @@ use Rattle.view_store.specs.declared.change.ViewChange.{ViewChange}
 use Rattle.view_store.specs.Views.{region_at}
 
 -- the group of a region is put or taken away
-abbrev pub change_of : Bool → List ℕ → Group → ViewChange
-change_of put region g = record { put = put; facts = g.count; den = g.spread.den; region = region; rows = g.spread.rows; cols = g.sums }
+abbrev pub group_change : Bool → List ℕ → Group → ViewChange
+group_change put region g = record { put = put; facts = g.count; den = g.spread.den; region = region; rows = g.spread.rows; cols = g.sums }
 
 -- the group at a code is, where there is one
-abbrev pub changes_of : Bool → List Dimension → ℕ → Option Group → List ViewChange
-changes_of put dims code group = map (change_of put (region_at dims code)) (option_to_list group)
+abbrev pub group_changes : Bool → List Dimension → ℕ → Option Group → List ViewChange
+group_changes put dims code group = map (group_change put (region_at dims code)) (option_to_list group)
 
 -- the groups that there are at these codes are put
 abbrev pub puts_at : List Dimension → Places Group → List ℕ → List ViewChange
-puts_at dims groups codes = flat_map (λ code. changes_of true dims code (value_at groups code)) codes
+puts_at dims groups codes = flat_map (λ code. group_changes true dims code (value_at groups code)) codes
 
 -- where there is a group, the code is that of a region
 abbrev pub IsOfRegion : List Dimension → ℕ → Option Group → Type 0

@@ -6,7 +6,7 @@ ghost use Rattle.fact_records.specs.Shape.{policy_over, width_of_all};
 ghost use Rattle.fact_records.specs.Valid.{AreValid};
 ghost use Rattle.facts_kept.specs.Anew.{AreEmpty, AreGroupsOf, cuts_of};
 ghost use Rattle.facts_kept.specs.Kept.{AreViewsOfFacts, IsCutView};
-ghost use Rattle.facts_kept.specs.ViewChanges.{AreOfRegions, IsOfRegion, change_of, changes_of, puts_at};
+ghost use Rattle.facts_kept.specs.ViewChanges.{AreOfRegions, IsOfRegion, group_change, group_changes, puts_at};
 ghost use Rattle.region_algebra.specs.Space.{region_total};
 ghost use Rattle.view_store.specs.Changes.{FitsView};
 ghost use Rattle.view_store.specs.Facts.{AddsFacts};
@@ -78,8 +78,8 @@ pub fn view_of<P: WeightPolicy>(
 fn put_group(view: &mut View, space: &Space, code: u64, group: &Group) -> Result<(), Memory>
     requires view { IsViewOf space.now view.old }
     requires code { code < region_total space.now }
-    requires fits { FitsView space.now (change_of true (region_at space.now code) group.now ∷ []) view.old }
-    ensures { OnOk result (AddsFacts space.now (change_of true (region_at space.now code) group.now) view.old view.new) }
+    requires fits { FitsView space.now (group_change true (region_at space.now code) group.now ∷ []) view.old }
+    ensures { OnOk result (AddsFacts space.now (group_change true (region_at space.now code) group.now) view.old view.new) }
 {
     let Some(region) = space.uncode(code) else {
         unreachable!()
@@ -113,7 +113,7 @@ pub fn push_change(
     group: Option<&Group>,
 ) -> Result<(), Memory>
     requires { IsOfRegion space.now code (option_copied group) }
-    ensures { OnOk result (changes.new.items ≡ changes.old.items ++ changes_of put space.now code (option_copied group.entry)) }
+    ensures { OnOk result (changes.new.items ≡ changes.old.items ++ group_changes put space.now code (option_copied group.entry)) }
 {
     if let Some(group) = group {
         let Some(region) = space.uncode(code) else {
@@ -126,7 +126,7 @@ pub fn push_change(
 
 /// The change that puts the facts of the group of a region, or takes them away. No row is copied.
 fn change_of(put: bool, region: Region, group: &Group) -> Result<ViewChange, Memory>
-    ensures { IfOk result (λ change. change ≡ change_of put region group.now) }
+    ensures { IfOk result (λ change. change ≡ group_change put region group.now) }
 {
     Ok(ViewChange {
         put,

@@ -19,14 +19,14 @@ use Rattle.fact_keeper.specs.declared.content.Stored.{Stored}
 use Rattle.fact_records.specs.Judge.{judge}
 use Rattle.region_algebra.specs.Space.{IsRegion}
 use Rattle.schema_text.specs.Growth.{dims_with}
-use Rattle.schema_text.specs.Schema.{IsSchema, SchemaValue, policy_in, shape_of, weigh_of}
+use Rattle.schema_text.specs.Schema.{IsSchema, SchemaValue, schema_policy, shape_of, weigh_of}
 use Rattle.script_text.specs.declared.line.Line.{Line}
 use Rattle.script_text.specs.declared.line.Line.TheVariants as line
 use Rattle.script_text.specs.declared.reply.Reply.TheVariants as reply
 use Rattle.script_text.specs.ScriptLine.{line_of}
 use Rattle.script_text.proofs.NamedRegions.{OnFact, line_of-lies}
 use Rattle.script_run.specs.Kept.{apply_all, batches, batches_at, batches_from, batches_of}
-use Rattle.script_run.specs.Run.{State, accepted, grown, replied, run, schema_at, step, step_from, step_of}
+use Rattle.script_run.specs.Run.{State, accepted, growth_step, replied, run, schema_at, step, step_from, step_of}
 use Rattle.row_feed.specs.declared.feed_line.FeedLine.TheVariants as feed
 use Rattle.row_feed.specs.FeedLine.{feed_line_of}
 use Rattle.row_feed.specs.FeedText.{batch_lines, behind_lines, feed_bytes, fields_line, said_fields}
@@ -49,7 +49,7 @@ module _ (base : Option Base) (schema : SchemaValue) where
   weigh = weigh_of schema.policy
 
   abbrev policy : Policy
-  policy = policy_in weigh schema
+  policy = schema_policy weigh schema
 
   -- a follower of a base over this schema, which has a state and so many batches
   abbrev pub work_at : State → ℕ → Work
@@ -123,7 +123,7 @@ module _ (base : Option Base) (schema : SchemaValue) where
     growth-led grow leaf = by_judge (judge_growth policy state.dims state.facts grow) refl
       where
         reached : Option Code → State
-        reached refusal = (option_map_or (λ refusal. replied state (reply.Refused refusal)) refusal (grown weigh schema state grow)).state
+        reached refusal = (option_map_or (λ refusal. replied state (reply.Refused refusal)) refusal (growth_step weigh schema state grow)).state
 
         made : Option Code → List Batch
         made refusal = if is_none refusal then growth_difference policy (schema_at schema state) (dims_with grow state.dims) state.facts ∷ [] else []

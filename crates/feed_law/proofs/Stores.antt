@@ -27,7 +27,7 @@ use Rattle.script_text.specs.declared.line.Line.TheVariants as line
 use Rattle.script_text.specs.declared.reply.Reply.TheVariants as reply
 use Rattle.script_text.specs.ScriptLine.{line_of}
 use Rattle.script_run.specs.Kept.{apply_all, batches, batches_at, batches_from, batches_of}
-use Rattle.script_run.specs.Run.{State, accepted, grown, replied, run, schema_at, step, step_from, step_of}
+use Rattle.script_run.specs.Run.{State, accepted, growth_step, replied, run, schema_at, step, step_from, step_of}
 use Rattle.feed_run.specs.Following.{base_batch}
 use Rattle.store_law.proofs.Alone.{text-alone}
 use Rattle.store_law.proofs.Based.{based-holds}
@@ -79,7 +79,7 @@ module _ (schema : SchemaValue) where
     text-growth grow = by_judge (judge_growth (policy schema) state.dims state.facts grow)
       where
         by_judge : (refusal : Option Code) → (apply_all (if is_none refusal then growth_difference (policy schema) (schema_at schema state) (dims_with grow state.dims) state.facts ∷ [] else []) content).schema
-            ≡ schema_text (schema_at schema (option_map_or (λ refusal. replied state (reply.Refused refusal)) refusal (grown (weigh schema) schema state grow)).state)
+            ≡ schema_text (schema_at schema (option_map_or (λ refusal. replied state (reply.Refused refusal)) refusal (growth_step (weigh schema) schema state grow)).state)
         by_judge (Some refusal) = text
         by_judge None = refl
 

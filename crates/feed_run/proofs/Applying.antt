@@ -10,7 +10,7 @@ use Rattle.fact_keeper.specs.declared.content.Batch.{Batch}
 use Rattle.script_run.specs.Kept.{Commits}
 use Rattle.script_run.specs.Seen.{Wrote}
 use Rattle.script_run.specs.Written.{Broken}
-use Rattle.script_run.specs.ReplyEnds.{ends_from, whole_within}
+use Rattle.script_run.specs.ReplyEnds.{reply_ends_from, whole_within}
 use Rattle.script_run.proofs.Batches.{commits-append}
 use Rattle.script_run.proofs.Texts.{broken_at, broken_behind, concat-append}
 use Rattle.script_run.proofs.Writing.{wrote}
@@ -38,9 +38,9 @@ part-broken text count part =
     let alone : concat (text ∷ []) ≡ text = append-nil text in
     let within : count < length (concat (text ∷ [])) = omega (arith, part, ap length alone) in
     let none : nat_le (0 + length text) count ≡ false = grind (arith, nat_tests) in
-    let whole : whole_within count (ends_from 0 (text ∷ [])) ≡ 0 = rw none refl in
-    let broken : Broken (text ∷ []) (whole_within count (ends_from 0 (text ∷ [])) + 1) (take count (concat (text ∷ []))) = broken_at (text ∷ []) count within in
-    subst (λ w. Broken (text ∷ []) (w + 1) (take count text)) whole (subst (λ t. Broken (text ∷ []) (whole_within count (ends_from 0 (text ∷ [])) + 1) (take count t)) alone broken)
+    let whole : whole_within count (reply_ends_from 0 (text ∷ [])) ≡ 0 = rw none refl in
+    let broken : Broken (text ∷ []) (whole_within count (reply_ends_from 0 (text ∷ [])) + 1) (take count (concat (text ∷ []))) = broken_at (text ∷ []) count within in
+    subst (λ w. Broken (text ∷ []) (w + 1) (take count text)) whole (subst (λ t. Broken (text ∷ []) (whole_within count (reply_ends_from 0 (text ∷ [])) + 1) (take count t)) alone broken)
 
 -- a part of the line of one batch more
 part-behind : (before count : ℕ) → count < length (applied_text (before + 1)) → Broken (applied_texts (before + 1)) (before + 1 + 1) (concat (applied_texts before) ++ take count (applied_text (before + 1)))

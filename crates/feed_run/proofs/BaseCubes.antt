@@ -4,7 +4,7 @@ use Rattle.std.specs.Prelude.{All, AllPairs, filter, not, ◌==◌}
 use Rattle.std.proofs.lemmas.Bool.Decides.{nat_tests}
 use Rattle.std.proofs.lemmas.List.Elements.{All-head, All-tail}
 use Rattle.std.proofs.lemmas.List.Folds.{list_any_at}
-use Rattle.cube_core.specs.Cube.{AreFactsOf, CubeValue, rows_in}
+use Rattle.cube_core.specs.Cube.{AreFactsOf, CubeValue, cube_rows}
 use Rattle.cube_core.specs.Import.{IsImportFaultOf, CountsImportFault, import_difference_in, imported, refused_in_cube}
 use Rattle.cube_core.specs.declared.cube.Receipt.{Receipt}
 use Rattle.cube_core.specs.declared.fault.ImportFault.{ImportFault}
@@ -91,17 +91,17 @@ module _ (schema : SchemaValue) (facts : List Fact) (valid : AreFactsOf schema f
   bare-accepts : refused_in_cube bare (record { facts = facts; bad = None }) ≡ None
   bare-accepts = rw (none-refused (shape_of schema) schema.dims 1 [] facts (new-anew facts valid.ascending (shape_of schema) schema.dims valid.few valid.each)) refl
 
-  bare-rows : rows_in weigh_of (imported facts bare) ≡ extended (policy_of schema) schema.dims facts
+  bare-rows : cube_rows weigh_of (imported facts bare) ≡ extended (policy_of schema) schema.dims facts
   bare-rows = ap (extended (policy_of schema) schema.dims) (put-anew facts valid.ascending)
 
   bare-difference : import_difference_in weigh_of bare facts ≡ record (base_batch schema facts) { schema = None }
   bare-difference = difference-anew (policy_of schema) schema.dims facts valid.ascending
 
-  bare-many : (would : ℕ) → would ≡ row_count (rows_in weigh_of (imported facts bare)) → MAX_ROWS < would → has_many_rows (extended (policy_of schema) schema.dims facts) ≡ true
-  bare-many would is many = let rows : row_count (rows_in weigh_of (imported facts bare)) ≡ row_count (extended (policy_of schema) schema.dims facts) = ap row_count bare-rows in grind (arith, nat_tests, rows)
+  bare-many : (would : ℕ) → would ≡ row_count (cube_rows weigh_of (imported facts bare)) → MAX_ROWS < would → has_many_rows (extended (policy_of schema) schema.dims facts) ≡ true
+  bare-many would is many = let rows : row_count (cube_rows weigh_of (imported facts bare)) ≡ row_count (extended (policy_of schema) schema.dims facts) = ap row_count bare-rows in grind (arith, nat_tests, rows)
 
-  bare-few : row_count (rows_in weigh_of (imported facts bare)) ≤ MAX_ROWS → has_many_rows (extended (policy_of schema) schema.dims facts) ≡ false
-  bare-few few = let rows : row_count (rows_in weigh_of (imported facts bare)) ≡ row_count (extended (policy_of schema) schema.dims facts) = ap row_count bare-rows in grind (arith, nat_tests, rows)
+  bare-few : row_count (cube_rows weigh_of (imported facts bare)) ≤ MAX_ROWS → has_many_rows (extended (policy_of schema) schema.dims facts) ≡ false
+  bare-few few = let rows : row_count (cube_rows weigh_of (imported facts bare)) ≡ row_count (extended (policy_of schema) schema.dims facts) = ap row_count bare-rows in grind (arith, nat_tests, rows)
 
   -- why they are not put
   bare-lacks : (before after : ℕ) (fault : ImportFault) → IsImportFaultOf weigh_of bare (record { facts = facts; bad = None }) fault → CountsImportFault {R = Receipt} before after (Err fault) → LacksCube schema facts before after fault
@@ -114,7 +114,7 @@ module _ (schema : SchemaValue) (facts : List Fact) (valid : AreFactsOf schema f
   bare-lacks before after import_fault.Memory told counts = tt
 
   -- and what they are once they are
-  bare-made : row_count (rows_in weigh_of (imported facts bare)) ≤ MAX_ROWS → IsBaseCube schema facts (imported facts bare)
+  bare-made : row_count (cube_rows weigh_of (imported facts bare)) ≤ MAX_ROWS → IsBaseCube schema facts (imported facts bare)
   bare-made few = record {
     few = bare-few few;
     is_cube = record { policy = refl; schema = refl; facts = put-anew facts valid.ascending };
@@ -131,10 +131,10 @@ module _ (schema : SchemaValue) (facts : List Fact) (valid : AreFactsOf schema f
     pub cube-lacks : (before after : ℕ) (fault : ImportFault) → IsImportFaultOf weigh_of cube seq fault → CountsImportFault {R = Receipt} before after (Err fault) → LacksCube schema facts before after fault
     cube-lacks before after fault told counts = bare-lacks before after fault (subst (λ s. IsImportFaultOf weigh_of bare s fault) seq_is (subst (λ c. IsImportFaultOf weigh_of c seq fault) cube_is told)) counts
 
-    pub cube-made : (made : CubeValue PolicyWord) → made ≡ imported seq.facts cube → row_count (rows_in weigh_of (imported seq.facts cube)) ≤ MAX_ROWS → IsBaseCube schema facts made
+    pub cube-made : (made : CubeValue PolicyWord) → made ≡ imported seq.facts cube → row_count (cube_rows weigh_of (imported seq.facts cube)) ≤ MAX_ROWS → IsBaseCube schema facts made
     cube-made made is few =
         let same : imported seq.facts cube ≡ imported facts bare = ap (λ fs. imported fs cube) facts_are ∙ ap (imported facts) cube_is in
-        subst (IsBaseCube schema facts) (sym (is ∙ same)) (bare-made (subst (λ c. row_count (rows_in weigh_of c) ≤ MAX_ROWS) same few))
+        subst (IsBaseCube schema facts) (sym (is ∙ same)) (bare-made (subst (λ c. row_count (cube_rows weigh_of c) ≤ MAX_ROWS) same few))
 
     pub cube-difference : import_difference_in weigh_of cube seq.facts ≡ record (base_batch schema facts) { schema = None }
     cube-difference = ap (λ fs. import_difference_in weigh_of cube fs) facts_are ∙ ap (λ c. import_difference_in weigh_of c facts) cube_is ∙ bare-difference

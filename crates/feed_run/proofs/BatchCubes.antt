@@ -26,7 +26,7 @@ use Rattle.script_text.specs.declared.reply.Reply.{Reply}
 use Rattle.feed_run.specs.declared.feed_stop.FeedStop.TheVariants as feed_stop
 use Rattle.feed_run.specs.declared.feed_stop.FeedStop.TheVariants.{Bad}
 use Rattle.feed_run.specs.BatchTurn.{TakenBatch}
-use Rattle.feed_run.specs.Following.{Work, batch_judged, batch_line_judged, between, has_word, refusal_in, said_judged, where_it_may}
+use Rattle.feed_run.specs.Following.{Work, batch_judged, batch_line_judged, between_batches, has_word, refusal_in, said_judged, where_it_may}
 use Rattle.feed_run.specs.FollowTurn.{IsCubeAt}
 use Rattle.feed_run.proofs.LeadSteps.{tellable}
 
@@ -110,7 +110,7 @@ told-other work number got applied said count other =
 -- the first line of a batch may stand there, and was read so
 pub line-takes : (work : Work) (cube : CubeValue PolicyWord) → IsCubeAt work cube → (number : ℕ) (line : List ℕ) (read : Result FeedLine Code)
     → where_it_may number line (has_word (codes "batch") line) (batch_line_judged number work (feed_line_of (schema_at work.schema work.state) line)) ≡ batch_line_judged number work (feed_line_of (schema_at work.schema work.state) line)
-    → feed_line_of cube.schema line ≡ read → between number work line ≡ batch_line_judged number work read
+    → feed_line_of cube.schema line ≡ read → between_batches number work line ≡ batch_line_judged number work read
 line-takes work cube at number line read may is =
     may ∙ ap (λ s. batch_line_judged number work (feed_line_of s line)) (sym at.schema) ∙ ap (batch_line_judged number work) is
 
@@ -121,7 +121,7 @@ batch-rows cube said is batch after are cube_is = let told = tellable (weigh_of 
 
 pub line-refused : (work : Work) (cube : CubeValue PolicyWord) → IsCubeAt work cube → (number : ℕ) (line : List ℕ) (why : LineFault) → IsFeedFaultOf cube.schema line why
     → where_it_may number line (has_word (codes "batch") line) (batch_line_judged number work (feed_line_of (schema_at work.schema work.state) line)) ≡ batch_line_judged number work (feed_line_of (schema_at work.schema work.state) line)
-    → (refusal : Code) → why ≡ fault.Code refusal → (stop : PartStop) → stop ≡ part_stop.Feed (Bad number refusal) → StopsBy (λ w. between number work line ≡ Err w) stop
+    → (refusal : Code) → why ≡ fault.Code refusal → (stop : PartStop) → stop ≡ part_stop.Feed (Bad number refusal) → StopsBy (λ w. between_batches number work line ≡ Err w) stop
 line-refused work cube at number line (fault.Code told) refused may refusal is stop stop_is =
     let same : told ≡ refusal = cc is in
     rw stop_is (line-takes work cube at number line (Err told) may refused ∙ ap (λ c. Err (Bad number c)) same)

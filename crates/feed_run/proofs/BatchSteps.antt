@@ -13,7 +13,7 @@ use Rattle.feed_run.specs.declared.follow.FollowStop.TheVariants as follow_stop
 use Rattle.feed_run.specs.declared.part_stop.PartStop.{PartStop}
 use Rattle.feed_run.specs.declared.part_stop.PartStop.TheVariants.{Feed, Input}
 use Rattle.feed_run.specs.BatchTurn.{AtBatch, AtWork, Ends, TakenBatch}
-use Rattle.feed_run.specs.Following.{Base, Between, Within, Work, between, step_at}
+use Rattle.feed_run.specs.Following.{Base, Between, Within, Work, between_batches, step_at}
 use Rattle.feed_run.specs.FollowTurn.{AllTold, AppliesAll, FeedPull, FollowedAs, FollowedBefore, FollowedTo, IsPulledAll, StopsPart, StopsPulling, keeper_between, sink_between}
 use Rattle.feed_run.specs.HeadTurn.{StopsBy}
 use Rattle.feed_run.specs.Keeping.{AppliesBatch}
@@ -56,7 +56,7 @@ work-pulled base start was now feed after cube applied at sink keeper before = r
 
 module _ (base : Option Base) (start was : AllTold) (feed : FeedPull) (cube : CubeValue PolicyWord) (applied : ℕ) (at : AtBatch base start was feed cube applied) where
   -- its first line is refused
-  pub take-stops : (stop : PartStop) → StopsBy (λ why. between feed.count at.work feed.line ≡ Err why) stop → Ends {T = Unit {0}} base start was (Err (at_part applied stop))
+  pub take-stops : (stop : PartStop) → StopsBy (λ why. between_batches feed.count at.work feed.line ≡ Err why) stop → Ends {T = Unit {0}} base start was (Err (at_part applied stop))
   take-stops (Feed why) refused =
       part-ends base start was feed at.batches applied (Feed why)
       (subst (λ n. StopsPart base start.source was.source feed at.batches n (Feed why)) at.count (stops-at base start.source was.source feed (Between at.work) at.batches why at.followed (step-between base feed.count at.work feed.line ∙ refused)))
@@ -64,7 +64,7 @@ module _ (base : Option Base) (start was : AllTold) (feed : FeedPull) (cube : Cu
   take-stops (Input stop) is = rw is (memory-before base start was feed (Between at.work) at.batches applied at.count at.applies at.followed)
 
   -- or its lines are to come
-  module _ (batch : Batch) (after : CubeValue PolicyWord) (taken : TakenBatch at.work (between feed.count at.work feed.line) after batch) where
+  module _ (batch : Batch) (after : CubeValue PolicyWord) (taken : TakenBatch at.work (between_batches feed.count at.work feed.line) after batch) where
     pub lines-begin : FollowedTo base start.source was.source feed (Within taken.later batch (behind_lines after.schema.dims batch)) at.batches
     lines-begin =
         let dims : taken.later.state.dims ≡ after.schema.dims = sym (ap (λ s. s.dims) taken.is_cube.schema) in

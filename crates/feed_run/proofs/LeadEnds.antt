@@ -28,7 +28,7 @@ use Rattle.script_run.proofs.FrontRuns.{batches-front, kept_at-front, run-front}
 use Rattle.script_run.proofs.Keeping.{kept_at-gave_up, kept_at-more}
 use Rattle.script_run.proofs.Writing.{answered-more, breaks_off-more, breaks_off_whole}
 use Rattle.feed_run.specs.declared.lead.LeadRun.{LeadRun}
-use Rattle.feed_run.specs.Leading.{EndsLead, LeadBroke, Leader, LedTaken, base_text, batches_by, in_parts, outcome_of, texts_of}
+use Rattle.feed_run.specs.Leading.{EndsLead, LeadBroke, Leader, LedTaken, base_text, batches_by, in_parts, leader_outcome, texts_of}
 use Rattle.feed_run.specs.LeadTurn.{IsFew, SendsText, state_in}
 use Rattle.feed_run.specs.Pulling.{AreFirst, IsNearLine, Pulled, PulledAll, Pulls}
 use Rattle.feed_run.proofs.Leads.{HasLed, IsAtLast, LedBroke, Outlets, keeper_from, leader_of, sink_from}
@@ -60,8 +60,8 @@ leading-few leader source later start now input run leads = record {
 
 -- lines by their fronts
 module _ (leader : Leader) (lines all : List (List ℕ)) (fronts : lines ≡ map front all) where
-  outcome-fronts : outcome_of leader lines ≡ outcome_of leader all
-  outcome-fronts = ap (outcome_of leader) fronts ∙ run-front leader.weigh leader.schema leader.first all
+  outcome-fronts : leader_outcome leader lines ≡ leader_outcome leader all
+  outcome-fronts = ap (leader_outcome leader) fronts ∙ run-front leader.weigh leader.schema leader.first all
 
   batches-fronts : batches_by leader lines ≡ batches_by leader all
   batches-fronts = ap (batches_by leader) fronts ∙ batches-front leader.weigh leader.schema leader.first all

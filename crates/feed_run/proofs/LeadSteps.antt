@@ -27,7 +27,7 @@ use Rattle.fact_records.specs.Judge.{judge}
 use Rattle.fact_records.specs.Valid.{IsEditOf}
 use Rattle.region_algebra.proofs.Growing.{grown_dims-at}
 use Rattle.schema_text.specs.Growth.{IsGrowOf, dims_with}
-use Rattle.schema_text.specs.Schema.{SchemaValue, policy_in, shape_of, weigh_of}
+use Rattle.schema_text.specs.Schema.{SchemaValue, schema_policy, shape_of, weigh_of}
 use Rattle.schema_text.specs.declared.word.PolicyWord.{PolicyWord}
 use Rattle.script_text.specs.declared.line.Line.{Line}
 use Rattle.script_text.specs.declared.line.Line.TheVariants as line
@@ -37,7 +37,7 @@ use Rattle.script_text.specs.LineOf.{IsLineOf}
 use Rattle.script_text.specs.ScriptLine.{line_of}
 use Rattle.script_run.specs.declared.break_off.BreakOff.{BreakOff}
 use Rattle.script_run.specs.Kept.{batches_at, batches_from}
-use Rattle.script_run.specs.Run.{State, accepted, cube_at, grown as growing, refusals_in, replied, schema_at, state_of, step_from}
+use Rattle.script_run.specs.Run.{State, accepted, cube_at, growth_step, refusals_in, replied, schema_at, state_of, step_from}
 use Rattle.script_run.specs.Seen.{KeeperSeen, SinkSeen}
 use Rattle.script_run.proofs.Batches.{batches-read}
 use Rattle.script_run.proofs.Steps.{step-read}
@@ -55,8 +55,8 @@ one_or_none false batch = omega arith
 pub few_batches : (weigh : CellStat → ℕ) (schema : SchemaValue) (state : State) (read : Result Line Code) → length (batches_from weigh schema state read) ≤ 1
 few_batches weigh schema state (Err refusal) = omega arith
 few_batches weigh schema state (Ok line.Nothing) = omega arith
-few_batches weigh schema state (Ok (line.Edit change)) = one_or_none (is_none (judge (policy_in weigh schema) (shape_of schema) state.dims change state.facts)) _
-few_batches weigh schema state (Ok (line.Grow grow)) = one_or_none (is_none (judge_growth (policy_in weigh schema) state.dims state.facts grow)) _
+few_batches weigh schema state (Ok (line.Edit change)) = one_or_none (is_none (judge (schema_policy weigh schema) (shape_of schema) state.dims change state.facts)) _
+few_batches weigh schema state (Ok (line.Grow grow)) = one_or_none (is_none (judge_growth (schema_policy weigh schema) state.dims state.facts grow)) _
 few_batches weigh schema state (Ok (line.Ask asked)) = omega arith
 
 pub few_batches_at : (weigh : CellStat → ℕ) (schema : SchemaValue) (state : State) (bytes : List ℕ) → length (batches_at weigh schema state bytes) ≤ 1
@@ -151,7 +151,7 @@ tellable weigh schema facts (Ok (line.Ask asked)) (Some batch) is are = cc are
 tellable weigh schema facts (Ok (line.Edit change)) (Some batch) is are = by_judge (judge policy (shape_of schema) schema.dims change facts) are
   where
     policy : Policy
-    policy = policy_in weigh schema
+    policy = schema_policy weigh schema
 
     state : State
     state = record { dims = schema.dims; facts = facts }
@@ -164,14 +164,14 @@ tellable weigh schema facts (Ok (line.Edit change)) (Some batch) is are = by_jud
 tellable weigh schema facts (Ok (line.Grow grow)) (Some batch) is are = by_judge (judge_growth policy schema.dims facts grow) are
   where
     policy : Policy
-    policy = policy_in weigh schema
+    policy = schema_policy weigh schema
 
     state : State
     state = record { dims = schema.dims; facts = facts }
 
     by_judge : (refused : Option Code) → batch ∷ [] ≡ (if is_none refused then growth_difference policy (schema_at schema state) (dims_with grow schema.dims) facts ∷ [] else [])
-        → IsSaid (schema_at schema (option_map_or (λ refusal. replied state (Refused refusal)) refused (growing weigh schema state grow)).state) (line.Grow grow)
-        × AreRowsOf (option_map_or (λ refusal. replied state (Refused refusal)) refused (growing weigh schema state grow)).state.dims batch.rows
+        → IsSaid (schema_at schema (option_map_or (λ refusal. replied state (Refused refusal)) refused (growth_step weigh schema state grow)).state) (line.Grow grow)
+        × AreRowsOf (option_map_or (λ refusal. replied state (Refused refusal)) refused (growth_step weigh schema state grow)).state.dims batch.rows
     by_judge None same = (parent_there schema.dims grow is, subst (λ l. AreRowsOf (dims_with grow schema.dims) (head_rows l)) (sym same) (rows_kept policy (dims_with grow schema.dims) facts _))
     by_judge (Some refusal) same = cc same
 

@@ -11,7 +11,7 @@ use Rattle.script_text.specs.ScriptLine.{line_of}
 use Rattle.script_run.specs.Kept.{batches, batches_at}
 use Rattle.script_run.specs.Run.{State, Step, run, schema_at, step}
 use Rattle.script_run.proofs.FrontRuns.{batches_at-front, line_of-any_front, step-front}
-use Rattle.feed_run.specs.Leading.{Leader, base_text, batches_by, feed_from, outcome_of, text_at, text_from, texts_of}
+use Rattle.feed_run.specs.Leading.{Leader, base_text, batches_by, feed_from, leader_outcome, text_at, text_from, texts_of}
 
 -- lines behind others
 pub feed_from-append : (weigh : CellStat → ℕ) (schema : SchemaValue) (state : State) (before : ℕ) (lines more : List (List ℕ))
@@ -36,15 +36,15 @@ length-texts leader lines = omega (arith, length-feed_from leader.weigh leader.s
 
 -- the texts of more lines begin with those of the first
 pub texts-append : (leader : Leader) (lines more : List (List ℕ))
-    → texts_of leader (lines ++ more) ≡ texts_of leader lines ++ feed_from leader.weigh leader.schema (outcome_of leader lines).state (0 + length (batches_by leader lines)) more
+    → texts_of leader (lines ++ more) ≡ texts_of leader lines ++ feed_from leader.weigh leader.schema (leader_outcome leader lines).state (0 + length (batches_by leader lines)) more
 texts-append leader lines more = ap (λ l. base_text leader.schema leader.first ∷ l) (feed_from-append leader.weigh leader.schema leader.first 0 lines more)
 
 -- one line more
 pub texts-push : (leader : Leader) (lines : List (List ℕ)) (line : List ℕ)
-    → texts_of leader (lines ++ line ∷ []) ≡ texts_of leader lines ++ text_at leader.weigh leader.schema (outcome_of leader lines).state (length (batches_by leader lines)) line ∷ []
+    → texts_of leader (lines ++ line ∷ []) ≡ texts_of leader lines ++ text_at leader.weigh leader.schema (leader_outcome leader lines).state (length (batches_by leader lines)) line ∷ []
 texts-push leader lines line =
     let count : 0 + length (batches_by leader lines) ≡ length (batches_by leader lines) = omega arith in
-    texts-append leader lines (line ∷ []) ∙ ap (λ n. texts_of leader lines ++ text_at leader.weigh leader.schema (outcome_of leader lines).state n line ∷ []) count
+    texts-append leader lines (line ∷ []) ∙ ap (λ n. texts_of leader lines ++ text_at leader.weigh leader.schema (leader_outcome leader lines).state n line ∷ []) count
 
 -- a line is told as its front is
 text_at-front : (weigh : CellStat → ℕ) (schema : SchemaValue) (state : State) (before : ℕ) (line : List ℕ) → text_at weigh schema state before (front line) ≡ text_at weigh schema state before line

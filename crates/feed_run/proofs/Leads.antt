@@ -24,7 +24,7 @@ use Rattle.script_run.proofs.Steps.{step-here}
 use Rattle.script_run.proofs.Texts.{concat-append}
 use Rattle.script_run.proofs.Writing.{breaks_off-more, breaks_off_keep, breaks_off_whole}
 use Rattle.feed_run.specs.declared.lead.LeadRun.{LeadRun}
-use Rattle.feed_run.specs.Leading.{Leader, base_text, batches_by, in_parts, outcome_of, text_at, texts_of}
+use Rattle.feed_run.specs.Leading.{Leader, base_text, batches_by, in_parts, leader_outcome, text_at, texts_of}
 use Rattle.feed_run.specs.LeadTurn.{BreaksAt, IsBegun, KeptAll, KeptNothing, Leads, SentNothing, SentPart, state_in, weigh_in}
 use Rattle.feed_run.proofs.LeadSteps.{few_batches_at, few_refusals}
 use Rattle.feed_run.proofs.LeadStops.{part_broke}
@@ -59,11 +59,11 @@ leader_of run = record { weigh = weigh_in run; schema = run.cube.schema; first =
 -- These lines are done, and their texts written. None of the sink and the keeper had a fault.
 pub record HasLed (leader : Leader) (lines : List (List ℕ)) (start now : Outlets) (run : LeadRun) : Type 0 where
   pub weighs : leader.weigh ≡ weigh_in run
-  pub schema_now : run.cube.schema ≡ schema_at leader.schema (outcome_of leader lines).state
-  pub facts : run.cube.facts ≡ (outcome_of leader lines).state.facts
+  pub schema_now : run.cube.schema ≡ schema_at leader.schema (leader_outcome leader lines).state
+  pub facts : run.cube.facts ≡ (leader_outcome leader lines).state.facts
   pub told : run.told ≡ length (batches_by leader lines)
   pub done : run.done ≡ length lines
-  pub refused : run.refused ≡ (outcome_of leader lines).refused
+  pub refused : run.refused ≡ (leader_outcome leader lines).refused
   pub fewer_told : run.told ≤ run.done
   pub fewer_refused : run.refused ≤ run.done
   pub wrote : Appends start.taken now.taken (concat (texts_of leader lines))
@@ -107,7 +107,7 @@ pub record LedBroke (leader : Leader) (lines : List (List ℕ)) (start now : Out
 module _ (leader : Leader) (lines : List (List ℕ)) (line : List ℕ) (start now after : Outlets) (old : LeadRun) (has : HasLed leader lines start now old) where
   -- what the line does behind those that are done
   abbrev here : State
-  here = (outcome_of leader lines).state
+  here = (leader_outcome leader lines).state
 
   abbrev committed : List Batch
   committed = batches_at leader.weigh leader.schema here line
@@ -138,7 +138,7 @@ module _ (leader : Leader) (lines : List (List ℕ)) (line : List ℕ) (start no
       → HasLed leader all start after new
   led-push new leads =
       let said = step (weigh_in old) old.cube.schema (state_in old) line in
-      let state_now : said.state ≡ (outcome_of leader all).state = ap (λ (s : Step). s.state) step_is ∙ sym (state-push leader.weigh leader.schema leader.first lines line) in
+      let state_now : said.state ≡ (leader_outcome leader all).state = ap (λ (s : Step). s.state) step_is ∙ sym (state-push leader.weigh leader.schema leader.first lines line) in
       let push = batches-push leader.weigh leader.schema leader.first lines line in
       let texts = texts_of leader lines in
       let whole : concat texts ++ text ≡ concat (texts_of leader all) = sym (ap concat (texts-push leader lines line) ∙ concat-append texts (text ∷ []) ∙ ap (λ l. concat texts ++ l) (append-nil text)) in

@@ -4,7 +4,7 @@ use Rattle.std.specs.Prelude.{◌==◌, if◌then◌else◌}
 use Rattle.std.specs.List.{onto_first}
 use Rattle.std.specs.Option.{option_map_or}
 use Rattle.cube_base.specs.declared.code.Code.{Code}
-use Rattle.schema_text.specs.SchemaText.{BadLine, Draft, ReadLines, ReadSchema, blank_draft, is_end, line_fault, read_from, schema_of, schema_of_draft, sized, with_line}
+use Rattle.schema_text.specs.SchemaText.{BadLine, Draft, ReadLines, ReadSchema, blank_draft, draft_line_fault, is_end, read_from, schema_of, schema_of_draft, sized, with_line}
 use Rattle.text_lines.specs.LineText.{is_skipped}
 use Rattle.text_lines.specs.Text.{lines_of}
 
@@ -15,7 +15,7 @@ line_of_bad (Err bad) = bad.line
 bad-within : (draft : Draft) (k : ℕ) (lines : List (List ℕ)) → line_of_bad (read_from draft k lines) ≤ k + length lines + 1
 bad-within draft k [] = omega arith
 bad-within draft k (line ∷ lines) =
-    either (is_skipped line) (line_fault draft line) (is_end line) (bad-within draft (k + 1) lines) (bad-within (with_line draft line) (k + 1) lines)
+    either (is_skipped line) (draft_line_fault draft line) (is_end line) (bad-within draft (k + 1) lines) (bad-within (with_line draft line) (k + 1) lines)
   where
     either : (skipped : Bool) (fault : Option Code) (ends : Bool) → line_of_bad (read_from draft (k + 1) lines) ≤ k + 1 + length lines + 1 → line_of_bad (read_from (with_line draft line) (k + 1) lines) ≤ k + 1 + length lines + 1
         → line_of_bad (if skipped then read_from draft (k + 1) lines

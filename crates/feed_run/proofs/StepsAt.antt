@@ -3,7 +3,7 @@ use Rattle.std.proofs.Common.{◌≡◌, ℕ, List, Option, refl}
 use Rattle.cube_model.specs.declared.edit.Fact.{Fact}
 use Rattle.fact_keeper.specs.declared.content.Batch.{Batch}
 use Rattle.schema_text.specs.Schema.{SchemaValue}
-use Rattle.feed_run.specs.Following.{AtStart, Base, Between, InBase, InSchema, Within, Work, at_start, between, in_base, in_schema, step_at, within}
+use Rattle.feed_run.specs.Following.{AtStart, Base, Between, InBase, InSchema, Within, Work, at_start, between_batches, in_base, in_schema, step_at, within_batch}
 
 pub step-start : (base : Option Base) (n : ℕ) (line : List ℕ) → step_at base n AtStart line ≡ at_start n line
 unfolding step_at
@@ -17,10 +17,10 @@ pub step-base : (base : Option Base) (n : ℕ) (schema : SchemaValue) (facts : L
 unfolding step_at
 step-base base n schema facts line = refl
 
-pub step-between : (base : Option Base) (n : ℕ) (work : Work) (line : List ℕ) → step_at base n (Between work) line ≡ between n work line
+pub step-between : (base : Option Base) (n : ℕ) (work : Work) (line : List ℕ) → step_at base n (Between work) line ≡ between_batches n work line
 unfolding step_at
 step-between base n work line = refl
 
-pub step-within : (base : Option Base) (n : ℕ) (work : Work) (batch : Batch) (left : List (List ℕ)) (line : List ℕ) → step_at base n (Within work batch left) line ≡ within n work batch left line
+pub step-within : (base : Option Base) (n : ℕ) (work : Work) (batch : Batch) (left : List (List ℕ)) (line : List ℕ) → step_at base n (Within work batch left) line ≡ within_batch n work batch left line
 unfolding step_at
 step-within base n work batch left line = refl

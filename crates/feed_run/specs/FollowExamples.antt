@@ -10,8 +10,8 @@ line [] = []
 line (first ∷ fields) = fields_line first fields
 
 -- one dimension with the leaves b and c below a, no measure, and cells that weigh as many facts as they have
-abbrev pub schema_lines : List (List ℕ)
-schema_lines =
+abbrev pub small_schema_lines : List (List ℕ)
+small_schema_lines =
     line (codes "cube" ∷ codes "1" ∷ []) ∷ line (codes "policy" ∷ codes "count" ∷ []) ∷ line (codes "dimension" ∷ codes "D" ∷ [])
     ∷ line (codes "node" ∷ codes "0" ∷ codes "a" ∷ []) ∷ line (codes "node" ∷ codes "1" ∷ codes "b" ∷ []) ∷ line (codes "node" ∷ codes "1" ∷ codes "c" ∷ []) ∷ codes "end" ∷ []
 
@@ -21,11 +21,11 @@ fact id node = line (codes "fact" ∷ id ∷ node ∷ [])
 
 -- the first lines of a feed, up to those of the facts
 abbrev pub head : List (List ℕ)
-head = line (codes "feed" ∷ codes "1" ∷ []) ∷ schema_lines
+head = line (codes "feed" ∷ codes "1" ∷ []) ∷ small_schema_lines
 
 -- the base with one fact on b, which has ten lines
-abbrev pub base_lines : List (List ℕ)
-base_lines = head ++ fact (codes "1") (codes "b") ∷ codes "based" ∷ []
+abbrev pub small_base_lines : List (List ℕ)
+small_base_lines = head ++ fact (codes "1") (codes "b") ∷ codes "based" ∷ []
 
 -- the line of a batch, and that of the row of b
 abbrev pub batch : List ℕ → List (List ℕ) → List ℕ
@@ -46,16 +46,16 @@ abbrev pub batch_with : List ℕ → List ℕ → List (List ℕ)
 batch_with number weight = batch number put_anywhere ∷ rows_of_2 ∷ row_of_b weight ∷ codes "done" ∷ []
 
 -- the whole feed
-abbrev pub feed_of : List ℕ → List ℕ → List (List ℕ)
-feed_of number weight = base_lines ++ batch_with number weight
+abbrev pub small_feed : List ℕ → List ℕ → List (List ℕ)
+small_feed number weight = small_base_lines ++ batch_with number weight
 
 -- a store with a fact on a node of that number, and one of another schema
 abbrev pub store_with : ℕ → Option Base
-store_with node = Some (record { text = feed_bytes schema_lines; facts = record { id = 1; region = node ∷ []; cols = [] } ∷ [] })
+store_with node = Some (record { text = feed_bytes small_schema_lines; facts = record { id = 1; region = node ∷ []; cols = [] } ∷ [] })
 
 abbrev pub other_store : Option Base
 other_store = Some (record { text = codes "cube"; facts = [] })
 
 -- what is after the base where there was nothing in the store
 abbrev pub refused_behind : List (List ℕ) → Option FeedStop
-refused_behind lines = refusal_of None (base_lines ++ lines)
+refused_behind lines = refusal_of None (small_base_lines ++ lines)

@@ -183,8 +183,8 @@ batch_line_judged n work (Ok (feed.Fact fact)) = Err (feed_stop.Bad n code.Order
 batch_line_judged n work (Ok feed.Based) = Err (feed_stop.Bad n code.Order)
 batch_line_judged n work (Ok feed.Other) = Err (feed_stop.Bad n code.Order)
 
-abbrev pub between : ℕ → Work → List ℕ → Result Moved FeedStop
-between n work line = where_it_may n line (has_word (codes "batch") line) (batch_line_judged n work (feed_line_of (schema_at work.schema work.state) line))
+abbrev pub between_batches : ℕ → Work → List ℕ → Result Moved FeedStop
+between_batches n work line = where_it_may n line (has_word (codes "batch") line) (batch_line_judged n work (feed_line_of (schema_at work.schema work.state) line))
 
 -- a line that is the next of a batch: once it was the last, the batch is committed
 abbrev pub line_done : Work → Batch → List (List ℕ) → Moved
@@ -197,17 +197,17 @@ differs n work line =
     if is_long line then feed_stop.Bad n code.Long
     else (if not (is_clean line) then feed_stop.Bad n code.Text else feed_stop.Differs (work.applied + 1) n)
 
-abbrev pub within : ℕ → Work → Batch → List (List ℕ) → List ℕ → Result Moved FeedStop
-within n work batch [] line = Err (differs n work line)
-within n work batch (expected ∷ left) line = if bytes_eq expected line then Ok (line_done work batch left) else Err (differs n work line)
+abbrev pub within_batch : ℕ → Work → Batch → List (List ℕ) → List ℕ → Result Moved FeedStop
+within_batch n work batch [] line = Err (differs n work line)
+within_batch n work batch (expected ∷ left) line = if bytes_eq expected line then Ok (line_done work batch left) else Err (differs n work line)
 
 -- what the n-th line of a feed does
 unfoldable pub step_at : Option Base → ℕ → Place → List ℕ → Result Moved FeedStop
 step_at base n AtStart line = at_start n line
 step_at base n (InSchema before) line = in_schema before line
 step_at base n (InBase schema facts) line = in_base base n schema facts line
-step_at base n (Between work) line = between n work line
-step_at base n (Within work batch left) line = within n work batch left line
+step_at base n (Between work) line = between_batches n work line
+step_at base n (Within work batch left) line = within_batch n work batch left line
 
 -- What lines do: where they lead, or where the last that did was; what is committed; why they stop, if they do; and how many are looked at.
 pub record Followed : Type 0 where

@@ -90,14 +90,14 @@ IsTellable schema (Ok said) found = IfSome found (λ batch. IsSaid schema said �
 IsTellable schema (Err refusal) found = found ≡ None
 
 -- What the keeping and telling of it does.
-pub record Tells (read : Result Line Code) (found : Option Batch) (old new : LeadRun) (sink : SinkSeen) (keeper : KeeperSeen) : Type 0 where
+pub record KeepsAndTells (read : Result Line Code) (found : Option Batch) (old new : LeadRun) (sink : SinkSeen) (keeper : KeeperSeen) : Type 0 where
   pub run : new ≡ record old { told = old.told + length (option_to_list found) }
   pub wrote : Appends sink.taken sink.taken_after (read_text old.cube.schema (old.told + 1) read (option_to_list found))
   pub write : NoWriteFault sink
   pub kept : KeptAll (option_to_list found) keeper
 
 abbrev pub TellsBatch : {T : Type 0} → Result Line Code → Option Batch → LeadRun → LeadRun → SinkSeen → KeeperSeen → Result T BreakOff → Type 0
-TellsBatch read found old new sink keeper (Ok _) = Tells read found old new sink keeper
+TellsBatch read found old new sink keeper (Ok _) = KeepsAndTells read found old new sink keeper
 TellsBatch read found old new sink keeper (Err off) = BreaksAt (read_text old.cube.schema (old.told + 1) read (option_to_list found)) (option_to_list found) old.done sink keeper off
 
 -- A line is done on the cube, what it commits is kept, and its text written.

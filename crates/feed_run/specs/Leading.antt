@@ -62,8 +62,8 @@ pub record Leader : Type 0 where
   pub first : State
 
 -- what lines do on it, what they commit, and the texts
-abbrev pub outcome_of : Leader → List (List ℕ) → Outcome
-outcome_of leader lines = run leader.weigh leader.schema leader.first lines
+abbrev pub leader_outcome : Leader → List (List ℕ) → Outcome
+leader_outcome leader lines = run leader.weigh leader.schema leader.first lines
 
 abbrev pub batches_by : Leader → List (List ℕ) → List Batch
 batches_by leader lines = batches leader.weigh leader.schema leader.first lines
@@ -85,7 +85,7 @@ pub record LedAll (leader : Leader) (seen : SeenAll) (refused : ℕ) : Type 0 wh
   pub bytes : Consumes seen.source.left seen.source.left_after taken
   pub few : length taken ≤ INPUT_LIMIT
   pub end : IsAtEnd seen.source.left_after
-  pub count : refused ≡ (outcome_of leader (lines_of taken)).refused
+  pub count : refused ≡ (leader_outcome leader (lines_of taken)).refused
   pub wrote : Appends seen.sink.taken seen.sink.taken_after (concat (texts_of leader (lines_of taken)))
   pub write : NoWriteFault seen.sink
   pub kept : Commits (batches_by leader (lines_of taken)) seen.keeper.told seen.keeper.told_after

@@ -8,7 +8,7 @@ ghost use Rattle.row_feed.specs.FeedLine.{IsChangeOf, IsFeedLineOf};
 ghost use Rattle.row_feed.specs.FeedText.{AreRowsOf, behind_lines};
 ghost use Rattle.schema_text.specs.declared.word.PolicyWord.{PolicyWord as PolicyValue};
 ghost use Rattle.feed_run.specs.BatchTurn.{AtBatch, AtWork, Ends, FollowsBatch, TakenBatch, TakesBatch};
-ghost use Rattle.feed_run.specs.Following.{Base, Within, Work, batch_judged, batch_line_judged, between, differs, has_word, refusal_in};
+ghost use Rattle.feed_run.specs.Following.{Base, Within, Work, batch_judged, batch_line_judged, between_batches, differs, has_word, refusal_in};
 ghost use Rattle.feed_run.specs.FollowTurn.{AllTold, AreFew, AreFewer, FollowedBefore, FollowedTo, IsCubeAt, StopsPart, all_told};
 
 use crate::catcher::{LineDone, do_caught};
@@ -112,7 +112,7 @@ fn finish_batch<S: Source, K: Sink, Q: Keeper>(
     requires rows { AreRowsOf schema.now.dims batch.now.rows }
     requires open { IsTrue (Q.tells keeper.old).is_open }
     ensures follows { (base : Option Base) (start : AllTold) (before after : CubeValue PolicyValue) (at : AtBatch base start (all_told S.tells K.tells Q.tells source.old out.old keeper.old) feed.old before applied)
-        → after.schema ≡ schema.now → TakenBatch at.work (between feed.old.count at.work feed.old.line) after batch.now
+        → after.schema ≡ schema.now → TakenBatch at.work (between_batches feed.old.count at.work feed.old.line) after batch.now
         → FollowsBatch base start (all_told S.tells K.tells Q.tells source.new out.new keeper.new) feed.new after applied result }
     ensures few { OnOk result (AreFewer feed.old feed.new) }
     ensures stays_open { StaysOpen (Q.tells keeper.old) (Q.tells keeper.new) }
@@ -137,7 +137,7 @@ fn take_batch(
     line: &[u8],
 ) -> Result<Batch, PartStop>
     requires { applied < 2 ^ 62 }
-    ensures takes { (work : Work) → IsCubeAt work cube.old → work.applied ≡ applied → TakesBatch work (between number work line.now) cube.new result }
+    ensures takes { (work : Work) → IsCubeAt work cube.old → work.applied ≡ applied → TakesBatch work (between_batches number work line.now) cube.new result }
     ensures rows { IfOk result (λ batch. AreRowsOf cube.new.schema.dims batch.rows) }
 {
     judge_place(number, line, is_batch_line(line))?;

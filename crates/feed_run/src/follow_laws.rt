@@ -2,24 +2,24 @@
 ghost use Rattle.std.specs.Prelude.{◌≡◌, ◌∷◌, ◌++◌, [], None, Some, codes, length, map, take};
 ghost use Rattle.cube_base.specs.declared.code.Code.TheVariants as code;
 ghost use Rattle.feed_run.specs.declared.feed_stop.FeedStop.TheVariants as feed_stop;
-ghost use Rattle.feed_run.specs.FollowExamples.{base_lines, batch, batch_with, fact, feed_of, head, line, other_store, put_anywhere, refused_behind, row_of_b, rows_of_2, store_with};
+ghost use Rattle.feed_run.specs.FollowExamples.{batch, batch_with, fact, head, line, other_store, put_anywhere, refused_behind, row_of_b, rows_of_2, small_base_lines, small_feed, store_with};
 ghost use Rattle.feed_run.specs.Following.{applied_at, followed, refusal_of};
 
 /// A feed of a base with one fact and of one batch, over a store with nothing in it, and over one that holds the base. It ends otherwise
 /// where the batch has another number, where the weight is another one, where its last line is missing, and over other stores.
 pub fn worked_feed()
-    ensures taken { refusal_of None (feed_of (codes "1") (codes "1")) ≡ None }
-    ensures commits { length (followed None (feed_of (codes "1") (codes "1"))).batches ≡ 2 }
-    ensures applied { applied_at (followed None (feed_of (codes "1") (codes "1"))).place ≡ 1 }
-    ensures over_the_base { refusal_of (store_with 1) (feed_of (codes "1") (codes "1")) ≡ None }
-    ensures commits_one { length (followed (store_with 1) (feed_of (codes "1") (codes "1"))).batches ≡ 1 }
-    ensures order { refusal_of None (feed_of (codes "2") (codes "1")) ≡ Some (feed_stop.Order 1 2) }
-    ensures weight { refusal_of None (feed_of (codes "1") (codes "2")) ≡ Some (feed_stop.Differs 1 13) }
-    ensures cut { refusal_of None (take 13 (feed_of (codes "1") (codes "1"))) ≡ Some (feed_stop.Bad 14 code.Cut) }
-    ensures base_alone { length (followed None (take 13 (feed_of (codes "1") (codes "1")))).batches ≡ 1 }
-    ensures other_fact { refusal_of (store_with 2) (feed_of (codes "1") (codes "1")) ≡ Some (feed_stop.Base (Some 0)) }
-    ensures nothing_stored { (followed (store_with 2) (feed_of (codes "1") (codes "1"))).batches ≡ [] }
-    ensures other_schema { refusal_of other_store base_lines ≡ Some (feed_stop.Base None) }
+    ensures taken { refusal_of None (small_feed (codes "1") (codes "1")) ≡ None }
+    ensures commits { length (followed None (small_feed (codes "1") (codes "1"))).batches ≡ 2 }
+    ensures applied { applied_at (followed None (small_feed (codes "1") (codes "1"))).place ≡ 1 }
+    ensures over_the_base { refusal_of (store_with 1) (small_feed (codes "1") (codes "1")) ≡ None }
+    ensures commits_one { length (followed (store_with 1) (small_feed (codes "1") (codes "1"))).batches ≡ 1 }
+    ensures order { refusal_of None (small_feed (codes "2") (codes "1")) ≡ Some (feed_stop.Order 1 2) }
+    ensures weight { refusal_of None (small_feed (codes "1") (codes "2")) ≡ Some (feed_stop.Differs 1 13) }
+    ensures cut { refusal_of None (take 13 (small_feed (codes "1") (codes "1"))) ≡ Some (feed_stop.Bad 14 code.Cut) }
+    ensures base_alone { length (followed None (take 13 (small_feed (codes "1") (codes "1")))).batches ≡ 1 }
+    ensures other_fact { refusal_of (store_with 2) (small_feed (codes "1") (codes "1")) ≡ Some (feed_stop.Base (Some 0)) }
+    ensures nothing_stored { (followed (store_with 2) (small_feed (codes "1") (codes "1"))).batches ≡ [] }
+    ensures other_schema { refusal_of other_store small_base_lines ≡ Some (feed_stop.Base None) }
 {}
 
 /// What is refused of a base: its order, its facts, and where it ends.

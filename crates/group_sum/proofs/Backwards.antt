@@ -10,7 +10,7 @@ use Rattle.cube_model.specs.Answer.{term_of}
 use Rattle.cube_model.specs.Limits.{WIDE}
 use Rattle.group_sum.specs.Terms.{are_terms_from, is_term}
 use Rattle.group_sum.specs.Place.{no_term, term_at}
-use Rattle.group_sum.specs.Heads.{AreWithin, IsTotal, IsTermOf, sum_in, count_in, total_in}
+use Rattle.group_sum.specs.Heads.{AreWithin, IsTotal, IsTermOf, head_sum, head_count, total_in}
 use Rattle.group_sum.specs.Merge.{FitsMerge, Merges}
 use Rattle.group_sum.specs.Back.{missing_in}
 use Rattle.group_sum.proofs.Ascending.{first_is, first_then, term_of_below, term_of_at}
@@ -66,8 +66,8 @@ term_of-front (t ∷ front) back d none = elim (cases_eq t.den d) [
 
 -- a numerator of a term, the count's first; 0 where there is no term
 abbrev pub value : ℕ → Option Term → ℤ
-value zero term = pos (count_in term)
-value (suc k) term = sum_in term k
+value zero term = pos (head_count term)
+value (suc k) term = head_sum term k
 
 value_none : (c : ℕ) → value c None ≡ pos 0
 value_none zero = refl

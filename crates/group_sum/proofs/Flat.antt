@@ -11,7 +11,7 @@ use Rattle.std.proofs.lemmas.List.Concat.{flat_map-append}
 use Rattle.cube_model.specs.declared.term.Term.{Term}
 use Rattle.cube_base.proofs.Search.{Searched}
 use Rattle.group_sum.specs.Place.{term_at, no_term}
-use Rattle.group_sum.specs.Rows.{IsFlat, denominators, have_columns, numerators, row_of, row_term, terms_in, IsRow}
+use Rattle.group_sum.specs.Rows.{IsFlat, denominators, have_columns, numerators, row_of, row_term, row_terms, IsRow}
 use Rattle.group_sum.specs.Share.{bare_term}
 
 -- what the test says of the first and of the others
@@ -24,12 +24,12 @@ first_has columns term terms ok = record { row = grind (arith, nat_tests); other
 
 module _ (columns : ℕ) where
   -- the rows of terms are read as the terms
-  terms_in-rows : (terms : List Term) → have_columns columns terms ≡ true → terms_in columns (denominators terms) (numerators terms) ≡ terms
-  terms_in-rows [] ok = refl
-  terms_in-rows (term ∷ terms) ok =
+  row_terms-rows : (terms : List Term) → have_columns columns terms ≡ true → row_terms columns (denominators terms) (numerators terms) ≡ terms
+  row_terms-rows [] ok = refl
+  row_terms-rows (term ∷ terms) ok =
       let first = first_has columns term terms ok in
       rw (take_at (row_of term) (numerators terms) columns first.row, drop_at (row_of term) (numerators terms) columns first.row)
-      (ap (λ ts. term ∷ ts) (terms_in-rows terms first.others))
+      (ap (λ ts. term ∷ ts) (row_terms-rows terms first.others))
 
   pub length-numerators : (terms : List Term) → have_columns columns terms ≡ true → length (numerators terms) ≡ length terms * columns
   length-numerators [] ok = sym (zero-mul columns)
@@ -154,10 +154,10 @@ turned_by_parts xs by le front all back is_front is_all is_back =
 
 module _ (columns : ℕ) (terms : List Term) (dens : List ℕ) (nums : List ℤ) (flat : IsFlat columns terms dens nums) where
   -- the lists are read as the terms
-  pub terms_are : terms_in columns dens nums ≡ terms
-  terms_are = rw (← flat.dens_are, ← flat.nums_are) (terms_in-rows columns terms flat.whole)
+  pub terms_are : row_terms columns dens nums ≡ terms
+  terms_are = rw (← flat.dens_are, ← flat.nums_are) (row_terms-rows columns terms flat.whole)
 
-  pub flat_in : IsFlat columns (terms_in columns dens nums) dens nums
+  pub flat_in : IsFlat columns (row_terms columns dens nums) dens nums
   flat_in = rw terms_are flat
 
   pub length-dens : length dens ≡ length terms
@@ -313,15 +313,15 @@ module _ (columns : ℕ) (terms : List Term) (dens : List ℕ) (nums : List ℤ)
       let of_dens : IsFlat columns (set terms i written_term) dens (put_mid (i * columns) columns nums (row_of written_term)) = subst (λ ds. IsFlat columns (set terms i written_term) ds (put_mid (i * columns) columns nums (row_of written_term))) den_same set_is in
       rw (written.now_is, wide, lent.start_is, lent.lent_is) (subst (λ r. IsFlat columns (set terms i written_term) dens (put_mid (i * columns) columns nums r)) row_is of_dens)
 
-  pub terms_written : terms_in columns dens now ≡ set terms i written_term
+  pub terms_written : row_terms columns dens now ≡ set terms i written_term
   terms_written = terms_are columns (set terms i written_term) dens now flat_written
 
-  pub invariant_written : IsFlat columns (terms_in columns dens now) dens now
+  pub invariant_written : IsFlat columns (row_terms columns dens now) dens now
   invariant_written = flat_in columns (set terms i written_term) dens now flat_written
 
-  pub there_written : term_at (terms_in columns dens now) i ≡ written_term
+  pub there_written : term_at (row_terms columns dens now) i ≡ written_term
   there_written = ap (λ ts. term_at ts i) terms_written ∙ get_or-set_same terms i written_term no_term written.is_lent.place
 
   -- only that term is another
-  pub only_written : terms_in columns dens now ≡ set terms i (term_at (terms_in columns dens now) i)
+  pub only_written : row_terms columns dens now ≡ set terms i (term_at (row_terms columns dens now) i)
   only_written = terms_written ∙ ap (λ t. set terms i t) (sym there_written)

@@ -4,7 +4,7 @@ use Rattle.std.specs.Prelude.{slice_get}
 use Rattle.std.specs.Option.{option_map, option_to_list}
 use Rattle.std.proofs.lemmas.List.{get_or_at, set_at}
 use Rattle.cube_model.specs.declared.term.Term.{Term}
-use Rattle.group_sum.specs.Heads.{AreWithin, HasNoRemainder, HasRemainder, IsRemainder, IsTermOf, count_in, remainder_in}
+use Rattle.group_sum.specs.Heads.{AreWithin, HasNoRemainder, HasRemainder, IsRemainder, IsTermOf, head_count, remainder_in}
 use Rattle.group_sum.specs.Place.{no_term, term_at}
 use Rattle.group_sum.specs.Rows.{row_term}
 
@@ -56,11 +56,11 @@ one_behind (y ∷ xs) x = one_behind xs x
 pub pushed_none : (terms : List Term) → terms ≡ terms ++ option_to_list (slice_get terms (length terms))
 pushed_none terms = sym (ap (λ o. terms ++ option_to_list o) (none_behind terms) ∙ append-nil terms)
 
-pub left_none : (den values : ℕ) (terms : List Term) (whole part : Option Term) → HasRemainder values whole part → count_in whole ≡ count_in part → IsRemainder den values whole part (slice_get terms (length terms))
+pub left_none : (den values : ℕ) (terms : List Term) (whole part : Option Term) → HasRemainder values whole part → head_count whole ≡ head_count part → IsRemainder den values whole part (slice_get terms (length terms))
 left_none den values terms whole part possible same = subst (IsRemainder den values whole part) (sym (none_behind terms)) (same, possible.same same)
 
 -- where there is no whole there is no part
-pub no_count : (values : ℕ) (part : Option Term) → HasRemainder values None part → count_in None ≡ count_in part
+pub no_count : (values : ℕ) (part : Option Term) → HasRemainder values None part → head_count None ≡ head_count part
 no_count values part possible = omega (arith, possible.less)
 
 -- where the whole is pushed, and the part taken from it
@@ -75,10 +75,10 @@ module _ (den values : ℕ) (old mid new : List Term) (row : List ℤ) (part : O
   pub pushed_one : new ≡ old ++ option_to_list (slice_get new (length old))
   pushed_one = new_is ∙ sym (ap (λ o. old ++ option_to_list o) found_is)
 
-  pub left_one : count_in part < (row_term 0 row).count → IsTermOf (term_at mid (length old)).den values ((term_at mid (length old)).count - count_in part) (remainder_in (Some (term_at mid (length old))) part) (term_at new (length old))
+  pub left_one : head_count part < (row_term 0 row).count → IsTermOf (term_at mid (length old)).den values ((term_at mid (length old)).count - head_count part) (remainder_in (Some (term_at mid (length old))) part) (term_at new (length old))
       → IsRemainder den values (Some (row_term 0 row)) part (slice_get new (length old))
   left_one less left =
       let there : term_at mid (length old) ≡ row_term den row = ap (λ ts. term_at ts (length old)) is_mid ∙ get_or_at old (row_term den row) [] no_term (length old) refl in
-      let of_row = subst (λ t. IsTermOf t.den values (t.count - count_in part) (remainder_in (Some t) part) (term_at new (length old))) there left in
+      let of_row = subst (λ t. IsTermOf t.den values (t.count - head_count part) (remainder_in (Some t) part) (term_at new (length old))) there left in
       subst (IsRemainder den values (Some (row_term 0 row)) part) (sym found_is)
       (less, record { has_den = of_row.has_den; count = of_row.count; columns = of_row.columns; sums = record { each = λ k lt. of_row.sums.each k lt } })

@@ -9,7 +9,7 @@ use Rattle.std.proofs.lemmas.List.FromFn.{get_or-map-range_with_len}
 use Rattle.cube_model.specs.declared.term.Term.{Term}
 use Rattle.cube_model.specs.Answer.{count_of, den_bound, merge, numerator_of, term_of, terms_below}
 use Rattle.group_sum.specs.Terms.{are_terms_from}
-use Rattle.group_sum.specs.Heads.{count_in}
+use Rattle.group_sum.specs.Heads.{head_count}
 use Rattle.group_sum.specs.Merge.{Merges}
 use Rattle.group_sum.proofs.Adding.{numerator_there, numerator_absent}
 use Rattle.group_sum.proofs.Ascending.{first_is}
@@ -64,8 +64,8 @@ module _ (count : ℕ → ℕ) (sums : ℕ → List ℤ) where
   -- the numerators are those that the terms were made of
   pub count_of_below : (bound : ℕ) → ((d : ℕ) → bound ≤ d → count d ≡ 0) → (d : ℕ) → count_of (terms_below count sums bound) d ≡ count d
   count_of_below bound none d = elim (cases_lt d bound) [
-    | inl lt ↦ ap count_in (found_below bound d lt) ∙ grind (arith, nat_tests)
-    | inr le ↦ ap count_in (absent_from bound d le) ∙ sym (none d le)
+    | inl lt ↦ ap head_count (found_below bound d lt) ∙ grind (arith, nat_tests)
+    | inr le ↦ ap head_count (absent_from bound d le) ∙ sym (none d le)
   ]
 
   pub numerator_of_below : (bound : ℕ) → ((d : ℕ) → bound ≤ d → count d ≡ 0) → (d k : ℕ) → (count d ≡ 0 → get_or (sums d) k (pos 0) ≡ pos 0)

@@ -4,7 +4,7 @@ use Rattle.std.specs.Prelude.{is_none, if◌then◌else◌}
 use Rattle.std.proofs.lemmas.List.Sums.{count_by_more_no, count_by_more_yes}
 use Rattle.cube_model.specs.declared.term.Term.{Term}
 use Rattle.cube_model.specs.Answer.{term_of}
-use Rattle.group_sum.specs.Back.{IsBehind, missing_in}
+use Rattle.group_sum.specs.Back.{IsPlaceBehind, missing_in}
 use Rattle.group_sum.specs.Place.{Ascend, IsAt, IsGapFor, no_term, term_at}
 use Rattle.group_sum.proofs.Ascending.{term_of_gap}
 use Rattle.std.specs.Prelude.{MatchBool, not}
@@ -20,7 +20,7 @@ found_at (term ∷ terms) den (suc i) at =
     grind (arith, nat_tests, found_at terms den i tail)
 
 -- Where the denominators before a place are smaller, and the one at it is not, it is there or missing.
-pub missing_is : (terms : List Term) (den i : ℕ) → Ascend terms → IsBehind terms den i → (i < length terms → den ≤ (term_at terms i).den) → (there : Bool) → MatchBool there (IsAt terms den i) (IsAt terms den i → ⊥)
+pub missing_is : (terms : List Term) (den i : ℕ) → Ascend terms → IsPlaceBehind terms den i → (i < length terms → den ≤ (term_at terms i).den) → (there : Bool) → MatchBool there (IsAt terms den i) (IsAt terms den i → ⊥)
     → not there ≡ is_none (term_of terms den)
 missing_is terms den i ascend behind first true at = sym (found_at terms den i at)
 missing_is terms den i ascend behind first false other =
@@ -38,7 +38,7 @@ missing_is terms den i ascend behind first false other =
     rw (term_of_gap terms den i gap) refl
 
 -- what is behind a denominator is behind a greater one
-pub behind_more : (terms : List Term) (den more i : ℕ) → IsBehind terms den i → den ≤ more → IsBehind terms more i
+pub behind_more : (terms : List Term) (den more i : ℕ) → IsPlaceBehind terms den i → den ≤ more → IsPlaceBehind terms more i
 behind_more terms den more i behind le = record { in_range = behind.in_range; smaller_before = λ k lt. omega (arith, behind.smaller_before k lt) }
 
 -- one more is missing, or not

@@ -6,16 +6,16 @@ use Rattle.std.proofs.lemmas.Bool.Decides.{nat_tests}
 use Rattle.cube_model.specs.declared.term.Term.{Term}
 use Rattle.cube_model.specs.Answer.{term_of, numerator_of}
 use Rattle.cube_model.specs.Limits.{WIDE}
-use Rattle.group_sum.specs.Heads.{sum_in, AreWithin, IsTermOf}
+use Rattle.group_sum.specs.Heads.{head_sum, AreWithin, IsTermOf}
 use Rattle.group_sum.proofs.Adding.{list_all_passes}
 use Rattle.group_sum.proofs.Walk.{IsAtDen}
 
 -- a column's numerator of the term of a denominator
 abbrev pub sum_of : List Term → ℕ → ℕ → ℤ
-sum_of terms d k = sum_in (term_of terms d) k
+sum_of terms d k = head_sum (term_of terms d) k
 
 -- which is the numerator of the column behind the count
-numerator_in : (found : Option Term) (k : ℕ) → option_map_or (λ (t : Term). get_or (pos t.count ∷ t.sums) (k + 1) (pos 0)) found (pos 0) ≡ sum_in found k
+numerator_in : (found : Option Term) (k : ℕ) → option_map_or (λ (t : Term). get_or (pos t.count ∷ t.sums) (k + 1) (pos 0)) found (pos 0) ≡ head_sum found k
 numerator_in None k = refl
 numerator_in (Some term) k = rw add-one refl
 

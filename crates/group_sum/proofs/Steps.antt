@@ -7,7 +7,7 @@ use Rattle.std.proofs.lemmas.List.{get_or-set_same, get_or-take, set-set, take_m
 use Rattle.cube_model.specs.declared.term.Term.{Term}
 use Rattle.cube_model.specs.Answer.{term_of}
 use Rattle.group_sum.specs.declared.merge.Ahead.{Ahead}
-use Rattle.group_sum.specs.Back.{AddsUp, AreLevel, FitsLevel, StepsBack, last_other, last_own, missing_in}
+use Rattle.group_sum.specs.Back.{AddsUpTerms, AreLevel, FitsLevel, StepsBack, last_other, last_own, missing_in}
 use Rattle.group_sum.specs.Heads.{IsTotal}
 use Rattle.group_sum.specs.Merge.{FitsMerge}
 use Rattle.group_sum.specs.Place.{no_term, term_at}
@@ -21,7 +21,7 @@ use Rattle.group_sum.proofs.Walk.{next_from, next_from-push}
 -- where both last terms have the denominator, the own one is copied and the other added to it
 pub adds_up_in_place : (old others mid new : List Term) (ahead : Ahead) (row : List ℤ) → AreLevel old others ahead → ahead.place - 1 < length old → mid ≡ set old (ahead.place - 1) (last_own old ahead)
     → new ≡ set mid (ahead.place - 1) (term_at new (ahead.place - 1)) → row ≡ row_of (last_other others ahead) → IsTotal (term_at mid (ahead.place - 1)) (row_term 0 row) (term_at new (ahead.place - 1))
-    → AddsUp old others new ahead (record { own = ahead.own - 1; other = ahead.other - 1; place = ahead.place - 1 })
+    → AddsUpTerms old others new ahead (record { own = ahead.own - 1; other = ahead.other - 1; place = ahead.place - 1 })
 adds_up_in_place old others mid new ahead row level lt is_mid is_new is_row total =
     let there : term_at mid (ahead.place - 1) ≡ last_own old ahead = ap (λ ts. term_at ts (ahead.place - 1)) is_mid ∙ get_or-set_same old (ahead.place - 1) (last_own old ahead) no_term lt in
     let of_own : IsTotal (last_own old ahead) (row_term 0 row) (term_at new (ahead.place - 1)) = subst (λ x. IsTotal x (row_term 0 row) (term_at new (ahead.place - 1))) there total in

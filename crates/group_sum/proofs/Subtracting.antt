@@ -7,7 +7,7 @@ use Rattle.cube_model.specs.declared.term.Term.{Term}
 use Rattle.cube_model.specs.Answer.{term_of, count_of}
 use Rattle.cube_model.specs.Limits.{WIDE}
 use Rattle.group_sum.specs.Terms.{TermList, are_terms_from}
-use Rattle.group_sum.specs.Heads.{least_head, head_at, rest_at, count_in, sum_in, remainder_in, AreWithin, IsRemainder, HasNoRemainder, HasRemainder}
+use Rattle.group_sum.specs.Heads.{least_head, head_at, rest_at, head_count, head_sum, remainder_in, AreWithin, IsRemainder, HasNoRemainder, HasRemainder}
 use Rattle.group_sum.specs.Merge.{FitsDifference, Subtracts, IsBad, IsFirstBad, HasDifference, HasRemainders}
 use Rattle.group_sum.proofs.Walk.{IsWalk, IsAtDen, walk_first, walk_next, good_before, good_everywhere, head_left, head_right, left_whole}
 use Rattle.group_sum.proofs.Numerators.{sum_of, numerator_is, is_term_of}
@@ -15,10 +15,10 @@ use Rattle.group_sum.proofs.Numerators.{sum_of, numerator_is, is_term_of}
 -- a term of what is left of another without a part, or none where nothing is
 pub record IsLeft (columns den : ℕ) (whole part left : Option Term) : Type 0 where
   pub at_den : IfSome left (IsAtDen columns den)
-  pub count : count_in left + count_in part ≡ count_in whole
-  pub sums : (k : ℕ) → k + 1 < columns → sum_in left k +ℤ sum_in part k ≡ sum_in whole k
+  pub count : head_count left + head_count part ≡ head_count whole
+  pub sums : (k : ℕ) → k + 1 < columns → head_sum left k +ℤ head_sum part k ≡ head_sum whole k
 
-pub is_left_of : (columns den : ℕ) (whole part left : Option Term) → 1 ≤ columns → count_in whole ≤ WIDE → AreWithin (columns - 1) (remainder_in whole part) → IsRemainder den (columns - 1) whole part left → IsLeft columns den whole part left
+pub is_left_of : (columns den : ℕ) (whole part left : Option Term) → 1 ≤ columns → head_count whole ≤ WIDE → AreWithin (columns - 1) (remainder_in whole part) → IsRemainder den (columns - 1) whole part left → IsLeft columns den whole part left
 is_left_of columns den whole part None some_columns most within is = record {
   at_den = tt;
   count = omega (arith, is.0);
@@ -33,7 +33,7 @@ is_left_of columns den whole part (Some term) some_columns most within is =
     }
 
 -- no count passes WIDE
-count_within : (columns den : ℕ) (term : Option Term) → IfSome term (IsAtDen columns den) → count_in term ≤ WIDE
+count_within : (columns den : ℕ) (term : Option Term) → IfSome term (IsAtDen columns den) → head_count term ≤ WIDE
 count_within columns den None at_den = omega arith
 count_within columns den (Some term) at_den = grind (arith, nat_tests, at_den.whole)
 
@@ -92,8 +92,8 @@ module _ (columns : ℕ) (whole part : List Term) where
 
   -- a term is what is left of the whole at a denominator
   pub record IsRest (d : ℕ) (found : Option Term) : Type 0 where
-    pub count : count_in found + count_of part d ≡ count_of whole d
-    pub sums : (k : ℕ) → k + 1 < columns → sum_in found k +ℤ sum_of part d k ≡ sum_of whole d k
+    pub count : head_count found + count_of part d ≡ count_of whole d
+    pub sums : (k : ℕ) → k + 1 < columns → head_sum found k +ℤ sum_of part d k ≡ sum_of whole d k
 
   -- the part is taken away up to where the walk is
   abbrev pub IsSubtracting : List Term → List Term → List Term → Type 0
@@ -120,7 +120,7 @@ module _ (columns : ℕ) (whole part : List Term) where
       pub remainder_here : HasRemainders (record { columns = columns; terms = whole }) (record { columns = columns; terms = part }) → HasRemainder (columns - 1) (head_at whole_ahead den) (head_at part_ahead den)
       remainder_here has = rw (is_whole, is_part) (has.each den)
 
-      pub count_fits : count_in (head_at whole_ahead den) ≤ WIDE
+      pub count_fits : head_count (head_at whole_ahead den) ≤ WIDE
       count_fits = rw is_whole (count_within columns den (term_of whole den) (left_whole columns IsRest whole part rest_none done whole_ahead part_ahead subtracting den is))
 
       -- with what is left all goes on

@@ -14,7 +14,7 @@ abbrev pub missing_in : List Term → List Term → ℕ
 missing_in own terms = count_by (λ t. is_none (term_of own t.den)) terms
 
 -- the terms before a place have smaller denominators
-pub record IsBehind (terms : List Term) (den place : ℕ) : Type 0 where
+pub record IsPlaceBehind (terms : List Term) (den place : ℕ) : Type 0 where
   pub in_range : place ≤ length terms
   pub smaller_before : (i : ℕ) → i < place → (term_at terms i).den < den
 
@@ -43,7 +43,7 @@ pub record MovesOwn (old others new : List Term) (ahead next : Ahead) : Type 0 w
   pub terms : new ≡ slice_set old (ahead.place - 1) (last_own old ahead)
 
 -- both last terms have it, and what they add up to goes there
-pub record AddsUp (old others new : List Term) (ahead next : Ahead) : Type 0 where
+pub record AddsUpTerms (old others new : List Term) (ahead next : Ahead) : Type 0 where
   pub level : AreLevel old others ahead
   pub next_is : next ≡ record { own = ahead.own - 1; other = ahead.other - 1; place = ahead.place - 1 }
   pub terms : new ≡ slice_set old (ahead.place - 1) (term_at new (ahead.place - 1))
@@ -57,4 +57,4 @@ pub record CopiesOther (old others new : List Term) (ahead next : Ahead) : Type 
 
 -- one of these is done
 abbrev pub StepsBack : List Term → List Term → List Term → Ahead → Ahead → Type 0
-StepsBack old others new ahead next = MovesOwn old others new ahead next ⊎ (AddsUp old others new ahead next ⊎ CopiesOther old others new ahead next)
+StepsBack old others new ahead next = MovesOwn old others new ahead next ⊎ (AddsUpTerms old others new ahead next ⊎ CopiesOther old others new ahead next)

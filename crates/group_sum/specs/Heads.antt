@@ -26,20 +26,20 @@ rest_at [] den = []
 rest_at (term ∷ terms) den = if term.den == den then terms else term ∷ terms
 
 -- the count's numerator of a term, 0 where there is none
-abbrev pub count_in : Option Term → ℕ
-count_in term = option_map_or (λ t. t.count) term 0
+abbrev pub head_count : Option Term → ℕ
+head_count term = option_map_or (λ t. t.count) term 0
 
 -- the numerator of a further column, 0 where there is none
-abbrev pub sum_in : Option Term → ℕ → ℤ
-sum_in term k = option_map_or (λ t. slice_index_or t.sums k (pos 0)) term (pos 0)
+abbrev pub head_sum : Option Term → ℕ → ℤ
+head_sum term k = option_map_or (λ t. slice_index_or t.sums k (pos 0)) term (pos 0)
 
 -- those of two terms added up
 abbrev pub total_in : Option Term → Option Term → ℕ → ℤ
-total_in left right k = sum_in left k +ℤ sum_in right k
+total_in left right k = head_sum left k +ℤ head_sum right k
 
 -- those of a term without those of a part of it
 abbrev pub remainder_in : Option Term → Option Term → ℕ → ℤ
-remainder_in whole part k = sum_in whole k -ℤ sum_in part k
+remainder_in whole part k = head_sum whole k -ℤ head_sum part k
 
 -- none of so many numerators passes WIDE
 pub record AreWithin (values : ℕ) (numerator : ℕ → ℤ) : Type 0 where
@@ -62,22 +62,22 @@ IsTotal x y term = IsTermOf x.den (length x.sums) (x.count + y.count) (total_in 
 
 -- two terms, either of which may not be there, have other sums
 abbrev pub HasOtherSums : ℕ → Option Term → Option Term → Type 0
-HasOtherSums values whole part = (k : ℕ) × (k < values) × (sum_in whole k ≢ sum_in part k)
+HasOtherSums values whole part = (k : ℕ) × (k < values) × (head_sum whole k ≢ head_sum part k)
 
 -- two terms, either of which may not be there, have the same sums
 abbrev pub HasSameSums : ℕ → Option Term → Option Term → Type 0
-HasSameSums values whole part = (k : ℕ) → k < values → sum_in whole k ≡ sum_in part k
+HasSameSums values whole part = (k : ℕ) → k < values → head_sum whole k ≡ head_sum part k
 
 -- what is left of a term without a part of it: none where all numerators are the same
 abbrev pub IsRemainder : ℕ → ℕ → Option Term → Option Term → Option Term → Type 0
-IsRemainder den values whole part None = (count_in whole ≡ count_in part) × HasSameSums values whole part
-IsRemainder den values whole part (Some term) = (count_in part < count_in whole) × IsTermOf den values (count_in whole - count_in part) (remainder_in whole part) term
+IsRemainder den values whole part None = (head_count whole ≡ head_count part) × HasSameSums values whole part
+IsRemainder den values whole part (Some term) = (head_count part < head_count whole) × IsTermOf den values (head_count whole - head_count part) (remainder_in whole part) term
 
 -- nothing can be left: the count would be below 0, or 0 beside another numerator
 abbrev pub HasNoRemainder : ℕ → Option Term → Option Term → Type 0
-HasNoRemainder values whole part = (count_in whole < count_in part) ⊎ ((count_in whole ≡ count_in part) × HasOtherSums values whole part)
+HasNoRemainder values whole part = (head_count whole < head_count part) ⊎ ((head_count whole ≡ head_count part) × HasOtherSums values whole part)
 
 -- something can be left, or nothing of all numerators
 pub record HasRemainder (values : ℕ) (whole part : Option Term) : Type 0 where
-  pub less : count_in part ≤ count_in whole
-  pub same : count_in whole ≡ count_in part → HasSameSums values whole part
+  pub less : head_count part ≤ head_count whole
+  pub same : head_count whole ≡ head_count part → HasSameSums values whole part

@@ -55,6 +55,6 @@ pub record IsFirstBad (whole part : TermList) (den : ℕ) : Type 0 where
   pub first : (d : ℕ) → d < den → ¬ IsBad whole part d
 
 -- what a fault says: where it runs out of memory, no denominator is bad
-abbrev pub Faults : TermList → TermList → SubFault → Type 0
-Faults whole part (Less den) = IsFirstBad whole part den
-Faults whole part Memory = HasDifference whole part
+abbrev pub IsDifferenceFault : TermList → TermList → SubFault → Type 0
+IsDifferenceFault whole part (Less den) = IsFirstBad whole part den
+IsDifferenceFault whole part Memory = HasDifference whole part

@@ -21,9 +21,9 @@ pub record IsRowIn (columns : ℕ) (row : List ℤ) : Type 0 where
   pub len : length row ≡ columns
 
 -- the terms of these denominators with so many numerators each
-abbrev pub terms_in : ℕ → List ℕ → List ℤ → List Term
-terms_in columns [] nums = []
-terms_in columns (den ∷ dens) nums = row_term den (take columns nums) ∷ terms_in columns dens (drop columns nums)
+abbrev pub row_terms : ℕ → List ℕ → List ℤ → List Term
+row_terms columns [] nums = []
+row_terms columns (den ∷ dens) nums = row_term den (take columns nums) ∷ row_terms columns dens (drop columns nums)
 
 -- the denominators of terms
 abbrev pub denominators : List Term → List ℕ

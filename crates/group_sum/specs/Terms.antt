@@ -32,8 +32,8 @@ pub record FitsUnits (terms : List Term) (den units weight : ℕ) (values : List
   pub sums : (k : ℕ) → k < length values → nat_abs (numerator_of terms den (k + 1) +ℤ pos weight *ℤ slice_index_or values k (pos 0)) ≤ WIDE
 
 -- so with a share, whose weight is its units
-abbrev pub Fits : List Term → ℕ → ℕ → List ℤ → Type 0
-Fits terms den weight values = FitsUnits terms den weight weight values
+abbrev pub FitsShare : List Term → ℕ → ℕ → List ℤ → Type 0
+FitsShare terms den weight values = FitsUnits terms den weight weight values
 
 -- units make a term, since their denominator has none
 pub record NeedsTerm (terms : List Term) (den units : ℕ) : Type 0 where

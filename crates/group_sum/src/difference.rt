@@ -3,10 +3,10 @@ ghost use Rattle.std.specs.Prelude.{◌≡◌, ◌+◌, ◌-◌, ◌<◌, ◌≤
 ghost use Rattle.std.specs.Option.{option_copied, option_map, option_to_list};
 ghost use Rattle.cube_model.specs.Limits.{WIDE};
 ghost use Rattle.group_sum.specs.Terms.{AreTerms};
-ghost use Rattle.group_sum.specs.Heads.{AreWithin, HasNoRemainder, HasOtherSums, HasRemainder, HasSameSums, IsRemainder, IsTermOf, count_in, remainder_in};
+ghost use Rattle.group_sum.specs.Heads.{AreWithin, HasNoRemainder, HasOtherSums, HasRemainder, HasSameSums, IsRemainder, IsTermOf, head_count, remainder_in};
 ghost use Rattle.group_sum.specs.Place.{term_at};
 ghost use Rattle.group_sum.specs.Rows.{IsRowIn, row_term};
-ghost use Rattle.group_sum.specs.Merge.{Faults, FitsDifference, HasDifference, HasRemainders, IsFirstBad, Subtracts};
+ghost use Rattle.group_sum.specs.Merge.{FitsDifference, HasDifference, HasRemainders, IsDifferenceFault, IsFirstBad, Subtracts};
 ghost use Rattle.group_sum.specs.declared.difference.SubFault.TheVariants as sub_fault;
 
 use crate::heads::{count, head, least_den, past, sum};
@@ -38,7 +38,7 @@ pub fn subtract(alloc: Global, whole: &Rows, part: &Rows) -> Result<Rows, SubFau
     requires part { AreTerms part.now }
     requires within { FitsDifference whole.now part.now }
     ensures difference { IfOk result (Subtracts whole.now part.now) }
-    ensures fault { IfErr result (Faults whole.now part.now) }
+    ensures fault { IfErr result (IsDifferenceFault whole.now part.now) }
     ensures possible { OnOk result (HasDifference whole.now part.now) }
     ensures terms { IfOk result AreTerms }
 {
@@ -135,7 +135,7 @@ fn push_left(
 ) -> Result<(), Memory>
     requires whole { IfSome (option_copied whole) (IsRowIn left.old.columns) }
     requires part { IfSome (option_copied part) (IsRowIn left.old.columns) }
-    requires most { count_in (option_map (row_term 0) (option_copied whole)) ≤ WIDE }
+    requires most { head_count (option_map (row_term 0) (option_copied whole)) ≤ WIDE }
     requires within { AreWithin (left.old.columns - 1) (remainder_in (option_map (row_term 0) (option_copied whole)) (option_map (row_term 0) (option_copied part))) }
     requires possible { HasRemainder (left.old.columns - 1) (option_map (row_term 0) (option_copied whole)) (option_map (row_term 0) (option_copied part)) }
     ensures columns { left.new.columns ≡ left.old.columns }
@@ -161,11 +161,11 @@ fn take_part(terms: &mut Rows, at: usize, part: Option<&[i128]>)
     requires values { length (term_at terms.old.terms at).sums + 1 ≡ terms.old.columns }
     requires part { IfSome (option_copied part) (IsRowIn terms.old.columns) }
     requires most { (term_at terms.old.terms at).count ≤ WIDE }
-    requires less { count_in (option_map (row_term 0) (option_copied part)) ≤ (term_at terms.old.terms at).count }
+    requires less { head_count (option_map (row_term 0) (option_copied part)) ≤ (term_at terms.old.terms at).count }
     requires within { AreWithin (terms.old.columns - 1) (remainder_in (Some (term_at terms.old.terms at)) (option_map (row_term 0) (option_copied part))) }
     ensures only { terms.new ≡ record { columns = terms.old.columns; terms = slice_set terms.old.terms at (term_at terms.new.terms at) } }
     ensures left { IsTermOf (term_at terms.old.terms at).den (terms.old.columns - 1)
-        ((term_at terms.old.terms at).count - count_in (option_map (row_term 0) (option_copied part.entry)))
+        ((term_at terms.old.terms at).count - head_count (option_map (row_term 0) (option_copied part.entry)))
         (remainder_in (Some (term_at terms.old.terms at)) (option_map (row_term 0) (option_copied part.entry))) (term_at terms.new.terms at) }
 {
     if let Some(row) = part {

@@ -2,7 +2,7 @@
 ghost use Rattle.std.specs.Prelude.{◌≡◌, ◌<◌, ◌≤◌, drop, length, IfSome, MatchBool};
 ghost use Rattle.std.specs.Bool.{OnTrue};
 ghost use Rattle.std.specs.Option.{option_copied, option_map};
-ghost use Rattle.group_sum.specs.Heads.{count_in, head_at, least_head, rest_at, sum_in};
+ghost use Rattle.group_sum.specs.Heads.{head_at, head_count, head_sum, least_head, rest_at};
 ghost use Rattle.group_sum.specs.Place.{IsAt};
 ghost use Rattle.group_sum.specs.Rows.{IsRowIn, row_term};
 
@@ -51,7 +51,7 @@ pub fn is_ahead(terms: &Rows, at: usize, den: u64) -> bool
 
 /// The count's numerator of a row, 0 where there is none.
 pub fn count(row: Option<&[i128]>) -> u128
-    ensures { result ≡ count_in (option_map (row_term 0) (option_copied row.entry)) }
+    ensures { result ≡ head_count (option_map (row_term 0) (option_copied row.entry)) }
 {
     match row {
         Some(row) => row.first().copied().unwrap_or(0).unsigned_abs(),
@@ -61,7 +61,7 @@ pub fn count(row: Option<&[i128]>) -> u128
 
 /// The numerator of a further column, 0 where there is none.
 pub fn sum(row: Option<&[i128]>, k: u32) -> i128
-    ensures { result ≡ sum_in (option_map (row_term 0) (option_copied row.entry)) k }
+    ensures { result ≡ head_sum (option_map (row_term 0) (option_copied row.entry)) k }
 {
     match row {
         Some(row) => row.get(k as usize + 1).copied().unwrap_or(0),

@@ -1,7 +1,7 @@
 //! Other terms merged into own ones, in place.
 ghost use Rattle.std.specs.Prelude.{◌≡◌, ◌+◌, ◌-◌, ◌<◌, ◌≤◌, length, take, Some, None, if◌then◌else◌, ◌==◌};
 ghost use Rattle.group_sum.specs.Terms.{AreTerms};
-ghost use Rattle.group_sum.specs.Back.{FitsLevel, IsBehind, StepsBack, missing_in};
+ghost use Rattle.group_sum.specs.Back.{FitsLevel, IsPlaceBehind, StepsBack, missing_in};
 ghost use Rattle.group_sum.specs.Merge.{FitsMerge, Merges};
 ghost use Rattle.group_sum.specs.Place.{Ascend, term_at};
 
@@ -35,8 +35,8 @@ pub fn missing(own: &Rows, other: &Rows) -> usize
 
 // The first place from one on at which the denominator is not smaller.
 fn first_from(terms: &Rows, from: usize, den: u64) -> usize
-    requires { IsBehind terms.now.terms den from }
-    ensures behind { IsBehind terms.now.terms den result }
+    requires { IsPlaceBehind terms.now.terms den from }
+    ensures behind { IsPlaceBehind terms.now.terms den result }
     ensures first { result < length terms.now.terms → den ≤ (term_at terms.now.terms result).den }
 {
     let mut at = from;

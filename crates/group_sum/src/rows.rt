@@ -24,13 +24,13 @@ pub struct Rows {
 
 impl Model for Rows {
     ghost use Rattle.group_sum.specs.Terms.{TermList};
-    ghost use Rattle.group_sum.specs.Rows.{IsFlat, terms_in};
+    ghost use Rattle.group_sum.specs.Rows.{IsFlat, row_terms};
 
     ghost Value = { TermList };
 
-    ghost view = { λ r. record { columns = r.columns; terms = terms_in r.columns r.dens.items r.nums.items } };
+    ghost view = { λ r. record { columns = r.columns; terms = row_terms r.columns r.dens.items r.nums.items } };
 
-    ghost invariant = { λ r. IsFlat r.columns (terms_in r.columns r.dens.items r.nums.items) r.dens.items r.nums.items };
+    ghost invariant = { λ r. IsFlat r.columns (row_terms r.columns r.dens.items r.nums.items) r.dens.items r.nums.items };
 }
 
 impl Rows {

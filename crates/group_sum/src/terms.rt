@@ -2,9 +2,9 @@
 ghost use Rattle.std.specs.Prelude.{◌≡◌, ◌+◌, ◌-◌, ◌<◌, ◌≤◌, [], length, slice_get, Some, OnOk, OnErr, IfOk, IfErr, ◌∷◌, slice_index_or, pos};
 ghost use Rattle.std.specs.Option.{option_map};
 ghost use Rattle.cube_model.specs.Answer.{count_of, merge, numerator_of};
-ghost use Rattle.group_sum.specs.Terms.{AddsShare, AddsUnits, AreTerms, Fits, FitsUnits, NeedsTerm};
+ghost use Rattle.group_sum.specs.Terms.{AddsShare, AddsUnits, AreTerms, FitsShare, FitsUnits, NeedsTerm};
 ghost use Rattle.group_sum.specs.Place.{IsAt, IsGapFor};
-ghost use Rattle.group_sum.specs.Merge.{Faults, FitsDifference, FitsMerge, HasDifference, IsDifference};
+ghost use Rattle.group_sum.specs.Merge.{FitsDifference, FitsMerge, HasDifference, IsDifference, IsDifferenceFault};
 
 use crate::difference::{SubFault, subtract};
 use crate::merge::{merge, missing};
@@ -110,7 +110,7 @@ impl Terms {
     pub fn add_term(&mut self, den: u64, weight: u64, cols: Cols) -> Result<(), Memory>
         requires den { 1 ≤ den }
         requires columns { length cols + 1 ≡ self.old.columns }
-        requires within { Fits self.old.terms den weight cols }
+        requires within { FitsShare self.old.terms den weight cols }
         ensures ok { OnOk result (AddsShare self.old self.new den weight cols) }
         ensures err { OnErr result (self.new ≡ self.old) }
         ensures memory { OnErr result (NeedsTerm self.old.terms den weight) }
@@ -186,7 +186,7 @@ impl Terms {
         requires within { FitsDifference self.now other.now }
         ensures difference { IfOk result (IsDifference self.now other.now) }
         ensures possible { OnOk result (HasDifference self.now other.now) }
-        ensures fault { IfErr result (Faults self.now other.now) }
+        ensures fault { IfErr result (IsDifferenceFault self.now other.now) }
         ensures terms { IfOk result AreTerms }
     {
         let rows = subtract(self.alloc, &self.rows, &other.rows)?;

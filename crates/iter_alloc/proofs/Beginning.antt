@@ -10,7 +10,7 @@ use Rattle.iter_alloc.specs.Counting.{ArePlacedIn}
 use Rattle.iter_alloc.specs.Forest.{at}
 use Rattle.iter_alloc.specs.LaidOut.{AreOwnPlaces}
 use Rattle.iter_alloc.specs.Places.{IsRaised}
-use Rattle.iter_alloc.specs.Rounds.{UNIT, start}
+use Rattle.iter_alloc.specs.Rounds.{WHOLE_FACT, start}
 use Rattle.iter_alloc.specs.Spotting.{place_in}
 use Rattle.region_algebra.specs.Space.{IsRegion, only_cell}
 use Rattle.std.proofs.Common.{◌≡◌, ℕ, ◌+◌, ◌*◌, ◌<◌, ◌≤◌, Bool, true, false, List, [], ◌∷◌, get_or, set, length, map, refl, ap, sym, ◌∙◌, subst, arith}
@@ -71,7 +71,7 @@ pub record Beginning (dims : List Dimension) (keys : List ℕ) (facts left : Lis
   pub as_many : length begun ≡ length keys
   pub regions : All (λ fact. IsRegion dims fact.region) left
   pub few : length facts ≤ MAX_FACTS
-  pub each : (i : ℕ) → i < length keys → at begun i + UNIT * count_by (lies_at dims (at keys i)) left ≡ start dims facts (at keys i)
+  pub each : (i : ℕ) → i < length keys → at begun i + WHOLE_FACT * count_by (lies_at dims (at keys i)) left ≡ start dims facts (at keys i)
 
 module _ (dims : List Dimension) (keys : List ℕ) (facts : List Fact) where
   pub begin-start : (left : List Fact) (begun : List ℕ) → ArePlacedIn dims facts → left ≡ facts → length begun ≡ length keys → ((i : ℕ) → i < length keys → at begun i ≡ 0) → Beginning dims keys facts left begun
@@ -86,7 +86,7 @@ module _ (dims : List Dimension) (keys : List ℕ) (facts : List Fact) where
       next-count : (c : ℕ) → count_by (lies_at dims c) left ≡ (if lies_at dims c f then 1 else 0) + count_by (lies_at dims c) others
       next-count c = ap (λ (fs : List Fact). count_by (lies_at dims c) fs) first ∙ sum_by-cons (λ g. if lies_at dims c g then 1 else 0) f others
 
-      pub begin-next : (raised : List ℕ) → IsRaised (λ i. if lies_at dims (at keys i) f then UNIT else 0) begun raised → Beginning dims keys facts others raised
+      pub begin-next : (raised : List ℕ) → IsRaised (λ i. if lies_at dims (at keys i) f then WHOLE_FACT else 0) begun raised → Beginning dims keys facts others raised
       begin-next raised adds = record {
         as_many = adds.as_many ∙ beginning.as_many;
         regions = All-tail (λ fact. IsRegion dims fact.region) f others (subst (λ (fs : List Fact). All (λ fact. IsRegion dims fact.region) fs) first beginning.regions);
@@ -94,8 +94,8 @@ module _ (dims : List Dimension) (keys : List ℕ) (facts : List Fact) where
         each = λ i within. one i (lies_at dims (at keys i) f) (adds.each i (omega (arith, within, beginning.as_many))) (next-count (at keys i)) (beginning.each i within);
       }
         where
-          one : (i : ℕ) (b : Bool) → at raised i ≡ at begun i + (if b then UNIT else 0) → count_by (lies_at dims (at keys i)) left ≡ (if b then 1 else 0) + count_by (lies_at dims (at keys i)) others
-              → at begun i + UNIT * count_by (lies_at dims (at keys i)) left ≡ start dims facts (at keys i) → at raised i + UNIT * count_by (lies_at dims (at keys i)) others ≡ start dims facts (at keys i)
+          one : (i : ℕ) (b : Bool) → at raised i ≡ at begun i + (if b then WHOLE_FACT else 0) → count_by (lies_at dims (at keys i)) left ≡ (if b then 1 else 0) + count_by (lies_at dims (at keys i)) others
+              → at begun i + WHOLE_FACT * count_by (lies_at dims (at keys i)) left ≡ start dims facts (at keys i) → at raised i + WHOLE_FACT * count_by (lies_at dims (at keys i)) others ≡ start dims facts (at keys i)
           one i true more counts all = omega (arith, more, counts, all)
           one i false more counts all = omega (arith, more, counts, all)
 

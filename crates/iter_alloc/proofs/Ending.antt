@@ -11,7 +11,7 @@ use Rattle.iter_alloc.specs.Counting.{ArePlacedIn}
 use Rattle.iter_alloc.specs.Forest.{at}
 use Rattle.iter_alloc.specs.Iterated.{portion, iterated, iterated_all}
 use Rattle.iter_alloc.specs.Portions.{ArePortions, portion_by, portions_by, PORTION_LIMIT, column_total}
-use Rattle.iter_alloc.specs.Rounds.{UNIT, share_by, level_from}
+use Rattle.iter_alloc.specs.Rounds.{WHOLE_FACT, share_by, level_from}
 use Rattle.iter_alloc.specs.Spotting.{spot_of, spot_in, spotted_all}
 use Rattle.region_algebra.specs.Space.{common_cells}
 use Rattle.std.proofs.Common.{◌≡◌, ℕ, ◌-◌, ◌*◌, ◌<◌, ◌≤◌, Bool, true, false, List, [], ◌∷◌, get_or, length, map, refl, ap, sym, ◌∙◌, subst, arith, inl, inr, ◌⊎◌, ℤ}
@@ -28,11 +28,11 @@ module _ (dims : List Dimension) (facts : List Fact) (firsts : List First) (spot
   one f among = either (is_precise dims f) refl
     where
       either : (b : Bool) → is_precise dims f ≡ b → portion_by dims region portions f (if b then None else Some (spot_of dims firsts f))
-          ≡ (if b then UNIT * length (common_cells dims f.region region) else sum_by (share_by (level_from dims facts facts (rounds - 1)) (cells_of dims f.region)) (common_cells dims f.region region))
+          ≡ (if b then WHOLE_FACT * length (common_cells dims f.region region) else sum_by (share_by (level_from dims facts facts (rounds - 1)) (cells_of dims f.region)) (common_cells dims f.region region))
       either true precise = refl
       either false several =
           are.each f among several
-          ∙ ap (λ (b : Bool). if b then UNIT * length (common_cells dims f.region region) else sum_by (share_by (level_from dims facts facts (rounds - 1)) (cells_of dims f.region)) (common_cells dims f.region region)) several
+          ∙ ap (λ (b : Bool). if b then WHOLE_FACT * length (common_cells dims f.region region) else sum_by (share_by (level_from dims facts facts (rounds - 1)) (cells_of dims f.region)) (common_cells dims f.region region)) several
 
   some : (fs : List Fact) → All (Contains facts) fs → portions_by dims region portions fs (map (spot_in dims firsts) fs) ≡ map (portion dims facts rounds region) fs
   some [] among = refl

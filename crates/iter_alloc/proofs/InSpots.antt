@@ -8,7 +8,7 @@ use Rattle.cube_model.specs.Tree.{Dimension}
 use Rattle.fact_groups.proofs.Ascending.{ascends-from_pairs}
 use Rattle.fact_records.specs.FactList.{IsAscending}
 use Rattle.iter_alloc.proofs.Tests.{itself, equal, or-left, or-right}
-use Rattle.iter_alloc.specs.Spotting.{first_of, Spotted, codes_of, place_in, has_code, spot_of, spot_in, spotted_next, spotted_all}
+use Rattle.iter_alloc.specs.Spotting.{first_of, Spotted, spot_codes, place_in, is_among_codes, spot_of, spot_in, spotted_next, spotted_all}
 use Rattle.region_algebra.specs.Space.{code_of}
 use Rattle.std.proofs.Common.{◌≡◌, ℕ, suc, ◌+◌, ◌<◌, ◌≤◌, Bool, true, false, List, [], ◌∷◌, ◌++◌, get_or, length, map, refl, ap, sym, ◌∙◌, subst, arith, inl, inr, ◌⊎◌}
 use Rattle.std.proofs.lemmas.Bool.{cases_lt}
@@ -22,11 +22,11 @@ module _ (codes : List ℕ) (code : ℕ) where
   abbrev test : ℕ → Bool
   test c = nat_eq code c
 
-pub place-within : (codes : List ℕ) (code : ℕ) → has_code codes code ≡ true → (place_in codes code < length codes) × (get_or codes (place_in codes code) 0 ≡ code)
+pub place-within : (codes : List ℕ) (code : ℕ) → is_among_codes codes code ≡ true → (place_in codes code < length codes) × (get_or codes (place_in codes code) 0 ≡ code)
 place-within [] code has = cc
 place-within (c ∷ codes) code has = either (nat_eq code c) refl has (place-within codes code)
   where
-    either : (b : Bool) → nat_eq code c ≡ b → (b || has_code codes code) ≡ true → (has_code codes code ≡ true → (place_in codes code < length codes) × (get_or codes (place_in codes code) 0 ≡ code))
+    either : (b : Bool) → nat_eq code c ≡ b → (b || is_among_codes codes code) ≡ true → (is_among_codes codes code ≡ true → (place_in codes code < length codes) × (get_or codes (place_in codes code) 0 ≡ code))
         → ((if not b then 1 + place_in codes code else 0) < length (c ∷ codes)) × (get_or (c ∷ codes) (if not b then 1 + place_in codes code else 0) 0 ≡ code)
     either true is h rest = (omega arith, sym (equal code c is))
     either false is h rest = let later = rest h in (omega (arith, later.0), next-at (place_in codes code) (1 + place_in codes code) (omega arith) later.1)
@@ -35,30 +35,30 @@ place-within (c ∷ codes) code has = either (nat_eq code c) refl has (place-wit
         next-at k m is found = let up : suc k ≡ m = omega (arith, is) in subst (λ n. get_or (c ∷ codes) n 0 ≡ code) up found
 
 -- a code that is there keeps its place
-pub place-kept : (codes more : List ℕ) (code : ℕ) → has_code codes code ≡ true → place_in (codes ++ more) code ≡ place_in codes code
+pub place-kept : (codes more : List ℕ) (code : ℕ) → is_among_codes codes code ≡ true → place_in (codes ++ more) code ≡ place_in codes code
 place-kept [] more code has = cc
 place-kept (c ∷ codes) more code has = either (nat_eq code c) has (place-kept codes more code)
   where
-    either : (b : Bool) → (b || has_code codes code) ≡ true → (has_code codes code ≡ true → place_in (codes ++ more) code ≡ place_in codes code)
+    either : (b : Bool) → (b || is_among_codes codes code) ≡ true → (is_among_codes codes code ≡ true → place_in (codes ++ more) code ≡ place_in codes code)
         → (if not b then 1 + place_in (codes ++ more) code else 0) ≡ (if not b then 1 + place_in codes code else 0)
     either true h rest = refl
     either false h rest = ap (λ n. 1 + n) (rest h)
 
 -- and one that is not has its place behind them
-pub place-new : (codes more : List ℕ) (code : ℕ) → has_code codes code ≡ false → place_in (codes ++ code ∷ more) code ≡ length codes
+pub place-new : (codes more : List ℕ) (code : ℕ) → is_among_codes codes code ≡ false → place_in (codes ++ code ∷ more) code ≡ length codes
 place-new [] more code has = ap (λ (b : Bool). if not b then 1 + place_in more code else 0) (itself code)
 place-new (c ∷ codes) more code has = either (nat_eq code c) has (place-new codes more code)
   where
-    either : (b : Bool) → (b || has_code codes code) ≡ false → (has_code codes code ≡ false → place_in (codes ++ code ∷ more) code ≡ length codes)
+    either : (b : Bool) → (b || is_among_codes codes code) ≡ false → (is_among_codes codes code ≡ false → place_in (codes ++ code ∷ more) code ≡ length codes)
         → (if not b then 1 + place_in (codes ++ code ∷ more) code else 0) ≡ length (c ∷ codes)
     either true h rest = cc
     either false h rest = omega (arith, rest h)
 
-pub place-absent : (codes : List ℕ) (code : ℕ) → has_code codes code ≡ false → place_in codes code ≡ length codes
+pub place-absent : (codes : List ℕ) (code : ℕ) → is_among_codes codes code ≡ false → place_in codes code ≡ length codes
 place-absent [] code has = refl
 place-absent (c ∷ codes) code has = either (nat_eq code c) has (place-absent codes code)
   where
-    either : (b : Bool) → (b || has_code codes code) ≡ false → (has_code codes code ≡ false → place_in codes code ≡ length codes) → (if not b then 1 + place_in codes code else 0) ≡ length (c ∷ codes)
+    either : (b : Bool) → (b || is_among_codes codes code) ≡ false → (is_among_codes codes code ≡ false → place_in codes code ≡ length codes) → (if not b then 1 + place_in codes code else 0) ≡ length (c ∷ codes)
     either true h rest = cc
     either false h rest = omega (arith, rest h)
 
@@ -71,7 +71,7 @@ pub record IsFirst (dims : List Dimension) (facts : List Fact) (first : First) :
 
 -- a fact has a spot, whose first fact is no later
 pub record HasSpot (dims : List Dimension) (firsts : List First) (fact : Fact) : Type 0 where
-  pub has : has_code (codes_of dims firsts) (code_of dims fact.region) ≡ true
+  pub has : is_among_codes (spot_codes dims firsts) (code_of dims fact.region) ≡ true
   pub least : (d : First) → (get_or firsts (spot_of dims firsts fact) d).id ≤ fact.id
 
 pub record AreSpotted (dims : List Dimension) (facts : List Fact) (spotted : Spotted) : Type 0 where
@@ -103,7 +103,7 @@ module _ (dims : List Dimension) (facts : List Fact) (spotted : Spotted) (are : 
   code = code_of dims f.region
 
   abbrev codes : List ℕ
-  codes = codes_of dims spotted.firsts
+  codes = spot_codes dims spotted.firsts
 
   first-more : (first : First) → IsFirst dims facts first → IsFirst dims (facts ++ f ∷ []) first
   first-more first is = record { fact = is.fact; among = Contains-append_left facts (f ∷ []) is.fact is.among; several = is.several; is = is.is }
@@ -122,11 +122,11 @@ module _ (dims : List Dimension) (facts : List Fact) (spotted : Spotted) (are : 
   }
 
   -- with one more
-  module _ (several : is_precise dims f ≡ false) (absent : has_code codes code ≡ false) where
+  module _ (several : is_precise dims f ≡ false) (absent : is_among_codes codes code ≡ false) where
     abbrev firsts : List First
     firsts = spotted.firsts ++ first_of f ∷ []
 
-    codes-more : codes_of dims firsts ≡ codes ++ code ∷ []
+    codes-more : spot_codes dims firsts ≡ codes ++ code ∷ []
     codes-more = map_push (λ (g : First). code_of dims g.region) spotted.firsts (first_of f)
 
     spot-kept : (g : Fact) → HasSpot dims spotted.firsts g → spot_of dims firsts g ≡ spot_of dims spotted.firsts g
@@ -141,7 +141,7 @@ module _ (dims : List Dimension) (facts : List Fact) (spotted : Spotted) (are : 
         let at_place = place-within codes (code_of dims g.region) has.has in
         let within : spot_of dims spotted.firsts g < length spotted.firsts = omega (arith, at_place.0, length-map spotted.firsts (λ (h : First). code_of dims h.region)) in
         record {
-          has = ap (λ (cs : List ℕ). has_code cs (code_of dims g.region)) codes-more ∙ list_any-append (λ c. nat_eq (code_of dims g.region) c) codes (code ∷ []) ∙ or-left (has_code codes (code_of dims g.region)) (has_code (code ∷ []) (code_of dims g.region)) has.has;
+          has = ap (λ (cs : List ℕ). is_among_codes cs (code_of dims g.region)) codes-more ∙ list_any-append (λ c. nat_eq (code_of dims g.region) c) codes (code ∷ []) ∙ or-left (is_among_codes codes (code_of dims g.region)) (is_among_codes (code ∷ []) (code_of dims g.region)) has.has;
           least = λ d. omega (arith, has.least d, ap (λ k. (get_or firsts k d).id) (spot-kept g has), ap (λ (h : First). h.id) (get_or_append_left spotted.firsts (first_of f ∷ []) d (spot_of dims spotted.firsts g) within));
         }
 
@@ -153,7 +153,7 @@ module _ (dims : List Dimension) (facts : List Fact) (spotted : Spotted) (are : 
 
     new-has : HasSpot dims firsts f
     new-has = record {
-      has = ap (λ (cs : List ℕ). has_code cs code) codes-more ∙ list_any-append (λ c. nat_eq code c) codes (code ∷ []) ∙ or-right (has_code codes code) (has_code (code ∷ []) code) (or-left (nat_eq code code) false (itself code));
+      has = ap (λ (cs : List ℕ). is_among_codes cs code) codes-more ∙ list_any-append (λ c. nat_eq code c) codes (code ∷ []) ∙ or-right (is_among_codes codes code) (is_among_codes (code ∷ []) code) (or-left (nat_eq code code) false (itself code));
       least = λ d. omega (arith, ap (λ k. (get_or firsts k d).id) new-place, ap (λ (h : First). h.id) (get_or_push spotted.firsts (first_of f) d (length spotted.firsts) refl));
     }
 
@@ -174,16 +174,16 @@ module _ (dims : List Dimension) (facts : List Fact) (spotted : Spotted) (are : 
     }
 
   -- the region of an imprecise fact may be one that is there
-  old-has : has_code codes code ≡ true → HasSpot dims spotted.firsts f
+  old-has : is_among_codes codes code ≡ true → HasSpot dims spotted.firsts f
   old-has has = record { has = has; least = λ d. omega (arith, first-below (get_or spotted.firsts (spot_of dims spotted.firsts f) d) (are.firsts (spot_of dims spotted.firsts f) d within)) }
     where
       within : spot_of dims spotted.firsts f < length spotted.firsts
       within = omega (arith, (place-within codes code has).0, length-map spotted.firsts (λ (h : First). code_of dims h.region))
 
   pub spotted-more : AreSpotted dims (facts ++ f ∷ []) (spotted_next dims spotted f)
-  spotted-more = either (is_precise dims f) refl (has_code codes code) refl
+  spotted-more = either (is_precise dims f) refl (is_among_codes codes code) refl
     where
-      either : (b : Bool) → is_precise dims f ≡ b → (h : Bool) → has_code codes code ≡ h
+      either : (b : Bool) → is_precise dims f ≡ b → (h : Bool) → is_among_codes codes code ≡ h
           → AreSpotted dims (facts ++ f ∷ []) (record { firsts = if b then spotted.firsts else (if h then spotted.firsts else spotted.firsts ++ first_of f ∷ []); spots = spotted.spots ++ spot_in dims spotted.firsts f ∷ [] })
       either true precise h has = same-firsts (spot_in dims spotted.firsts f) refl (λ several. absurd (cc (precise, several)))
       either false several true has = same-firsts (spot_in dims spotted.firsts f) refl (λ _. old-has has)

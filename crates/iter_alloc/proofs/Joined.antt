@@ -5,7 +5,7 @@ use Rattle.cube_model.specs.Ascending.{ascends_from}
 use Rattle.cube_model.specs.Tree.{Dimension}
 use Rattle.iter_alloc.proofs.Chains.{IsImage, image, among-images, touch-back, chain-append, chain-more, joined-by_label}
 use Rattle.iter_alloc.proofs.Tests.{itself, equal, and-both, and-first, and-second}
-use Rattle.iter_alloc.specs.Components.{Chain, Labelled, is_touched, least_label, relabel, joined, labelled, facts_of, IsReached, AreComponents, here, next}
+use Rattle.iter_alloc.specs.Components.{Chain, Labelled, is_touched, least_label, relabel, joined_labels, labelled, facts_of, IsReached, AreComponents, here, next}
 use Rattle.iter_alloc.specs.Touching.{touch}
 use Rattle.std.proofs.Common.{◌≡◌, ℕ, zero, suc, ◌+◌, ◌<◌, ◌≤◌, Bool, true, false, List, [], ◌∷◌, ◌++◌, get_or, length, map, refl, ap, sym, ◌∙◌, subst, arith, inl, inr, ◌⊎◌, min}
 use Rattle.std.proofs.lemmas.Bool.{cases_lt}
@@ -98,14 +98,14 @@ module _ (dims : List Dimension) (f : Fact) where
     old x = relabel dims f ls x
 
     abbrev all : List Labelled
-    all = joined dims ls f
+    all = joined_labels dims ls f
 
     same-facts : (xs : List Labelled) → facts_of (map old xs) ≡ facts_of xs
     same-facts [] = refl
     same-facts (x ∷ xs) = ap (λ fs. x.fact ∷ fs) (same-facts xs)
 
-    pub joined-facts : facts_of all ≡ facts_of ls ++ f ∷ []
-    joined-facts = map-append (λ (l : Labelled). l.fact) (map old ls) (new ∷ []) ∙ ap (λ fs. fs ++ f ∷ []) (same-facts ls)
+    pub joined_labels-facts : facts_of all ≡ facts_of ls ++ f ∷ []
+    joined_labels-facts = map-append (λ (l : Labelled). l.fact) (map old ls) (new ∷ []) ∙ ap (λ fs. fs ++ f ∷ []) (same-facts ls)
 
     in_new : Contains all new
     in_new = Contains-push (map old ls) new
@@ -114,7 +114,7 @@ module _ (dims : List Dimension) (f : Fact) where
     in_old x among = Contains-append_left (map old ls) (new ∷ []) (old x) (among-images old ls x among)
 
     lifted : {g h : Fact} → Chain dims (facts_of ls) g h → Chain dims (facts_of all) g h
-    lifted {g = g} {h = h} chain = subst (λ (fs : List Fact). Chain dims fs g h) (sym joined-facts) (chain-more dims (facts_of ls) (f ∷ []) chain)
+    lifted {g = g} {h = h} chain = subst (λ (fs : List Fact). Chain dims fs g h) (sym joined_labels-facts) (chain-more dims (facts_of ls) (f ∷ []) chain)
 
     cases : (y : Labelled) → Contains all y → IsImage old ls y ⊎ (new ≡ y)
     cases y among = either (Contains-push_cases (map old ls) new y among)
@@ -209,11 +209,11 @@ module _ (dims : List Dimension) (f : Fact) where
         either (inl a) = subst (λ (l : Labelled). IsReached dims all l.fact l.label) a.is (reached-old a.from a.among (is_touched dims f ls a.from.label) refl)
         either (inr a) = subst (λ (l : Labelled). IsReached dims all l.fact l.label) a reached-new
 
-    pub joined-components : AreComponents dims all
-    joined-components = record { told = told; touching = touching; reached = reached; low = low }
+    pub joined_labels-components : AreComponents dims all
+    joined_labels-components = record { told = told; touching = touching; reached = reached; low = low }
 
-    pub joined-below : (y : Labelled) → Contains all y → y.fact.id < f.id + 1
-    joined-below y in_y = either (cases y in_y)
+    pub joined_labels-below : (y : Labelled) → Contains all y → y.fact.id < f.id + 1
+    joined_labels-below y in_y = either (cases y in_y)
       where
         either : IsImage old ls y ⊎ (new ≡ y) → y.fact.id < f.id + 1
         either (inl a) = omega (arith, above a.from a.among, ap (λ (l : Labelled). l.fact.id) a.is)
@@ -224,22 +224,22 @@ pub record AreLabelled (dims : List Dimension) (ls : List Labelled) (facts : Lis
   pub components : AreComponents dims ls
   pub same : facts_of ls ≡ facts
 
-joined-rest : (dims : List Dimension) (ls : List Labelled) (done : List Fact) (least : ℕ) (rest : List Fact) → AreComponents dims ls → facts_of ls ≡ done → ((x : Labelled) → Contains ls x → x.fact.id < least)
-    → ascends_from (λ f. f.id) least rest ≡ true → AreLabelled dims (fold (joined dims) ls rest) (done ++ rest)
-joined-rest dims ls done least [] are is below ascends = record { components = are; same = is ∙ sym (append-nil done) }
-joined-rest dims ls done least (f ∷ rest) are is below ascends =
+joined_labels-rest : (dims : List Dimension) (ls : List Labelled) (done : List Fact) (least : ℕ) (rest : List Fact) → AreComponents dims ls → facts_of ls ≡ done → ((x : Labelled) → Contains ls x → x.fact.id < least)
+    → ascends_from (λ f. f.id) least rest ≡ true → AreLabelled dims (fold (joined_labels dims) ls rest) (done ++ rest)
+joined_labels-rest dims ls done least [] are is below ascends = record { components = are; same = is ∙ sym (append-nil done) }
+joined_labels-rest dims ls done least (f ∷ rest) are is below ascends =
     let first = ascends_first (λ (f : Fact). f.id) least f rest ascends in
     let above = λ (x : Labelled) (among : Contains ls x). let now : x.fact.id < f.id = omega (arith, below x among, first.from) in now in
     let all =
-    joined-rest dims (joined dims ls f) (done ++ f ∷ []) (f.id + 1) rest (joined-components dims f ls are above) (joined-facts dims f ls are above ∙ ap (λ fs. fs ++ f ∷ []) is)
-    (joined-below dims f ls are above) first.others
+    joined_labels-rest dims (joined_labels dims ls f) (done ++ f ∷ []) (f.id + 1) rest (joined_labels-components dims f ls are above) (joined_labels-facts dims f ls are above ∙ ap (λ fs. fs ++ f ∷ []) is)
+    (joined_labels-below dims f ls are above) first.others
     in
     record { components = all.components; same = all.same ∙ append_assoc done (f ∷ []) rest }
 
 pub labelled-facts : (dims : List Dimension) (facts : List Fact) → ascends_from (λ f. f.id) 0 facts ≡ true → AreLabelled dims (labelled dims facts) facts
 unfolding labelled
 labelled-facts dims facts ascends =
-    joined-rest dims [] [] 0 facts
+    joined_labels-rest dims [] [] 0 facts
     (record {
       told = λ x y in_x in_y same. absurd (omega (arith, in_x.1));
       touching = λ x y in_x in_y touches. absurd (omega (arith, in_x.1));

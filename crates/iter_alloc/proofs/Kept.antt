@@ -6,7 +6,7 @@ use Rattle.cube_model.specs.Tree.{Dimension}
 use Rattle.iter_alloc.proofs.Chains.{touching-shown}
 use Rattle.iter_alloc.proofs.Tests.{itself, and-both, and-first, and-second, not-true, not-false}
 use Rattle.iter_alloc.specs.Iterated.{portion_from}
-use Rattle.iter_alloc.specs.Rounds.{UNIT, start, has_cell, share_of, share_by, level_from}
+use Rattle.iter_alloc.specs.Rounds.{WHOLE_FACT, start, has_cell, share_of, share_by, level_from}
 use Rattle.iter_alloc.specs.Touching.{IsClosed}
 use Rattle.region_algebra.specs.Space.{common_cells}
 use Rattle.std.proofs.Common.{◌≡◌, ℕ, zero, suc, ◌+◌, ◌-◌, ◌*◌, Bool, true, false, List, [], ◌∷◌, get_or, length, refl, ap, sym, ◌∙◌, arith}
@@ -84,8 +84,8 @@ module _ (dims : List Dimension) (keep : Fact → Bool) (facts : List Fact) (clo
   same-portion rounds region f is = either (is_precise dims f) refl
     where
       either : (b : Bool) → is_precise dims f ≡ b
-          → (if b then UNIT * length (common_cells dims f.region region) else sum_by (share_by (level_from dims facts (filter keep facts) (rounds - 1)) (cells_of dims f.region)) (common_cells dims f.region region))
-          ≡ (if b then UNIT * length (common_cells dims f.region region) else sum_by (share_by (level_from dims facts facts (rounds - 1)) (cells_of dims f.region)) (common_cells dims f.region region))
+          → (if b then WHOLE_FACT * length (common_cells dims f.region region) else sum_by (share_by (level_from dims facts (filter keep facts) (rounds - 1)) (cells_of dims f.region)) (common_cells dims f.region region))
+          ≡ (if b then WHOLE_FACT * length (common_cells dims f.region region) else sum_by (share_by (level_from dims facts facts (rounds - 1)) (cells_of dims f.region)) (common_cells dims f.region region))
       either true precise = refl
       either false spread =
           let cells = λ (c : ℕ) (here : is_among (cells_of dims f.region) c ≡ true). same-levels (rounds - 1) c f is (and-both (not (is_precise dims f)) (is_among (cells_of dims f.region) c) (not-false (is_precise dims f) spread) here) in
@@ -99,8 +99,8 @@ module _ (dims : List Dimension) (keep : Fact → Bool) (facts : List Fact) (clo
 -- a fact that shares no cell with a region has no portion in it
 pub portion-apart : (dims : List Dimension) (facts givers : List Fact) (rounds : ℕ) (region : List ℕ) (f : Fact) → common_cells dims f.region region ≡ [] → portion_from dims facts givers rounds region f ≡ 0
 portion-apart dims facts givers rounds region f none =
-    ap (λ cells. if is_precise dims f then UNIT * length cells else sum_by (share_by (level_from dims facts givers (rounds - 1)) (cells_of dims f.region)) cells) none ∙ either (is_precise dims f)
+    ap (λ cells. if is_precise dims f then WHOLE_FACT * length cells else sum_by (share_by (level_from dims facts givers (rounds - 1)) (cells_of dims f.region)) cells) none ∙ either (is_precise dims f)
   where
-    either : (b : Bool) → (if b then UNIT * 0 else 0) ≡ 0
+    either : (b : Bool) → (if b then WHOLE_FACT * 0 else 0) ≡ 0
     either true = omega arith
     either false = refl

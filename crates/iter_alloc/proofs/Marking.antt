@@ -10,7 +10,7 @@ use Rattle.iter_alloc.proofs.Tests.{equal, itself}
 use Rattle.iter_alloc.specs.Claims.{roots_of}
 use Rattle.iter_alloc.specs.Counting.{ArePlacedIn}
 use Rattle.iter_alloc.specs.Forest.{at, AreOwnRoots}
-use Rattle.iter_alloc.specs.Marks.{is_marked, region_at, AreTouched, AreRootMarks, is_kept, AreMarks, is_of}
+use Rattle.iter_alloc.specs.Marks.{is_marked, spot_region, AreTouched, AreRootMarks, is_kept, AreMarks, is_of}
 use Rattle.iter_alloc.specs.Spotting.{regions_of, spot_of, spotted_all}
 use Rattle.iter_alloc.specs.Touching.{touch}
 use Rattle.region_algebra.specs.Space.{common_cells}
@@ -26,12 +26,12 @@ module _ (dims : List Dimension) (firsts : List First) (roots region : List ℕ)
   touched-start touched long = record { as_many = long; apart = λ spot below. absurd (omega arith) }
 
   module _ (k : ℕ) (touched : List Bool) (are : AreTouched dims firsts roots region k touched) where
-    pub touched-apart : common_cells dims (region_at firsts k) region ≡ [] → AreTouched dims firsts roots region (k + 1) touched
+    pub touched-apart : common_cells dims (spot_region firsts k) region ≡ [] → AreTouched dims firsts roots region (k + 1) touched
     touched-apart none = record { as_many = are.as_many; apart = λ spot below. either spot (cases_lt spot k) below }
       where
-        either : (spot : ℕ) → (spot < k) ⊎ (k ≤ spot) → spot < k + 1 → is_marked touched (at roots spot) ≡ false → common_cells dims (region_at firsts spot) region ≡ []
+        either : (spot : ℕ) → (spot < k) ⊎ (k ≤ spot) → spot < k + 1 → is_marked touched (at roots spot) ≡ false → common_cells dims (spot_region firsts spot) region ≡ []
         either spot (inl under) below not_touched = are.apart spot under not_touched
-        either spot (inr up) below not_touched = let is : k ≡ spot = omega (arith, up, below) in subst (λ s. common_cells dims (region_at firsts s) region ≡ []) is none
+        either spot (inr up) below not_touched = let is : k ≡ spot = omega (arith, up, below) in subst (λ s. common_cells dims (spot_region firsts s) region ≡ []) is none
 
     pub touched-more : at roots k < length firsts → AreTouched dims firsts roots region (k + 1) (set touched (at roots k) true)
     touched-more within = record { as_many = length-set touched (at roots k) true ∙ are.as_many; apart = λ spot below. either spot (cases_lt spot k) below (at roots spot == at roots k) refl }
@@ -40,7 +40,7 @@ module _ (dims : List Dimension) (firsts : List First) (roots region : List ℕ)
         here spot same = ap (λ n. is_marked (set touched (at roots k) true) n) same ∙ get_or-set_same touched (at roots k) true false (omega (arith, within, are.as_many))
 
         either : (spot : ℕ) → (spot < k) ⊎ (k ≤ spot) → spot < k + 1 → (b : Bool) → (at roots spot == at roots k) ≡ b → is_marked (set touched (at roots k) true) (at roots spot) ≡ false
-            → common_cells dims (region_at firsts spot) region ≡ []
+            → common_cells dims (spot_region firsts spot) region ≡ []
         either spot order below true is not_touched = cc (here spot (equal (at roots spot) (at roots k) is), not_touched)
         either spot (inl under) below false is not_touched =
             are.apart spot under (sym (get_or-set_other touched (at roots k) (at roots spot) true false (λ same. absurd (cc (ap (λ n. n == at roots k) same, itself (at roots k), is)))) ∙ not_touched)

@@ -8,9 +8,9 @@ use Rattle.indexmap.specs.IndexSet.{insert_key}
 use Rattle.iter_alloc.proofs.InSpots.{place-within, place-kept, place-new, place-absent}
 use Rattle.iter_alloc.proofs.Tests.{itself, or-left, or-right}
 use Rattle.iter_alloc.specs.Forest.{at}
-use Rattle.iter_alloc.specs.LaidOut.{AreOwnPlaces, IsKept, AreNumbered, marked_cells, part_at, AreLaidOut}
+use Rattle.iter_alloc.specs.LaidOut.{AreOwnPlaces, KeepsPlace, AreNumbered, marked_cells, part_at, AreLaidOut}
 use Rattle.iter_alloc.specs.Places.{Part, parts}
-use Rattle.iter_alloc.specs.Spotting.{has_code, place_in}
+use Rattle.iter_alloc.specs.Spotting.{is_among_codes, place_in}
 use Rattle.std.proofs.Common.{◌≡◌, ℕ, suc, ◌+◌, ◌<◌, ◌≤◌, Bool, true, false, List, [], ◌∷◌, ◌++◌, get_or, take, drop, length, map, refl, ap, sym, ◌∙◌, subst, arith, inl, inr, ◌⊎◌}
 use Rattle.std.proofs.lemmas.Bool.{cases_lt}
 use Rattle.std.proofs.lemmas.List.{get_or-map, append_assoc, length-append, length-map, length_push, get_or_append_left, get_or_push, map_push, take-append-le, drop-append-le, length-drop, take_all, nil_from_length}
@@ -26,34 +26,34 @@ map-alike f g [] same = refl
 map-alike f g (x ∷ xs) same = ap (λ y. y ∷ map f xs) (same 0 x (omega arith)) ∙ ap (λ ys. g x ∷ ys) (map-alike f g xs (λ k d within. same (suc k) d (omega arith)))
 
 module _ (keys : List ℕ) (cell : ℕ) where
-  insert-cases : (P : List ℕ → Type 0) → (has_code keys cell ≡ true → P keys) → (has_code keys cell ≡ false → P (keys ++ cell ∷ [])) → P (insert_key nat_eq keys cell)
-  insert-cases P old new = either (has_code keys cell) refl
+  insert-cases : (P : List ℕ → Type 0) → (is_among_codes keys cell ≡ true → P keys) → (is_among_codes keys cell ≡ false → P (keys ++ cell ∷ [])) → P (insert_key nat_eq keys cell)
+  insert-cases P old new = either (is_among_codes keys cell) refl
     where
-      either : (b : Bool) → has_code keys cell ≡ b → P (if b then keys else keys ++ cell ∷ [])
+      either : (b : Bool) → is_among_codes keys cell ≡ b → P (if b then keys else keys ++ cell ∷ [])
       either true is = old is
       either false is = new is
 
-  pub insert-kept : (x : ℕ) → has_code keys x ≡ true → IsKept keys (insert_key nat_eq keys cell) x
+  pub insert-kept : (x : ℕ) → is_among_codes keys x ≡ true → KeepsPlace keys (insert_key nat_eq keys cell) x
   insert-kept x has =
-      insert-cases (λ now. IsKept keys now x) (λ _. record { has = has; place = refl }) (λ _. record {
-        has = list_any-append (λ c. nat_eq x c) keys (cell ∷ []) ∙ or-left (has_code keys x) (has_code (cell ∷ []) x) has;
+      insert-cases (λ now. KeepsPlace keys now x) (λ _. record { has = has; place = refl }) (λ _. record {
+        has = list_any-append (λ c. nat_eq x c) keys (cell ∷ []) ∙ or-left (is_among_codes keys x) (is_among_codes (cell ∷ []) x) has;
         place = place-kept keys (cell ∷ []) x has;
       })
 
   -- the place that the cell has afterwards is the one that it would have had
-  pub insert-placed : IsKept keys (insert_key nat_eq keys cell) cell
+  pub insert-placed : KeepsPlace keys (insert_key nat_eq keys cell) cell
   insert-placed =
-      insert-cases (λ now. IsKept keys now cell) (λ has. record { has = has; place = refl }) (λ absent. record {
-        has = list_any-append (λ c. nat_eq cell c) keys (cell ∷ []) ∙ or-right (has_code keys cell) (has_code (cell ∷ []) cell) (or-left (nat_eq cell cell) false (itself cell));
+      insert-cases (λ now. KeepsPlace keys now cell) (λ has. record { has = has; place = refl }) (λ absent. record {
+        has = list_any-append (λ c. nat_eq cell c) keys (cell ∷ []) ∙ or-right (is_among_codes keys cell) (is_among_codes (cell ∷ []) cell) (or-left (nat_eq cell cell) false (itself cell));
         place = place-new keys [] cell absent ∙ sym (place-absent keys cell absent);
       })
 
   pub insert-own : AreOwnPlaces keys → AreOwnPlaces (insert_key nat_eq keys cell)
   insert-own are = insert-cases (λ now. AreOwnPlaces now) (λ _. are) (λ absent. record { own = λ i within. either absent i (cases_lt i (length keys)) within })
     where
-      either : has_code keys cell ≡ false → (i : ℕ) → (i < length keys) ⊎ (length keys ≤ i) → i < length (keys ++ cell ∷ []) → place_in (keys ++ cell ∷ []) (at (keys ++ cell ∷ []) i) ≡ i
+      either : is_among_codes keys cell ≡ false → (i : ℕ) → (i < length keys) ⊎ (length keys ≤ i) → i < length (keys ++ cell ∷ []) → place_in (keys ++ cell ∷ []) (at (keys ++ cell ∷ []) i) ≡ i
       either absent i (inl there) within =
-          let has : has_code keys (at keys i) ≡ true = list_any_at (λ c. nat_eq (at keys i) c) keys i 0 there (itself (at keys i)) in
+          let has : is_among_codes keys (at keys i) ≡ true = list_any_at (λ c. nat_eq (at keys i) c) keys i 0 there (itself (at keys i)) in
           ap (λ c. place_in (keys ++ cell ∷ []) c) (get_or_append_left keys (cell ∷ []) 0 i there) ∙ place-kept keys (cell ∷ []) (at keys i) has ∙ are.own i there
       either absent i (inr last) within =
           let is : length keys ≡ i = omega (arith, last, within, length_push keys cell) in
@@ -66,7 +66,7 @@ module _ (before keys begun flat cells : List ℕ) (are : AreNumbered before key
   abbrev after : List ℕ
   after = insert_key nat_eq keys cell
 
-  kept-after : (x : ℕ) → IsKept before keys x → IsKept before after x
+  kept-after : (x : ℕ) → KeepsPlace before keys x → KeepsPlace before after x
   kept-after x is = let later = insert-kept keys cell x is.has in record { has = later.has; place = later.place ∙ is.place }
 
   pub numbered-push : (now : List ℕ) (place : ℕ) (more : List ℕ) → now ≡ after → place ≡ place_in keys cell → more ≡ flat ++ place ∷ [] → AreNumbered before now begun more (cells ++ cell ∷ [])
@@ -82,7 +82,7 @@ module _ (before keys begun flat cells : List ℕ) (are : AreNumbered before key
             ∙ append_assoc begun (map (place_in after) cells) (place_in after cell ∷ [])
             ∙ ap (λ (ps : List ℕ). begun ++ ps) (sym (map_push (place_in after) cells cell));
         has =
-            All-push (λ c. has_code after c ≡ true) cells cell (All-weaker (λ c. has_code keys c ≡ true) (λ c. has_code after c ≡ true) (λ c has. (insert-kept keys cell c has).has) cells are.has)
+            All-push (λ c. is_among_codes after c ≡ true) cells cell (All-weaker (λ c. is_among_codes keys c ≡ true) (λ c. is_among_codes after c ≡ true) (λ c has. (insert-kept keys cell c has).has) cells are.has)
             (insert-placed keys cell).has;
         own = insert-own keys cell are.own;
       })
@@ -96,7 +96,7 @@ free-behind before keys now begun flat cells are free = record {
   longer = omega (arith, are.longer, free.longer);
   kept = λ x has. let was = are.kept x has in let is = free.kept x was.has in record { has = is.has; place = is.place ∙ was.place };
   flat_is = are.flat_is ∙ ap (λ (ps : List ℕ). begun ++ ps) (map-alike (place_in keys) (place_in now) cells (λ k d within. sym (free.kept (get_or cells k d) (are.has k d within)).place));
-  has = All-weaker (λ c. has_code keys c ≡ true) (λ c. has_code now c ≡ true) (λ c has. (free.kept c has).has) cells are.has;
+  has = All-weaker (λ c. is_among_codes keys c ≡ true) (λ c. is_among_codes now c ≡ true) (λ c has. (free.kept c has).has) cells are.has;
   own = free.own;
 }
 
@@ -156,9 +156,9 @@ module _ (dims : List Dimension) (firsts : List First) (marks : List Bool) (memb
     new-within : All (λ place. place < length now) added
     new-within = All-map (λ place. place < length now) (place_in now) cells (λ j d inside. (place-within now (get_or cells j d) (numbered.has j d inside)).0)
 
-    has-more : (spot : ℕ) → (spot < k) ⊎ (k ≤ spot) → spot < k + 1 → All (λ cell. has_code now cell ≡ true) (marked_cells dims firsts marks spot)
+    has-more : (spot : ℕ) → (spot < k) ⊎ (k ≤ spot) → spot < k + 1 → All (λ cell. is_among_codes now cell ≡ true) (marked_cells dims firsts marks spot)
     has-more spot (inl below) last = λ j d inside. (numbered.kept (get_or (marked_cells dims firsts marks spot) j d) (are.has spot below j d inside)).has
-    has-more spot (inr up) last = let is : k ≡ spot = omega (arith, up, last) in subst (λ s. All (λ cell. has_code now cell ≡ true) (marked_cells dims firsts marks s)) is numbered.has
+    has-more spot (inr up) last = let is : k ≡ spot = omega (arith, up, last) in subst (λ s. All (λ cell. is_among_codes now cell ≡ true) (marked_cells dims firsts marks s)) is numbered.has
 
     pub laid-next : (span : Span) (more : List Span) → span.len ≡ length cells → span.members ≡ at members k → length cells ≤ MAX_CELLS → more ≡ spans ++ span ∷ [] → AreLaidOut dims firsts marks members (k + 1) now longer more
     laid-next span more long is_members few is_more =

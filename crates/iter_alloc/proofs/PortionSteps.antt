@@ -9,7 +9,7 @@ use Rattle.iter_alloc.proofs.PlaceSums.{sum_by-among}
 use Rattle.iter_alloc.specs.Forest.{at}
 use Rattle.iter_alloc.specs.Places.{Part, parts, ArePlaced}
 use Rattle.iter_alloc.specs.Portions.{portion_in, portion_by, portions_by}
-use Rattle.iter_alloc.specs.Rounds.{UNIT, share_of, share_by}
+use Rattle.iter_alloc.specs.Rounds.{WHOLE_FACT, share_of, share_by}
 use Rattle.region_algebra.specs.Space.{common_cells, IsRegion}
 use Rattle.std.proofs.Common.{◌≡◌, ℕ, ◌+◌, ◌*◌, ◌^◌, ◌<◌, ◌≤◌, Bool, true, false, List, [], ◌∷◌, ◌++◌, get_or, take, drop, length, map, refl, ap, sym, ◌∙◌, subst, arith}
 use Rattle.std.proofs.lemmas.List.{append_assoc, drop_more, length-drop}
@@ -28,18 +28,18 @@ abbrev pub term_in : List ℕ → List ℕ → List ℕ → List ℕ → ℕ →
 term_in inside keys levels own i = if is_among inside (at keys i) then share_by (at levels) own i else 0
 
 module _ (inside keys levels own : List ℕ) where
-  term-small : All (λ i. term_in inside keys levels own i ≤ UNIT) own
+  term-small : All (λ i. term_in inside keys levels own i ≤ WHOLE_FACT) own
   term-small k d within = either (is_among inside (at keys (get_or own k d)))
     where
-      share-small : share_by (at levels) own (get_or own k d) ≤ UNIT
+      share-small : share_by (at levels) own (get_or own k d) ≤ WHOLE_FACT
       share-small = share-unit (at levels (get_or own k d)) (sum_by (at levels) own) (length own) (get_or-le-sum_by (at levels) own k d within)
 
-      either : (b : Bool) → (if b then share_by (at levels) own (get_or own k d) else 0) ≤ UNIT
+      either : (b : Bool) → (if b then share_by (at levels) own (get_or own k d) else 0) ≤ WHOLE_FACT
       either true = share-small
       either false = omega arith
 
   pub find-start : length own ≤ MAX_CELLS → Finding (term_in inside keys levels own) own 0 0
-  find-start few = record { all = omega arith; fits = omega (arith, sum_by-le (term_in inside keys levels own) UNIT own term-small, few) }
+  find-start few = record { all = omega arith; fits = omega (arith, sum_by-le (term_in inside keys levels own) WHOLE_FACT own term-small, few) }
 
   module _ (k found : ℕ) (finding : Finding (term_in inside keys levels own) own k found) (more : k < length own) where
     here : (d : ℕ) → sum_by (term_in inside keys levels own) (drop k own) ≡ term_in inside keys levels own (get_or own k d) + sum_by (term_in inside keys levels own) (drop (k + 1) own)
@@ -120,7 +120,7 @@ module _ (dims : List Dimension) (region portions : List ℕ) (facts : List Fact
     pub apportion-within : i < length spots
     apportion-within = omega (arith, apportioning.long, ap (λ (fs : List Fact). length fs) first)
 
-    pub apportion-fits : UNIT * length (common_cells dims f.region region) < 2 ^ 64
+    pub apportion-fits : WHOLE_FACT * length (common_cells dims f.region region) < 2 ^ 64
     apportion-fits =
         omega (
           arith,

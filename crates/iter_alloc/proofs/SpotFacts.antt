@@ -10,7 +10,7 @@ use Rattle.iter_alloc.specs.Claims.{roots_of}
 use Rattle.iter_alloc.specs.Components.{labels}
 use Rattle.iter_alloc.specs.Counting.{ArePlacedIn}
 use Rattle.iter_alloc.specs.Forest.{AreOwnRoots}
-use Rattle.iter_alloc.specs.Spotting.{Spotted, codes_of, spot_of, spot_in, spotted_all, regions_of, labels_by}
+use Rattle.iter_alloc.specs.Spotting.{Spotted, spot_codes, spot_of, spot_in, spotted_all, regions_of, labels_by}
 use Rattle.region_algebra.specs.Space.{code_of, IsRegion}
 use Rattle.std.proofs.Common.{◌≡◌, ℕ, ◌<◌, Bool, true, false, List, get_or, length, refl, ap, sym, ◌∙◌, subst, arith}
 use Rattle.std.proofs.lemmas.List.{length-map, get_or_default}
@@ -31,7 +31,7 @@ module _ (dims : List Dimension) (facts : List Fact) (firsts : List First) (spot
 
   spot-some : (f : Fact) → (is_precise dims f ≡ false → HasSpot dims firsts f) → (b : Bool) → is_precise dims f ≡ b → IfSome (if b then None else Some (spot_of dims firsts f)) (λ s. s < length firsts)
   spot-some f has true precise = tt
-  spot-some f has false several = omega (arith, (place-within (codes_of dims firsts) (code_of dims f.region) (has several).has).0, length-map firsts (λ (h : First). code_of dims h.region))
+  spot-some f has false several = omega (arith, (place-within (spot_codes dims firsts) (code_of dims f.region) (has several).has).0, length-map firsts (λ (h : First). code_of dims h.region))
 
   pub spots-within : (n : ℕ) → n ≡ length firsts → All (λ spot. IfSome spot (λ s. s < n)) spots
   spots-within n long =

@@ -5,8 +5,8 @@ use Rattle.cube_model.specs.Facts.{is_precise}
 use Rattle.cube_model.specs.Tree.{Dimension, IsTree}
 use Rattle.iter_alloc.proofs.InSpots.{place-within, IsFirst, HasSpot, AreSpotted}
 use Rattle.iter_alloc.specs.Counting.{ArePlacedIn}
-use Rattle.iter_alloc.specs.Marks.{region_at}
-use Rattle.iter_alloc.specs.Spotting.{codes_of, spot_of}
+use Rattle.iter_alloc.specs.Marks.{spot_region}
+use Rattle.iter_alloc.specs.Spotting.{spot_codes, spot_of}
 use Rattle.region_algebra.proofs.Tuples.{code_of-same}
 use Rattle.region_algebra.specs.Space.{code_of, IsRegion}
 use Rattle.std.proofs.Common.{◌≡◌, ℕ, ◌<◌, false, List, [], get_or, length, ap, sym, ◌∙◌, arith}
@@ -21,7 +21,7 @@ module _ (dims : List Dimension) (facts : List Fact) (firsts : List First) (spot
   has-spot = All-contains (λ f. is_precise dims f ≡ false → HasSpot dims firsts f) facts f are.each among several
 
   pub in-spots : spot_of dims firsts f < length firsts
-  in-spots = omega (arith, (place-within (codes_of dims firsts) (code_of dims f.region) has-spot.has).0, length-map firsts (λ (h : First). code_of dims h.region))
+  in-spots = omega (arith, (place-within (spot_codes dims firsts) (code_of dims f.region) has-spot.has).0, length-map firsts (λ (h : First). code_of dims h.region))
 
   abbrev none : First
   none = record { id = 0; region = [] }
@@ -29,10 +29,10 @@ module _ (dims : List Dimension) (facts : List Fact) (firsts : List First) (spot
   first : IsFirst dims facts (get_or firsts (spot_of dims firsts f) none)
   first = are.firsts (spot_of dims firsts f) none in-spots
 
-  pub region-of_spot : region_at firsts (spot_of dims firsts f) ≡ f.region
+  pub region-of_spot : spot_region firsts (spot_of dims firsts f) ≡ f.region
   region-of_spot =
       let same : (get_or firsts (spot_of dims firsts f) none).region ≡ first.fact.region = ap (λ (h : First). h.region) (sym first.is) in
-      let code = sym (get_or-map (λ (h : First). code_of dims h.region) firsts (spot_of dims firsts f) none 0 in-spots) ∙ (place-within (codes_of dims firsts) (code_of dims f.region) has-spot.has).1 in
+      let code = sym (get_or-map (λ (h : First). code_of dims h.region) firsts (spot_of dims firsts f) none 0 in-spots) ∙ (place-within (spot_codes dims firsts) (code_of dims f.region) has-spot.has).1 in
       let codes : code_of dims first.fact.region ≡ code_of dims f.region = ap (λ (r : List ℕ). code_of dims r) (sym same) ∙ code in
       get_or-map (λ (h : First). h.region) firsts (spot_of dims firsts f) none [] in-spots
       ∙ same

@@ -4,7 +4,7 @@ use Rattle.iter_alloc.specs.declared.spots.First.{First}
 use Rattle.cube_model.specs.Facts.{is_precise}
 use Rattle.cube_model.specs.Tree.{Dimension}
 use Rattle.iter_alloc.specs.Counting.{ArePlacedIn}
-use Rattle.iter_alloc.specs.Spotting.{codes_of, firsts_with, spot_in, spotted_next, spotted_all}
+use Rattle.iter_alloc.specs.Spotting.{spot_codes, firsts_with, spot_in, spotted_next, spotted_all}
 use Rattle.region_algebra.specs.Space.{IsRegion}
 use Rattle.std.proofs.Common.{◌≡◌, ℕ, List, [], ◌∷◌, ◌++◌, ap, sym, ◌∙◌, subst}
 use Rattle.std.proofs.lemmas.List.Elements.{All-head, All-tail}
@@ -13,7 +13,7 @@ use Rattle.std.specs.Prelude.{All, Option, if◌then◌else◌}
 
 -- what comes of the spots so far and the facts that are left is what comes of all
 pub record Spotting (dims : List Dimension) (facts left : List Fact) (codes : List ℕ) (firsts : List First) (spots : List (Option ℕ)) : Type 0 where
-  pub keys : codes ≡ codes_of dims firsts
+  pub keys : codes ≡ spot_codes dims firsts
   pub all : fold (spotted_next dims) (record { firsts = firsts; spots = spots }) left ≡ spotted_all dims facts
   pub regions : All (λ fact. IsRegion dims fact.region) left
 
@@ -21,7 +21,7 @@ pub spotting-start : (dims : List Dimension) (facts left : List Fact) (codes : L
     → Spotting dims facts left codes firsts spots
 unfolding spotted_all
 spotting-start dims facts left codes firsts spots placed is no_codes no_firsts no_spots = record {
-  keys = no_codes ∙ ap (codes_of dims) (sym no_firsts);
+  keys = no_codes ∙ ap (spot_codes dims) (sym no_firsts);
   all =
       ap (λ (fs : List First). fold (spotted_next dims) (record { firsts = fs; spots = spots }) left) no_firsts
       ∙ ap (λ (ss : List (Option ℕ)). fold (spotted_next dims) (record { firsts = []; spots = ss }) left) no_spots
@@ -33,7 +33,7 @@ module _ (dims : List Dimension) (facts left : List Fact) (codes : List ℕ) (fi
   pub spotting-region : (f : Fact) (others : List Fact) → left ≡ f ∷ others → IsRegion dims f.region
   spotting-region f others first = All-head (λ fact. IsRegion dims fact.region) f others (subst (λ (fs : List Fact). All (λ fact. IsRegion dims fact.region) fs) first spotting.regions)
 
-  pub spotting-next : (f : Fact) (others : List Fact) → left ≡ f ∷ others → (now : List ℕ) (later : List First) (spot : Option ℕ) (more : List (Option ℕ)) → now ≡ codes_of dims later
+  pub spotting-next : (f : Fact) (others : List Fact) → left ≡ f ∷ others → (now : List ℕ) (later : List First) (spot : Option ℕ) (more : List (Option ℕ)) → now ≡ spot_codes dims later
       → later ≡ (if is_precise dims f then firsts else firsts_with dims firsts f) → spot ≡ spot_in dims firsts f → more ≡ spots ++ spot ∷ [] → Spotting dims facts others now later more
   spotting-next f others first now later spot more is_now is_later is_spot is_more = record {
     keys = is_now;

@@ -20,10 +20,10 @@ use Rattle.iter_alloc.specs.Counting.{ArePlacedIn}
 use Rattle.iter_alloc.specs.Forest.{at}
 use Rattle.iter_alloc.specs.Iterated.{portion}
 use Rattle.iter_alloc.specs.LaidOut.{marked_cells, part_at, AreLaidOut}
-use Rattle.iter_alloc.specs.Marks.{is_marked, region_at, is_kept, AreMarks, is_of, AreMembers}
+use Rattle.iter_alloc.specs.Marks.{is_marked, spot_region, is_kept, AreMarks, is_of, AreMembers}
 use Rattle.iter_alloc.specs.Places.{Part, parts, amount, amounts, placed_level, LEVEL_LIMIT}
 use Rattle.iter_alloc.specs.Portions.{portion_in, ArePortions, PORTION_LIMIT}
-use Rattle.iter_alloc.specs.Rounds.{UNIT, start, has_cell, share_by, given, level_from}
+use Rattle.iter_alloc.specs.Rounds.{WHOLE_FACT, start, has_cell, share_by, given_to_cell, level_from}
 use Rattle.iter_alloc.specs.Spotting.{spot_of, spot_in, spotted_all}
 use Rattle.region_algebra.specs.Space.{common_cells}
 use Rattle.std.proofs.Common.{◌≡◌, ℕ, zero, suc, ◌+◌, ◌-◌, ◌*◌, ◌<◌, ◌≤◌, Bool, true, false, List, [], ◌∷◌, get_or, length, map, refl, ap, sym, ◌∙◌, subst, arith}
@@ -62,11 +62,11 @@ module _ (dims : List Dimension) (facts : List Fact) (firsts : List First) (spot
       either : (p : Bool) → is_precise dims f ≡ p
           → (if is_kept dims firsts marks f then (if not p && is_among (cells_of dims f.region) cell then share_by level (cells_of dims f.region) cell else 0) else 0)
           ≡ value_in (worth level cell) (if p then None else Some (spot_of dims firsts f))
-      either true precise = worth-of level cell f (spot_of dims firsts f) true (is_kept dims firsts marks f) (region_at firsts (spot_of dims firsts f)) (λ apart. absurd (cc apart))
-      either false several = worth-of level cell f (spot_of dims firsts f) false (is_kept dims firsts marks f) (region_at firsts (spot_of dims firsts f)) (λ _. region-of_spot dims facts firsts spots trees placed (spots-are dims facts firsts spots placed is) f among several)
+      either true precise = worth-of level cell f (spot_of dims firsts f) true (is_kept dims firsts marks f) (spot_region firsts (spot_of dims firsts f)) (λ apart. absurd (cc apart))
+      either false several = worth-of level cell f (spot_of dims firsts f) false (is_kept dims firsts marks f) (spot_region firsts (spot_of dims firsts f)) (λ _. region-of_spot dims facts firsts spots trees placed (spots-are dims facts firsts spots placed is) f among several)
 
-  given-worth : (level : ℕ → ℕ) (cell : ℕ) → given dims givers level cell ≡ sum_by (value_in (worth level cell)) spots
-  given-worth level cell =
+  given_to_cell-worth : (level : ℕ → ℕ) (cell : ℕ) → given_to_cell dims givers level cell ≡ sum_by (value_in (worth level cell)) spots
+  given_to_cell-worth level cell =
       sum_by-filter (has_cell dims cell) (λ f. share_by level (cells_of dims f.region) cell) givers
       ∙ sum_by-filter (is_kept dims firsts marks) (λ f. if has_cell dims cell f then share_by level (cells_of dims f.region) cell else 0) facts
       ∙ sum_by-among (λ f. if is_kept dims firsts marks f then (if has_cell dims cell f then share_by level (cells_of dims f.region) cell else 0) else 0) (λ f. value_in (worth level cell) (spot_in dims firsts f)) facts
@@ -85,8 +85,8 @@ module _ (dims : List Dimension) (facts : List Fact) (firsts : List First) (spot
   ascends-marked : (spot : ℕ) → ascends_from (λ c. c) 0 (cells spot) ≡ true
   ascends-marked spot = either (is_marked marks spot)
     where
-      either : (b : Bool) → ascends_from (λ c. c) 0 (if b then cells_of dims (region_at firsts spot) else []) ≡ true
-      either true = ascends_cells dims (region_at firsts spot)
+      either : (b : Bool) → ascends_from (λ c. c) 0 (if b then cells_of dims (spot_region firsts spot) else []) ≡ true
+      either true = ascends_cells dims (spot_region firsts spot)
       either false = refl
 
   module _ (members keys flat : List ℕ) (spans : List Span) (counted : AreMembers spots (length firsts) members) (laid : AreLaidOut dims firsts marks members (length firsts) keys flat spans) where
@@ -109,14 +109,14 @@ module _ (dims : List Dimension) (facts : List Fact) (firsts : List First) (spot
     spot-amount l p same i inside spot within =
         amount-same keys laid.own l p same (cells spot) (laid.has spot within) 0 (at members spot) i inside (ascends-marked spot) ∙ ap (λ n. n * worth l (at keys i) spot) (counted.each spot within)
 
-    round-same : (l p : ℕ → ℕ) → ((i : ℕ) → i < length keys → p i ≡ l (at keys i)) → (i : ℕ) → i < length keys → amounts p all i ≡ given dims givers l (at keys i)
+    round-same : (l p : ℕ → ℕ) → ((i : ℕ) → i < length keys → p i ≡ l (at keys i)) → (i : ℕ) → i < length keys → amounts p all i ≡ given_to_cell dims givers l (at keys i)
     round-same l p same i inside =
         ap (λ (ps : List Part). sum_by (amount p i) ps) laid.parts_are
         ∙ sum_by-map (amount p i) (part_at dims firsts marks members keys) (range_with_len 0 (length firsts))
         ∙ sum_by-among (λ k. amount p i (part_at dims firsts marks members keys k)) (λ k. count_by (is_of k) spots * worth l (at keys i) k) (range_with_len 0 (length firsts))
         (λ k d within. spot-amount l p same i inside (get_or (range_with_len 0 (length firsts)) k d) (below k d within))
         ∙ sum-spots (worth l (at keys i)) (length firsts) spots (spots-within dims facts firsts spots placed is (length firsts) refl)
-        ∙ sym (given-worth l (at keys i))
+        ∙ sym (given_to_cell-worth l (at keys i))
 
     pub levels-same : (n i : ℕ) → i < length keys → placed_level begun all n i ≡ level n (at keys i)
     unfolding placed_level level_from
@@ -161,11 +161,11 @@ module _ (dims : List Dimension) (facts : List Fact) (firsts : List First) (spot
         low : All (λ n. n ≤ PORTION_LIMIT) portions
         low k d within =
             let k_inside : k < length firsts = omega (arith, within, long) in
-            let each = All-filter (is_among inside) (λ c. share_by (level (rounds - 1)) (cells k) c ≤ UNIT) (cells k) (λ j e in_cells. share_by-unit (level (rounds - 1)) (cells k) (get_or (cells k) j e) (all-among (cells k) j e in_cells)) in
+            let each = All-filter (is_among inside) (λ c. share_by (level (rounds - 1)) (cells k) c ≤ WHOLE_FACT) (cells k) (λ j e in_cells. share_by-unit (level (rounds - 1)) (cells k) (get_or (cells k) j e) (all-among (cells k) j e in_cells)) in
             omega (
               arith,
               portion-at k d k_inside,
-              sum_by-le (share_by (level (rounds - 1)) (cells k)) UNIT (filter (is_among inside) (cells k)) each,
+              sum_by-le (share_by (level (rounds - 1)) (cells k)) WHOLE_FACT (filter (is_among inside) (cells k)) each,
               length-filter (is_among inside) (cells k),
               count_by-le-length (is_among inside) (cells k),
               cells-few k k_inside,
@@ -178,14 +178,14 @@ module _ (dims : List Dimension) (facts : List Fact) (firsts : List First) (spot
           within_spots : spot < length firsts
           within_spots = in-spots dims facts firsts spots trees placed (spots-are dims facts firsts spots placed is) f among several
 
-          same-region : region_at firsts spot ≡ f.region
+          same-region : spot_region firsts spot ≡ f.region
           same-region = region-of_spot dims facts firsts spots trees placed (spots-are dims facts firsts spots placed is) f among several
 
           by-mark : (b : Bool) → is_marked marks spot ≡ b
-              → sum_by (share_by (level (rounds - 1)) (if b then cells_of dims (region_at firsts spot) else [])) (filter (is_among inside) (if b then cells_of dims (region_at firsts spot) else [])) ≡ portion dims facts rounds region f
+              → sum_by (share_by (level (rounds - 1)) (if b then cells_of dims (spot_region firsts spot) else [])) (filter (is_among inside) (if b then cells_of dims (spot_region firsts spot) else [])) ≡ portion dims facts rounds region f
           by-mark true marks_it =
               ap (λ (r : List ℕ). sum_by (share_by (level (rounds - 1)) (cells_of dims r)) (filter (is_among inside) (cells_of dims r))) same-region
-              ∙ sym (ap (λ (b : Bool). if b then UNIT * length (common_cells dims f.region region) else sum_by (share_by (level (rounds - 1)) (cells_of dims f.region)) (common_cells dims f.region region)) several)
+              ∙ sym (ap (λ (b : Bool). if b then WHOLE_FACT * length (common_cells dims f.region region) else sum_by (share_by (level (rounds - 1)) (cells_of dims f.region)) (common_cells dims f.region region)) several)
               ∙ same-portion dims (is_kept dims firsts marks) facts marked.whole rounds region f (record { among = among; kept = marks_it })
           by-mark false marks_not = sym (portion-apart dims facts facts rounds region f (ap (λ (r : List ℕ). common_cells dims r region) (sym same-region) ∙ marked.apart spot within_spots marks_not))
 

@@ -12,7 +12,7 @@ use Rattle.iter_alloc.specs.Marks.{is_of}
 use Rattle.iter_alloc.specs.Places.{falls, amount}
 use Rattle.iter_alloc.specs.Portions.{portion_in}
 use Rattle.iter_alloc.specs.Rounds.{share_of, share_by}
-use Rattle.iter_alloc.specs.Spotting.{has_code, place_in}
+use Rattle.iter_alloc.specs.Spotting.{is_among_codes, place_in}
 use Rattle.std.proofs.Common.{◌≡◌, ℕ, zero, suc, ◌+◌, ◌*◌, ◌<◌, ◌≤◌, Bool, true, false, List, [], ◌∷◌, get_or, length, map, refl, ap, sym, ◌∙◌, arith}
 use Rattle.std.proofs.lemmas.List.{length-map}
 use Rattle.std.proofs.lemmas.List.Sums.{sum_by-cons}
@@ -41,7 +41,7 @@ falls-once gets least (y ∷ ys) x ascends =
     either false is rest later = omega (arith, sum_by-cons (λ i. if i == x then gets i else 0) y ys, ap (λ b. if b then gets y else 0) is, rest)
 
 -- cells with their places
-module _ (keys : List ℕ) (own : AreOwnPlaces keys) (level placed : ℕ → ℕ) (same : (i : ℕ) → i < length keys → placed i ≡ level (at keys i)) (cells : List ℕ) (has : All (λ c. has_code keys c ≡ true) cells) where
+module _ (keys : List ℕ) (own : AreOwnPlaces keys) (level placed : ℕ → ℕ) (same : (i : ℕ) → i < length keys → placed i ≡ level (at keys i)) (cells : List ℕ) (has : All (λ c. is_among_codes keys c ≡ true) cells) where
   abbrev places : List ℕ
   places = map (place_in keys) cells
 

@@ -30,12 +30,12 @@ least_label dims f (l ∷ earlier) = if touch dims f l.fact then min l.label (le
 abbrev pub relabel : List Dimension → Fact → List Labelled → Labelled → Labelled
 relabel dims f earlier l = record { fact = l.fact; label = if is_touched dims f earlier l.label then least_label dims f earlier else l.label }
 
-abbrev pub joined : List Dimension → List Labelled → Fact → List Labelled
-joined dims earlier f = map (relabel dims f earlier) earlier ++ record { fact = f; label = least_label dims f earlier } ∷ []
+abbrev pub joined_labels : List Dimension → List Labelled → Fact → List Labelled
+joined_labels dims earlier f = map (relabel dims f earlier) earlier ++ record { fact = f; label = least_label dims f earlier } ∷ []
 
 -- facts with the labels of their components
 unfoldable pub labelled : List Dimension → List Fact → List Labelled
-labelled dims facts = fold (joined dims) [] facts
+labelled dims facts = fold (joined_labels dims) [] facts
 
 abbrev pub labels : List Dimension → List Fact → List ℕ
 labels dims facts = map (λ l. l.label) (labelled dims facts)

@@ -4,7 +4,7 @@ use Rattle.cube_model.specs.Answer.{total_by}
 use Rattle.cube_model.specs.Cells.{cells_of}
 use Rattle.cube_model.specs.Facts.{is_precise}
 use Rattle.cube_model.specs.Tree.{Dimension}
-use Rattle.iter_alloc.specs.Rounds.{UNIT, share_by, level_from}
+use Rattle.iter_alloc.specs.Rounds.{WHOLE_FACT, share_by, level_from}
 use Rattle.region_algebra.specs.Space.{common_cells}
 use Rattle.std.specs.List.{sum_by, range_with_len}
 use Rattle.std.specs.Prelude.{if◌then◌else◌, slice_index_or, ℕ, zero, suc, ◌-◌, ◌*◌, List, length, map, ℤ, pos, ◌*ℤ◌}
@@ -14,7 +14,7 @@ use Rattle.std.specs.Prelude.{if◌then◌else◌, slice_index_or, ℕ, zero, su
 abbrev pub portion_from : List Dimension → List Fact → List Fact → ℕ → List ℕ → Fact → ℕ
 portion_from dims facts givers rounds region fact =
     if is_precise dims fact
-    then UNIT * length (common_cells dims fact.region region)
+    then WHOLE_FACT * length (common_cells dims fact.region region)
     else sum_by (share_by (level_from dims facts givers (rounds - 1)) (cells_of dims fact.region)) (common_cells dims fact.region region)
 
 abbrev pub portion : List Dimension → List Fact → ℕ → List ℕ → Fact → ℕ

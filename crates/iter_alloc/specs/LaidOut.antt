@@ -6,7 +6,7 @@ use Rattle.cube_model.specs.Limits.{MAX_CELLS}
 use Rattle.cube_model.specs.Tree.{Dimension}
 use Rattle.iter_alloc.specs.Forest.{at}
 use Rattle.iter_alloc.specs.Places.{Part, parts}
-use Rattle.iter_alloc.specs.Spotting.{has_code, place_in, regions_of}
+use Rattle.iter_alloc.specs.Spotting.{is_among_codes, place_in, regions_of}
 use Rattle.std.specs.List.{sum_by, range_with_len}
 use Rattle.std.specs.Prelude.{All, if◌then◌else◌, slice_index_or, ◌≡◌, ℕ, ◌<◌, ◌≤◌, Bool, true, false, List, [], ◌++◌, length, map}
 
@@ -15,16 +15,16 @@ pub record AreOwnPlaces (keys : List ℕ) : Type 0 where
   pub own : (i : ℕ) → i < length keys → place_in keys (at keys i) ≡ i
 
 -- a cell keeps the place that it has
-pub record IsKept (before keys : List ℕ) (cell : ℕ) : Type 0 where
-  pub has : has_code keys cell ≡ true
+pub record KeepsPlace (before keys : List ℕ) (cell : ℕ) : Type 0 where
+  pub has : is_among_codes keys cell ≡ true
   pub place : place_in keys cell ≡ place_in before cell
 
 -- places of some cells were appended, and those of others were kept
 pub record AreNumbered (before keys begun flat cells : List ℕ) : Type 0 where
   pub longer : length before ≤ length keys
-  pub kept : (cell : ℕ) → has_code before cell ≡ true → IsKept before keys cell
+  pub kept : (cell : ℕ) → is_among_codes before cell ≡ true → KeepsPlace before keys cell
   pub flat_is : flat ≡ begun ++ map (place_in keys) cells
-  pub has : All (λ cell. has_code keys cell ≡ true) cells
+  pub has : All (λ cell. is_among_codes keys cell ≡ true) cells
   pub own : AreOwnPlaces keys
 
 -- the cells of a spot, if it is marked
@@ -41,5 +41,5 @@ pub record AreLaidOut (dims : List Dimension) (firsts : List First) (marks : Lis
   pub parted : sum_by (λ span. span.len) spans ≡ length flat
   pub within : All (λ place. place < length keys) flat
   pub few : All (λ span. span.len ≤ MAX_CELLS) spans
-  pub has : (spot : ℕ) → spot < count → All (λ cell. has_code keys cell ≡ true) (marked_cells dims firsts marks spot)
+  pub has : (spot : ℕ) → spot < count → All (λ cell. is_among_codes keys cell ≡ true) (marked_cells dims firsts marks spot)
   pub own : AreOwnPlaces keys

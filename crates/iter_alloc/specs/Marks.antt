@@ -13,19 +13,19 @@ abbrev pub is_marked : List Bool → ℕ → Bool
 is_marked marks spot = slice_index_or marks spot false
 
 -- the region of a spot
-abbrev pub region_at : List First → ℕ → List ℕ
-region_at firsts spot = slice_index_or (regions_of firsts) spot []
+abbrev pub spot_region : List First → ℕ → List ℕ
+spot_region firsts spot = slice_index_or (regions_of firsts) spot []
 
 -- of the first so many spots, one whose root is not touched shares no cell with the region
 pub record AreTouched (dims : List Dimension) (firsts : List First) (roots region : List ℕ) (count : ℕ) (touched : List Bool) : Type 0 where
   pub as_many : length touched ≡ length firsts
-  pub apart : (spot : ℕ) → spot < count → is_marked touched (at roots spot) ≡ false → common_cells dims (region_at firsts spot) region ≡ []
+  pub apart : (spot : ℕ) → spot < count → is_marked touched (at roots spot) ≡ false → common_cells dims (spot_region firsts spot) region ≡ []
 
 -- spots of one root are marked alike, and one that is not marked shares no cell with the region
 pub record AreRootMarks (dims : List Dimension) (firsts : List First) (roots region : List ℕ) (marks : List Bool) : Type 0 where
   pub as_many : length marks ≡ length firsts
   pub alike : (s t : ℕ) → s < length firsts → t < length firsts → at roots s ≡ at roots t → is_marked marks s ≡ is_marked marks t
-  pub apart : (spot : ℕ) → spot < length firsts → is_marked marks spot ≡ false → common_cells dims (region_at firsts spot) region ≡ []
+  pub apart : (spot : ℕ) → spot < length firsts → is_marked marks spot ≡ false → common_cells dims (spot_region firsts spot) region ≡ []
 
 -- a fact whose spot is marked
 abbrev pub is_kept : List Dimension → List First → List Bool → Fact → Bool
@@ -35,7 +35,7 @@ is_kept dims firsts marks fact = is_marked marks (spot_of dims firsts fact)
 pub record AreMarks (dims : List Dimension) (facts : List Fact) (firsts : List First) (region : List ℕ) (marks : List Bool) : Type 0 where
   pub as_many : length marks ≡ length firsts
   pub whole : IsClosed dims (is_kept dims firsts marks) facts
-  pub apart : (spot : ℕ) → spot < length firsts → is_marked marks spot ≡ false → common_cells dims (region_at firsts spot) region ≡ []
+  pub apart : (spot : ℕ) → spot < length firsts → is_marked marks spot ≡ false → common_cells dims (spot_region firsts spot) region ≡ []
 
 -- a fact is of this spot
 abbrev pub is_of : ℕ → Option ℕ → Bool

@@ -8,7 +8,7 @@ use Rattle.cube_model.specs.Tree.{Dimension}
 use Rattle.iter_alloc.specs.Forest.{at}
 use Rattle.iter_alloc.specs.Iterated.{portion, value_of}
 use Rattle.iter_alloc.specs.Places.{Part}
-use Rattle.iter_alloc.specs.Rounds.{UNIT, share_by}
+use Rattle.iter_alloc.specs.Rounds.{WHOLE_FACT, share_by}
 use Rattle.iter_alloc.specs.Spotting.{spot_of}
 use Rattle.region_algebra.specs.Space.{common_cells}
 use Rattle.std.specs.List.{sum_by, Contains}
@@ -30,7 +30,7 @@ pub record ArePortions (dims : List Dimension) (facts : List Fact) (rounds : ℕ
 
 -- what of a fact is in a region, by its spot, or by its cell if it has none
 abbrev pub portion_by : List Dimension → List ℕ → List ℕ → Fact → Option ℕ → ℕ
-portion_by dims region portions fact None = UNIT * length (common_cells dims fact.region region)
+portion_by dims region portions fact None = WHOLE_FACT * length (common_cells dims fact.region region)
 portion_by dims region portions fact (Some spot) = at portions spot
 
 abbrev pub portions_by : List Dimension → List ℕ → List ℕ → List Fact → List (Option ℕ) → List ℕ

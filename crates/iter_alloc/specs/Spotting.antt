@@ -16,22 +16,22 @@ pub record Spotted : Type 0 where
   pub firsts : List First
   pub spots : List (Option ℕ)
 
-abbrev pub codes_of : List Dimension → List First → List ℕ
-codes_of dims firsts = map (λ first. code_of dims first.region) firsts
+abbrev pub spot_codes : List Dimension → List First → List ℕ
+spot_codes dims firsts = map (λ first. code_of dims first.region) firsts
 
 -- the place of a code among codes
 abbrev pub place_in : List ℕ → ℕ → ℕ
 place_in codes code = position_or_len (λ c. nat_eq code c) codes
 
-abbrev pub has_code : List ℕ → ℕ → Bool
-has_code codes code = list_any (λ c. nat_eq code c) codes
+abbrev pub is_among_codes : List ℕ → ℕ → Bool
+is_among_codes codes code = list_any (λ c. nat_eq code c) codes
 
 -- a fact more opens a spot where its region is a new one
 abbrev pub firsts_with : List Dimension → List First → Fact → List First
-firsts_with dims firsts fact = if has_code (codes_of dims firsts) (code_of dims fact.region) then firsts else firsts ++ first_of fact ∷ []
+firsts_with dims firsts fact = if is_among_codes (spot_codes dims firsts) (code_of dims fact.region) then firsts else firsts ++ first_of fact ∷ []
 
 abbrev pub spot_of : List Dimension → List First → Fact → ℕ
-spot_of dims firsts fact = place_in (codes_of dims firsts) (code_of dims fact.region)
+spot_of dims firsts fact = place_in (spot_codes dims firsts) (code_of dims fact.region)
 
 abbrev pub spot_in : List Dimension → List First → Fact → Option ℕ
 spot_in dims firsts fact = if is_precise dims fact then None else Some (spot_of dims firsts fact)

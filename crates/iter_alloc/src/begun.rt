@@ -6,7 +6,7 @@ ghost use Rattle.iter_alloc.specs.Counting.{ArePlacedIn};
 ghost use Rattle.iter_alloc.specs.Forest.{at};
 ghost use Rattle.iter_alloc.specs.LaidOut.{AreOwnPlaces};
 ghost use Rattle.iter_alloc.specs.Places.{IsRaised};
-ghost use Rattle.iter_alloc.specs.Rounds.{UNIT, start};
+ghost use Rattle.iter_alloc.specs.Rounds.{WHOLE_FACT, start};
 
 use crate::rounds::UNIT;
 use cube_base::Memory;
@@ -39,8 +39,8 @@ fn add_precise(space: &Space, fact: Fact, cells: &IndexSet<u64>, begun: &mut [u6
     requires region { IsRegion space.now fact.region }
     requires own { AreOwnPlaces cells.now.keys }
     requires as_many { length begun.old ≡ length cells.now.keys }
-    requires fits { (i : ℕ) → i < length begun.old → at begun.old i + UNIT < 2 ^ 64 }
-    ensures { IsRaised (λ i. if lies_at space.now (at cells.now.keys i) fact then UNIT else 0) begun.old begun.new }
+    requires fits { (i : ℕ) → i < length begun.old → at begun.old i + WHOLE_FACT < 2 ^ 64 }
+    ensures { IsRaised (λ i. if lies_at space.now (at cells.now.keys i) fact then WHOLE_FACT else 0) begun.old begun.new }
 {
     if let Some(cell) = space.cell_code(fact.region) {
         if let Some(place) = cells.get_index_of(&cell) {

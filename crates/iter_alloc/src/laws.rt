@@ -11,7 +11,7 @@ ghost use Rattle.iter_alloc.specs.Components.{AreComponents, Chain, Labelled, fa
 ghost use Rattle.iter_alloc.specs.Counting.{cells_in_all};
 ghost use Rattle.iter_alloc.specs.Examples.{joining_facts, lone_fact};
 ghost use Rattle.iter_alloc.specs.Iterated.{iterated_all, portion, portion_from};
-ghost use Rattle.iter_alloc.specs.Rounds.{UNIT, has_cell, level_at, level_from};
+ghost use Rattle.iter_alloc.specs.Rounds.{WHOLE_FACT, has_cell, level_at, level_from};
 ghost use Rattle.iter_alloc.specs.Touching.{IsClosed};
 
 /// The labels of facts that are taken one after another tell the components: two facts have one label exactly where a chain of
@@ -40,7 +40,7 @@ pub fn rounds_of_components_suffice()
     ensures portions { (dims : List Dimension) (keep : Fact → Bool) (facts : List Fact) → IsClosed dims keep facts → (rounds : ℕ) (region : List ℕ) (f : Fact)
         → Contains facts f → keep f ≡ true → portion_from dims facts (filter keep facts) rounds region f ≡ portion dims facts rounds region f }
     ensures apart { (dims : List Dimension) (facts : List Fact) (rounds : ℕ) (region : List ℕ) (f : Fact) → common_cells dims f.region region ≡ [] → portion dims facts rounds region f ≡ 0 }
-    ensures bounds { (dims : List Dimension) (keep : Fact → Bool) (facts : List Fact) (n cell : ℕ) → level_from dims facts (filter keep facts) n cell ≤ UNIT * length facts }
+    ensures bounds { (dims : List Dimension) (keep : Fact → Bool) (facts : List Fact) (n cell : ℕ) → level_from dims facts (filter keep facts) n cell ≤ WHOLE_FACT * length facts }
 {}
 
 /// Rounds and components that were worked out by hand. Two facts are somewhere in two cells, at which two facts and one lie.

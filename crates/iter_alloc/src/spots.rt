@@ -3,7 +3,7 @@ ghost use Rattle.std.specs.Prelude.{◌≡◌, length, IfOk, OnOk, if◌then◌e
 ghost use Rattle.cube_model.specs.Facts.{is_precise};
 ghost use Rattle.region_algebra.specs.Space.{IsRegion};
 ghost use Rattle.iter_alloc.specs.Counting.{ArePlacedIn};
-ghost use Rattle.iter_alloc.specs.Spotting.{codes_of, firsts_with, spot_in, spotted_all};
+ghost use Rattle.iter_alloc.specs.Spotting.{firsts_with, spot_codes, spot_in, spotted_all};
 
 use cube_base::Memory;
 use cube_model::{Fact, Region};
@@ -49,8 +49,8 @@ fn add_fact(
     firsts: &mut Vec<First>,
 ) -> Result<Option<usize>, Memory>
     requires region { IsRegion space.now fact.region }
-    requires codes { codes.old.keys ≡ codes_of space.now firsts.old.items }
-    ensures codes { OnOk result (codes.new.keys ≡ codes_of space.now firsts.new.items) }
+    requires codes { codes.old.keys ≡ spot_codes space.now firsts.old.items }
+    ensures codes { OnOk result (codes.new.keys ≡ spot_codes space.now firsts.new.items) }
     ensures firsts { OnOk result (firsts.new.items ≡ (if is_precise space.now fact then firsts.old.items else firsts_with space.now firsts.old.items fact)) }
     ensures spot { IfOk result (λ spot. spot ≡ spot_in space.now firsts.old.items fact) }
 {

@@ -13,7 +13,7 @@ use Rattle.staged_map.specs.Staged.{value_at}
 use Rattle.region_index.proofs.Changing.{after-none}
 use Rattle.region_index.specs.Changes.{Applies, IsUnchanged, Pair}
 use Rattle.region_index.specs.Content.{Content, holds_ids, ids_at}
-use Rattle.region_index.specs.PatternChanges.{Recounts, count_at, times_among}
+use Rattle.region_index.specs.PatternChanges.{Recounts, pattern_count, times_among}
 use Rattle.region_index.specs.Patterns.{HasPatterns, Patterns, pattern_of}
 use Rattle.library_tests.specs.Counted.{AreCounted}
 
@@ -75,7 +75,7 @@ HasPatterns-first dims pairs puts drops regions given taken empty staged new non
       let named = named-held pairs staged new code no_ids here holds in
       let among : is_among given (pattern_of dims region) ≡ true = rw given_is (counted code region at named) in
       let times = times_among-some given (pattern_of dims region) among in
-      let no_count : count_at counts (pattern_of dims region) ≡ 0 = ap (λ found. unwrap_or found 0) (counts_same.values (pattern_of dims region)) ∙ ap (λ (p : Patterns). count_at p (pattern_of dims region)) none_is in
+      let no_count : pattern_count counts (pattern_of dims region) ≡ 0 = ap (λ found. unwrap_or found 0) (counts_same.values (pattern_of dims region)) ∙ ap (λ (p : Patterns). pattern_count p (pattern_of dims region)) none_is in
       let untaken : times_among taken (pattern_of dims region) ≡ 0 = ap (λ (ps : List ℕ). times_among ps (pattern_of dims region)) taken_is in
       in_use (value_at patterns (pattern_of dims region)) (omega (arith, recounts.counts (pattern_of dims region), no_count, times, untaken));
 }

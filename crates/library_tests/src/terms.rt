@@ -1,6 +1,6 @@
 //! Terms to which shares are added.
 ghost use Rattle.std.specs.Prelude.{◌≡◌, ◌≤◌, [], ◌∷◌, IfOk, length};
-ghost use Rattle.library_tests.specs.Small.{AreSmall};
+ghost use Rattle.library_tests.specs.Small.{AreSmallLists};
 
 use cube_base::Cols;
 use group_sum::Terms;

@@ -13,9 +13,9 @@ use Rattle.std.proofs.lemmas.Map.Views.{any-filter_same}
 use Rattle.cube_model.specs.Ascending.{ascends_from}
 use Rattle.cube_model.specs.Cells.{is_among}
 use Rattle.cube_model.proofs.Ascending.{AscendsFrom, ascends_cons, ascends_filter, ascends_first, ascends_later}
-use Rattle.staged_map.specs.Staged.{Entries, Places, PutsAll, Reserves, ReservesSome, entry_of, value_at}
-use Rattle.staged_map.proofs.Entries.{entry_of-made, have_places-reserved, keys_of-made}
-use Rattle.region_index.specs.Changes.{Applies, AreByCode, IsStagedFor, IsUnchanged, Pair, Staging, entry_at, entry_ids, held, ids_after, is_named, staging, with_id, with_puts, without}
+use Rattle.staged_map.specs.Staged.{Entries, Places, PutsAll, Reserves, ReservesSome, staged_entry, value_at}
+use Rattle.staged_map.proofs.Entries.{have_places-reserved, keys_of-made, staged_entry-made}
+use Rattle.region_index.specs.Changes.{Applies, AreByCode, IsStagedFor, IsUnchanged, Pair, Staging, changed_entry, entry_ids, ids_after, is_named, some_ids, staging, with_id, with_puts, without}
 use Rattle.region_index.specs.Content.{AreAscending, Content, IsContent, ids_at}
 use Rattle.region_index.proofs.Ascent.{ascending-same, filters-above}
 
@@ -142,7 +142,7 @@ after-none puts drops code ids none =
     ∙ filter-all (λ id. not (is_named drops code id)) ids (λ id. rw (named-none drops code id no_drop) refl)
 
 -- what ids are held as gives them back
-entry_ids-held : (ids : List ℕ) → entry_ids (held ids) ≡ ids
+entry_ids-held : (ids : List ℕ) → entry_ids (some_ids ids) ≡ ids
 entry_ids-held [] = refl
 entry_ids-held (id ∷ ids) = refl
 
@@ -182,15 +182,15 @@ IsStagedFor-reserved old new codes puts drops ascends named reserves = record {
 }
   where
     value : ℕ → Option (List ℕ)
-    value code = held (ids_after puts drops code (ids_at old code))
+    value code = some_ids (ids_after puts drops code (ids_at old code))
 
     ids_same : (code : ℕ) → ids_at new code ≡ ids_at old code
     ids_same code = ap (λ ids. unwrap_or ids []) (reserves.values code)
 
-    entry : (code : ℕ) → entry_of (staging old codes puts drops).entries code ≡ cond (is_among codes code) (Some (value code)) None
-    entry code = entry_of-made value codes code ∙ ap (λ b. cond b (Some (value code)) None) (any-flip codes code)
+    entry : (code : ℕ) → staged_entry (staging old codes puts drops).entries code ≡ cond (is_among codes code) (Some (value code)) None
+    entry code = staged_entry-made value codes code ∙ ap (λ b. cond b (Some (value code)) None) (any-flip codes code)
 
-    makes : (code : ℕ) (b : Bool) → is_among codes code ≡ b → option_map_or entry_ids (entry_of (staging old codes puts drops).entries code) (ids_at old code) ≡ ids_after puts drops code (ids_at old code)
+    makes : (code : ℕ) (b : Bool) → is_among codes code ≡ b → option_map_or entry_ids (staged_entry (staging old codes puts drops).entries code) (ids_at old code) ≡ ids_after puts drops code (ids_at old code)
     makes code true is = ap (λ e. option_map_or entry_ids e (ids_at old code)) (entry code ∙ ap (λ b. cond b (Some (value code)) None) is) ∙ entry_ids-held (ids_after puts drops code (ids_at old code))
     makes code false is =
         ap (λ e. option_map_or entry_ids e (ids_at old code)) (entry code ∙ ap (λ b. cond b (Some (value code)) None) is)
@@ -203,7 +203,7 @@ ids_at-put (Some ids) was = refl
 
 pub Applies-put : (old new : Content) (stage : Staging) → IsStagedFor old stage → PutsAll old new stage.entries → Applies old new stage.puts stage.drops
 Applies-put old new stage staged puts = record {
-  ids = λ code. ap (λ ids. unwrap_or ids []) (puts.values code) ∙ ids_at-put (entry_of stage.entries code) (value_at old code) ∙ staged.makes code;
+  ids = λ code. ap (λ ids. unwrap_or ids []) (puts.values code) ∙ ids_at-put (staged_entry stage.entries code) (value_at old code) ∙ staged.makes code;
 }
 
 -- and the ids ascend after as before
@@ -226,12 +226,12 @@ among-kept ids kept put all changed dropped kept_is all_is same id =
 -- ids that ascend, of which those are there that the changes leave, are a code's entry
 pub entry-made : (content put dropped : Content) (code : ℕ) (ids put_ids dropped_ids : List ℕ) (made : Option (List ℕ)) → put_ids ≡ ids_at put code → dropped_ids ≡ ids_at dropped code
     → AreAscending (ids_at content code) → AreAscending ids
-    → ((id : ℕ) → is_among ids id ≡ (is_among put_ids id || (is_among (ids_at content code) id && not (is_among dropped_ids id)))) → made ≡ held ids
-    → (puts drops : List Pair) → AreByCode put puts → AreByCode dropped drops → (code, made) ≡ entry_at content puts drops code
+    → ((id : ℕ) → is_among ids id ≡ (is_among put_ids id || (is_among (ids_at content code) id && not (is_among dropped_ids id)))) → made ≡ some_ids ids
+    → (puts drops : List Pair) → AreByCode put puts → AreByCode dropped drops → (code, made) ≡ changed_entry content puts drops code
 entry-made content put dropped code ids put_ids dropped_ids made put_is dropped_is was ascending members is puts drops puts_are drops_are =
     let all : ids ≡ ids_after puts drops code (ids_at content code) =
     changed-is puts drops code (ids_at content code) put_ids dropped_ids ids was ascending (put_is ∙ puts_are.ids code) (dropped_is ∙ drops_are.ids code) members in
-    ap (λ entry. (code, entry)) (is ∙ ap held all)
+    ap (λ entry. (code, entry)) (is ∙ ap some_ids all)
 
 -- what was staged before places were made
 pub IsStagedFor-made : (inside old new : Content) (codes given reserved : List ℕ) (puts drops : List Pair) (stage : Staging) → inside ≡ old → given ≡ codes → reserved ≡ codes → stage ≡ staging old given puts drops

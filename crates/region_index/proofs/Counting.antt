@@ -12,10 +12,10 @@ use Rattle.cube_model.specs.Limits.{MAX_DIMS}
 use Rattle.cube_model.specs.Tree.{Dimension, IsTree}
 use Rattle.region_algebra.proofs.Children.{count_by-cons}
 use Rattle.region_algebra.proofs.Turns.{drop-at}
-use Rattle.staged_map.specs.Staged.{Entries, Reserves, entry_of}
-use Rattle.staged_map.proofs.Entries.{entry_of-made, have_places-reserved, keys_of-made}
+use Rattle.staged_map.specs.Staged.{Entries, Reserves, staged_entry}
+use Rattle.staged_map.proofs.Entries.{have_places-reserved, keys_of-made, staged_entry-made}
 use Rattle.region_index.specs.Content.{AreAscending}
-use Rattle.region_index.specs.PatternChanges.{ArePatternsStaged, count_after, count_at, counted, entry_count, times_among}
+use Rattle.region_index.specs.PatternChanges.{ArePatternsStaged, count_after, count_if_some, entry_count, pattern_count, times_among}
 use Rattle.region_index.specs.Patterns.{Patterns, depth_of, pattern_of}
 use Rattle.region_index.proofs.Changing.{among-append, any-flip, distinct-ascending}
 use Rattle.region_index.proofs.Depths.{depth-most}
@@ -50,15 +50,15 @@ times-none (n ∷ numbers) number none =
     count_by-cons (λ m. m == number) n numbers ∙ grind (arith, none, times-none numbers number)
 
 -- a count that is kept gives itself back, and is some
-entry_count-counted : (count : ℕ) → entry_count (counted count) ≡ count
+entry_count-counted : (count : ℕ) → entry_count (count_if_some count) ≡ count
 entry_count-counted count = here (count == 0) refl
   where
     here : (b : Bool) → (count == 0) ≡ b → entry_count (if b then None else Some count) ≡ count
     here true is = grind (arith, nat_tests, is)
     here false is = refl
 
-counted-some : (count : ℕ) → IfSome (counted count) (λ n. 0 < n)
-counted-some count = here (count == 0) refl
+count_if_some-some : (count : ℕ) → IfSome (count_if_some count) (λ n. 0 < n)
+count_if_some-some count = here (count == 0) refl
   where
     here : (b : Bool) → (count == 0) ≡ b → IfSome (if b then None else Some count) (λ n. 0 < n)
     here true is = tt
@@ -66,7 +66,7 @@ counted-some count = here (count == 0) refl
 
 -- what was made ready for all patterns that the changes name is staged, once these have places
 pub ArePatternsStaged-reserved : (old new : Patterns) (keys given taken : List ℕ) (entries : Entries ℕ) → AreAscending keys → ((key : ℕ) → is_among keys key ≡ is_among (given ++ taken) key)
-    → entries ≡ map (λ key. (key, counted (count_after given taken key (count_at old key)))) keys → Reserves old new keys → ArePatternsStaged new (record { given = given; taken = taken; entries = entries })
+    → entries ≡ map (λ key. (key, count_if_some (count_after given taken key (pattern_count old key)))) keys → Reserves old new keys → ArePatternsStaged new (record { given = given; taken = taken; entries = entries })
 ArePatternsStaged-reserved old new keys given taken entries ascends named are reserves = rw are (record {
   different = rw (keys_of-made value keys) (distinct-ascending 0 keys ascends);
   makes = λ pattern. rw (same pattern) (makes pattern (is_among keys pattern) refl);
@@ -75,40 +75,40 @@ ArePatternsStaged-reserved old new keys given taken entries ascends named are re
 })
   where
     value : ℕ → Option ℕ
-    value key = counted (count_after given taken key (count_at old key))
+    value key = count_if_some (count_after given taken key (pattern_count old key))
 
     made : Entries ℕ
     made = map (λ key. (key, value key)) keys
 
-    same : (pattern : ℕ) → count_at new pattern ≡ count_at old pattern
+    same : (pattern : ℕ) → pattern_count new pattern ≡ pattern_count old pattern
     same pattern = ap (λ count. unwrap_or count 0) (reserves.values pattern)
 
-    entry : (pattern : ℕ) (b : Bool) → is_among keys pattern ≡ b → entry_of made pattern ≡ cond b (Some (value pattern)) None
-    entry pattern b is = entry_of-made value keys pattern ∙ ap (λ b. cond b (Some (value pattern)) None) (any-flip keys pattern ∙ is)
+    entry : (pattern : ℕ) (b : Bool) → is_among keys pattern ≡ b → staged_entry made pattern ≡ cond b (Some (value pattern)) None
+    entry pattern b is = staged_entry-made value keys pattern ∙ ap (λ b. cond b (Some (value pattern)) None) (any-flip keys pattern ∙ is)
 
     absent : (pattern : ℕ) → is_among keys pattern ≡ false → (is_among given pattern ≡ false) × (is_among taken pattern ≡ false)
     absent pattern is =
         let none : (is_among given pattern || is_among taken pattern) ≡ false = sym (among-append given taken pattern) ∙ sym (named pattern) ∙ is in
         (grind (arith, none), grind (arith, none))
 
-    makes : (pattern : ℕ) (b : Bool) → is_among keys pattern ≡ b → option_map_or entry_count (entry_of made pattern) (count_at old pattern) ≡ count_after given taken pattern (count_at old pattern)
-    makes pattern true is = ap (λ e. option_map_or entry_count e (count_at old pattern)) (entry pattern true is) ∙ entry_count-counted (count_after given taken pattern (count_at old pattern))
+    makes : (pattern : ℕ) (b : Bool) → is_among keys pattern ≡ b → option_map_or entry_count (staged_entry made pattern) (pattern_count old pattern) ≡ count_after given taken pattern (pattern_count old pattern)
+    makes pattern true is = ap (λ e. option_map_or entry_count e (pattern_count old pattern)) (entry pattern true is) ∙ entry_count-counted (count_after given taken pattern (pattern_count old pattern))
     makes pattern false is =
         let none = absent pattern is in
-        ap (λ e. option_map_or entry_count e (count_at old pattern)) (entry pattern false is)
+        ap (λ e. option_map_or entry_count e (pattern_count old pattern)) (entry pattern false is)
         ∙ omega (arith, times-none given pattern none.0, times-none taken pattern none.1)
 
-    some : (pattern : ℕ) (b : Bool) → is_among keys pattern ≡ b → IfSome (option_flatten (entry_of made pattern)) (λ count. 0 < count)
-    some pattern true is = subst (λ e. IfSome (option_flatten e) (λ count. 0 < count)) (sym (entry pattern true is)) (counted-some (count_after given taken pattern (count_at old pattern)))
+    some : (pattern : ℕ) (b : Bool) → is_among keys pattern ≡ b → IfSome (option_flatten (staged_entry made pattern)) (λ count. 0 < count)
+    some pattern true is = subst (λ e. IfSome (option_flatten e) (λ count. 0 < count)) (sym (entry pattern true is)) (count_if_some-some (count_after given taken pattern (pattern_count old pattern)))
     some pattern false is = subst (λ e. IfSome (option_flatten e) (λ count. 0 < count)) (sym (entry pattern false is)) tt
 
 -- the same of what a map beneath reserves, and of lists that are read as slices
 pub ArePatternsStaged-made : (inside old new : Patterns) (keys keys_read reserved given taken given_read taken_read all given_kept taken_kept : List ℕ) (entries : Entries ℕ) → inside ≡ old
     → keys_read ≡ keys → reserved ≡ keys → given_read ≡ given → taken_read ≡ taken → all ≡ given ++ taken → given_kept ≡ given → taken_kept ≡ taken
-    → AreAscending keys → ((key : ℕ) → is_among keys key ≡ is_among all key) → entries ≡ map (λ key. (key, counted (count_after given_read taken_read key (count_at old key)))) keys_read → Reserves inside new reserved
+    → AreAscending keys → ((key : ℕ) → is_among keys key ≡ is_among all key) → entries ≡ map (λ key. (key, count_if_some (count_after given_read taken_read key (pattern_count old key)))) keys_read → Reserves inside new reserved
     → ArePatternsStaged new (record { given = given_kept; taken = taken_kept; entries = entries })
 ArePatternsStaged-made inside old new keys keys_read reserved given taken given_read taken_read all given_kept taken_kept entries same keys_is reserved_is given_is taken_is all_is given_stays taken_stays ascends named are reserves =
     let room : Reserves old new keys = rw (same, reserved_is) at reserves in
     let members : (key : ℕ) → is_among keys key ≡ is_among (given ++ taken) key = λ key. named key ∙ ap (λ xs. is_among xs key) all_is in
-    let made : entries ≡ map (λ key. (key, counted (count_after given taken key (count_at old key)))) keys = rw (keys_is, given_is, taken_is) at are in
+    let made : entries ≡ map (λ key. (key, count_if_some (count_after given taken key (pattern_count old key)))) keys = rw (keys_is, given_is, taken_is) at are in
     rw (given_stays, taken_stays) (ArePatternsStaged-reserved old new keys given taken entries ascends members made room)

@@ -2,7 +2,7 @@
 use Rattle.std.specs.Prelude.{◌≡◌, ℕ, Bool, true, List, [], ◌∷◌, ◌++◌, filter, map, not, nat_lt, ◌&&◌, ◌==◌, if◌then◌else◌, Option, Some, None, unwrap_or}
 use Rattle.std.specs.List.{list_any}
 use Rattle.std.specs.Option.{option_map_or}
-use Rattle.staged_map.specs.Staged.{AreOfDifferentKeys, Entries, Places, entry_of, has_place, have_places, value_at}
+use Rattle.staged_map.specs.Staged.{AreOfDifferentKeys, Entries, Places, has_place, have_places, staged_entry, value_at}
 use Rattle.region_index.specs.Content.{Content, ids_at}
 
 -- a change: an id that is put at a code, or taken away there
@@ -37,20 +37,20 @@ pub record Staging : Type 0 where
   pub entries : Entries (List ℕ)
 
 -- the ids, where there are some
-abbrev pub held : List ℕ → Option (List ℕ)
-held [] = None
-held (id ∷ ids) = Some (id ∷ ids)
+abbrev pub some_ids : List ℕ → Option (List ℕ)
+some_ids [] = None
+some_ids (id ∷ ids) = Some (id ∷ ids)
 
 -- the entry that changes make at a code
-abbrev pub entry_at : Content → List Pair → List Pair → ℕ → ℕ × Option (List ℕ)
-entry_at content puts drops code = (code, held (ids_after puts drops code (ids_at content code)))
+abbrev pub changed_entry : Content → List Pair → List Pair → ℕ → ℕ × Option (List ℕ)
+changed_entry content puts drops code = (code, some_ids (ids_after puts drops code (ids_at content code)))
 
 -- the changes, with what they make of the content at these codes
 abbrev pub staging : Content → List ℕ → List Pair → List Pair → Staging
 staging content codes puts drops = record {
   puts = puts;
   drops = drops;
-  entries = map (entry_at content puts drops) codes;
+  entries = map (changed_entry content puts drops) codes;
 }
 
 -- at each code the ids that these changes name there, in the order of the changes
@@ -64,7 +64,7 @@ entry_ids entry = unwrap_or entry []
 -- The entries are what the changes make of the content, and their codes have places there.
 pub record IsStagedFor (content : Content) (stage : Staging) : Type 0 where
   pub different : AreOfDifferentKeys stage.entries
-  pub makes : (code : ℕ) → option_map_or entry_ids (entry_of stage.entries code) (ids_at content code) ≡ ids_after stage.puts stage.drops code (ids_at content code)
+  pub makes : (code : ℕ) → option_map_or entry_ids (staged_entry stage.entries code) (ids_at content code) ≡ ids_after stage.puts stage.drops code (ids_at content code)
   pub placed : have_places content stage.entries ≡ true
 
 -- nothing is held that was not, or the other way round; places stay

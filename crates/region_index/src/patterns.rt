@@ -5,7 +5,7 @@ ghost use Rattle.cube_model.specs.Cells.{is_among};
 ghost use Rattle.staged_map.specs.Staged.{value_at};
 ghost use Rattle.region_algebra.specs.Space.{IsRegion};
 ghost use Rattle.region_index.specs.Changes.{IsUnchanged};
-ghost use Rattle.region_index.specs.PatternChanges.{ArePatternsStaged, Recounts, count_after, count_at, counted, entries_between, times_among};
+ghost use Rattle.region_index.specs.PatternChanges.{ArePatternsStaged, Recounts, count_after, count_if_some, entries_between, pattern_count, times_among};
 ghost use Rattle.region_index.specs.Patterns.{codes_of_patterns, pattern_of, patterns_in_use};
 ghost use Rattle.region_index.specs.Walk.{IsOnTheWay, Probes};
 
@@ -106,7 +106,7 @@ impl DepthPatterns {
     ) -> Result<PatternStage, Memory>
         requires given { All (IsRegion space.now) given.now }
         requires taken { All (IsRegion space.now) taken.now }
-        requires room { (pattern : ℕ) → count_at self.old pattern + length given.now < 2 ^ 64 }
+        requires room { (pattern : ℕ) → pattern_count self.old pattern + length given.now < 2 ^ 64 }
         ensures given { IfOk result (λ stage. stage.given ≡ map (pattern_of space.now) given.now) }
         ensures taken { IfOk result (λ stage. stage.taken ≡ map (pattern_of space.now) taken.now) }
         ensures staged { IfOk result (ArePatternsStaged self.new) }
@@ -119,7 +119,7 @@ impl DepthPatterns {
 
     /// The same where the patterns are known.
     fn staged(&mut self, given: Vec<u64>, taken: Vec<u64>) -> Result<PatternStage, Memory>
-        requires { (pattern : ℕ) → count_at self.old pattern + length given.items < 2 ^ 64 }
+        requires { (pattern : ℕ) → pattern_count self.old pattern + length given.items < 2 ^ 64 }
         ensures given { IfOk result (λ stage. stage.given ≡ given.items) }
         ensures taken { IfOk result (λ stage. stage.taken ≡ taken.items) }
         ensures staged { IfOk result (ArePatternsStaged self.new) }
@@ -142,8 +142,8 @@ impl DepthPatterns {
         given: &[u64],
         taken: &[u64],
     ) -> Result<Vec<(u64, Option<u64>)>, Memory>
-        requires { (pattern : ℕ) → count_at self.now pattern + length given.now < 2 ^ 64 }
-        ensures { IfOk result (λ entries. entries.items ≡ map (λ key. (key, counted (count_after given.now taken.now key (count_at self.now key)))) keys.now) }
+        requires { (pattern : ℕ) → pattern_count self.now pattern + length given.now < 2 ^ 64 }
+        ensures { IfOk result (λ entries. entries.items ≡ map (λ key. (key, count_if_some (count_after given.now taken.now key (pattern_count self.now key)))) keys.now) }
     {
         let given = times(self.alloc, given)?;
         let taken = times(self.alloc, taken)?;
@@ -157,7 +157,7 @@ impl DepthPatterns {
         given: &Staged<u64>,
         taken: &Staged<u64>,
     ) -> Result<Vec<(u64, Option<u64>)>, Memory>
-        requires { (pattern : ℕ) → count_at self.now pattern + count_at given.now pattern < 2 ^ 64 }
+        requires { (pattern : ℕ) → pattern_count self.now pattern + pattern_count given.now pattern < 2 ^ 64 }
         ensures { IfOk result (λ entries. entries.items ≡ entries_between self.now given.now taken.now keys.now) }
     {
         let mut entries = Vec::new(self.alloc);
@@ -185,7 +185,7 @@ impl DepthPatterns {
 
 /// The count of a pattern.
 fn count_at(counts: &Staged<u64>, pattern: u64) -> u64
-    ensures { result ≡ count_at counts.now pattern }
+    ensures { result ≡ pattern_count counts.now pattern }
 {
     match counts.get(pattern) {
         Some(count) => *count,
@@ -195,14 +195,14 @@ fn count_at(counts: &Staged<u64>, pattern: u64) -> u64
 
 /// A count, where it is not none.
 fn counted(count: u64) -> Option<u64>
-    ensures { result ≡ counted count }
+    ensures { result ≡ count_if_some count }
 {
     if count == 0 { None } else { Some(count) }
 }
 
 /// How often each number stands among these.
 fn times(alloc: Global, numbers: &[u64]) -> Result<Staged<u64>, Memory>
-    ensures { IfOk result (λ times. (number : ℕ) → count_at times number ≡ times_among numbers.now number) }
+    ensures { IfOk result (λ times. (number : ℕ) → pattern_count times number ≡ times_among numbers.now number) }
 {
     let mut times = Staged::new(alloc);
     for number in numbers {
@@ -213,8 +213,8 @@ fn times(alloc: Global, numbers: &[u64]) -> Result<Staged<u64>, Memory>
 
 /// Counts a number once more.
 fn add_one(times: &mut Staged<u64>, number: u64) -> Result<(), Memory>
-    requires { count_at times.old number < 2 ^ 63 }
-    ensures { OnOk result ((n : ℕ) → count_at times.new n ≡ count_at times.old n + (if number == n then 1 else 0)) }
+    requires { pattern_count times.old number < 2 ^ 63 }
+    ensures { OnOk result ((n : ℕ) → pattern_count times.new n ≡ pattern_count times.old n + (if number == n then 1 else 0)) }
 {
     let count = count_at(times, number) + 1;
     times.reserve(&[number])?;

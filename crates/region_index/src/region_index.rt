@@ -2,7 +2,7 @@
 ghost use Rattle.std.specs.Prelude.{◌≡◌, ◌+◌, ◌<◌, ◌≤◌, ◌||◌, ◌&&◌, ℕ, List, [], IfOk, OnErr, length, map, not};
 ghost use Rattle.cube_model.specs.Cells.{all_cells, is_among};
 ghost use Rattle.region_index.specs.Content.{AreAscending, AreIdsAt, held_codes, ids_at};
-ghost use Rattle.region_index.specs.Changes.{Applies, AreByCode, IsStagedFor, IsUnchanged, Pair, entry_at, held, staging};
+ghost use Rattle.region_index.specs.Changes.{Applies, AreByCode, IsStagedFor, IsUnchanged, Pair, changed_entry, some_ids, staging};
 ghost use Rattle.region_index.specs.Over.{codes_over};
 ghost use Rattle.region_index.specs.Patterns.{HasPatterns, patterns_in_use};
 
@@ -186,7 +186,7 @@ impl RegionIndex {
         puts: &[(u64, u64)],
         drops: &[(u64, u64)],
     ) -> Result<Vec<(u64, Option<Ids>)>, Memory>
-        ensures { IfOk result (λ entries. entries.items ≡ map (entry_at self.now puts.now drops.now) codes.now) }
+        ensures { IfOk result (λ entries. entries.items ≡ map (changed_entry self.now puts.now drops.now) codes.now) }
     {
         let put = by_code(self.alloc, puts)?;
         let dropped = by_code(self.alloc, drops)?;
@@ -200,7 +200,7 @@ impl RegionIndex {
         put: &Staged<Ids>,
         dropped: &Staged<Ids>,
     ) -> Result<Vec<(u64, Option<Ids>)>, Memory>
-        ensures { IfOk result (λ entries. (puts drops : List Pair) → AreByCode put.now puts → AreByCode dropped.now drops → entries.items ≡ map (entry_at self.now puts drops) codes.now) }
+        ensures { IfOk result (λ entries. (puts drops : List Pair) → AreByCode put.now puts → AreByCode dropped.now drops → entries.items ≡ map (changed_entry self.now puts drops) codes.now) }
     {
         let mut entries = Vec::new(self.alloc);
         for code in codes {
@@ -216,7 +216,7 @@ impl RegionIndex {
         put: &Staged<Ids>,
         dropped: &Staged<Ids>,
     ) -> Result<(u64, Option<Ids>), Memory>
-        ensures { IfOk result (λ entry. (puts drops : List Pair) → AreByCode put.now puts → AreByCode dropped.now drops → entry ≡ entry_at self.now puts drops code) }
+        ensures { IfOk result (λ entry. (puts drops : List Pair) → AreByCode put.now puts → AreByCode dropped.now drops → entry ≡ changed_entry self.now puts drops code) }
     {
         let ids = self.changed_at(code, at_code(put, code), at_code(dropped, code))?;
         Ok((code, held(ids)))
@@ -248,7 +248,7 @@ impl RegionIndex {
 
 /// The ids, where there are some: a code without ids takes no room.
 fn held(ids: Vec<u64>) -> Option<Ids>
-    ensures { result ≡ held ids.items }
+    ensures { result ≡ some_ids ids.items }
 {
     if ids.is_empty() {
         None

@@ -18,7 +18,7 @@ use Rattle.script_text.specs.declared.word.ScriptWord.{ScriptWord}
 use Rattle.script_text.specs.declared.word.ScriptWord.TheVariants as script_word
 use Rattle.script_text.specs.ScriptLine.{command_line, dim_given, field_count_of, line_given, new_name_given, parent_given}
 use Rattle.script_text.specs.ScriptWord.{line_of_fact, word_spelled}
-use Rattle.row_feed.specs.FeedLine.{IsChange, is_said_word, rest_given}
+use Rattle.row_feed.specs.FeedLine.{IsChangeLine, is_said_word, rest_given}
 
 -- a word of an edit or a growth
 abbrev IsSaidWord : Option ScriptWord → Type 0
@@ -51,42 +51,42 @@ spelled field said = first (bytes_eq field (codes "insert")) refl said
     first false is some = second (bytes_eq field (codes "change")) refl some
 
 -- what the fields behind such a word say
-of_fact : (word : FactWord) (fact : Result Fact Code) (said : Line) → result_then (λ fact. Ok (line_of_fact word fact)) fact ≡ Ok said → IsChange said
+of_fact : (word : FactWord) (fact : Result Fact Code) (said : Line) → result_then (λ fact. Ok (line_of_fact word fact)) fact ≡ Ok said → IsChangeLine said
 of_fact word (Err why) said e = cc e
 of_fact Insert (Ok fact) said e = let same : said ≡ line.Edit (edit.Put fact) = cc in rw same tt
 of_fact Change (Ok fact) said e = let same : said ≡ line.Edit (edit.Change fact) = cc in rw same tt
 
-of_withdrawal : (id : Result ℕ Code) (said : Line) → result_then (λ id. Ok (line.Edit (edit.Withdraw id))) id ≡ Ok said → IsChange said
+of_withdrawal : (id : Result ℕ Code) (said : Line) → result_then (λ id. Ok (line.Edit (edit.Withdraw id))) id ≡ Ok said → IsChangeLine said
 of_withdrawal (Err why) said e = cc e
 of_withdrawal (Ok id) said e = let same : said ≡ line.Edit (edit.Withdraw id) = cc in rw same tt
 
 of_leaf : (dim : ℕ) (parent : Result ℕ Code) (name : Result (List ℕ) Code) (said : Line)
-    → result_then (λ parent. result_then (λ name. Ok (line.Grow (record { dim = dim; parent = parent; name = name }))) name) parent ≡ Ok said → IsChange said
+    → result_then (λ parent. result_then (λ name. Ok (line.Grow (record { dim = dim; parent = parent; name = name }))) name) parent ≡ Ok said → IsChangeLine said
 of_leaf dim (Err why) name said e = cc e
 of_leaf dim (Ok parent) (Err why) said e = cc e
 of_leaf dim (Ok parent) (Ok name) said e = let same : said ≡ line.Grow (record { dim = dim; parent = parent; name = name }) = cc in rw same tt
 
 of_growth : (dim : Result ℕ Code) (parent : ℕ → Result ℕ Code) (name : ℕ → Result (List ℕ) Code) (said : Line)
-    → result_then (λ dim. result_then (λ parent. result_then (λ name. Ok (line.Grow (record { dim = dim; parent = parent; name = name }))) (name dim)) (parent dim)) dim ≡ Ok said → IsChange said
+    → result_then (λ dim. result_then (λ parent. result_then (λ name. Ok (line.Grow (record { dim = dim; parent = parent; name = name }))) (name dim)) (parent dim)) dim ≡ Ok said → IsChangeLine said
 of_growth (Err why) parent name said e = cc e
 of_growth (Ok dim) parent name said e = of_leaf dim (parent dim) (name dim) said e
 
-of_word : (schema : SchemaValue) (word : ScriptWord) (fields : List (List ℕ)) (said : Line) → IsSaidWord (Some word) → line_given schema word fields ≡ Ok said → IsChange said
+of_word : (schema : SchemaValue) (word : ScriptWord) (fields : List (List ℕ)) (said : Line) → IsSaidWord (Some word) → line_given schema word fields ≡ Ok said → IsChangeLine said
 of_word schema (script_word.OfFact word) fields said is e = of_fact word (fact_given schema.dims (shape_of schema) fields) said e
 of_word schema script_word.Withdraw fields said is e = of_withdrawal (id_given fields) said e
 of_word schema script_word.Grow fields said is e =
     of_growth (dim_given schema (field_at fields 0)) (λ dim. parent_given schema.dims dim (field_at fields 1)) (λ dim. new_name_given schema.dims dim (field_at fields 2)) said e
 of_word schema (script_word.Asks word) fields said is e = absurd is
 
-of_command : (schema : SchemaValue) (fields : List (List ℕ)) (word : Option ScriptWord) (said : Line) → IsSaidWord word → command_line schema fields word ≡ Ok said → IsChange said
+of_command : (schema : SchemaValue) (fields : List (List ℕ)) (word : Option ScriptWord) (said : Line) → IsSaidWord word → command_line schema fields word ≡ Ok said → IsChangeLine said
 of_command schema fields None said is e = absurd is
 of_command schema fields (Some word) said is e = either (length fields == field_count_of schema word) e
   where
-    either : (b : Bool) → (if b then line_given schema word (drop 1 fields) else Err code.Fields) ≡ Ok said → IsChange said
+    either : (b : Bool) → (if b then line_given schema word (drop 1 fields) else Err code.Fields) ≡ Ok said → IsChangeLine said
     either true e = of_word schema word (drop 1 fields) said is e
     either false e = cc e
 
-pub rest_given-change : (schema : SchemaValue) (fields : List (List ℕ)) (said : Line) → is_said_word (field_at fields 0) ≡ true → rest_given schema fields ≡ Ok said → IsChange said
+pub rest_given-change : (schema : SchemaValue) (fields : List (List ℕ)) (said : Line) → is_said_word (field_at fields 0) ≡ true → rest_given schema fields ≡ Ok said → IsChangeLine said
 rest_given-change schema fields said is given =
     let command : command_line schema fields (word_spelled (field_at fields 0)) ≡ Ok said = rw is at given in
     of_command schema fields (word_spelled (field_at fields 0)) said (spelled (field_at fields 0) is) command

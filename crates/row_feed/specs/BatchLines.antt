@@ -25,7 +25,7 @@ abbrev pub IsThrough : Bool → List KeptRows → Type 0
 IsThrough false entries = ⊤
 IsThrough true entries = entries ≡ []
 
-pub record IsWalk (dims : List Dimension) (entries : List KeptRows) (place : ℕ) (ended : Bool) : Type 0 where
+pub record IsBatchWalk (dims : List Dimension) (entries : List KeptRows) (place : ℕ) (ended : Bool) : Type 0 where
   pub rows : AreRowsOf dims entries
   pub place_in : IsPlaceIn place entries
   pub through : IsThrough ended entries
@@ -42,6 +42,6 @@ IsNextLine true before line after = before ≡ line ∷ after
 IsNextLine false before line after = IsEnd before line after
 
 -- a text goes on with the first of the lines before
-pub record GoesOn (found : Bool) (before : List (List ℕ)) (old new : List ℕ) (after : List (List ℕ)) : Type 0 where
+pub record GoesOnWith (found : Bool) (before : List (List ℕ)) (old new : List ℕ) (after : List (List ℕ)) : Type 0 where
   pub keeps : take (length old) new ≡ old
   pub next : IsNextLine found before (drop (length old) new) after

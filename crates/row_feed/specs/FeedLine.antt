@@ -60,16 +60,16 @@ unfoldable pub feed_line_of : SchemaValue → List ℕ → Result FeedLine Code
 feed_line_of schema bytes = if is_long bytes then Err code.Long else (if is_clean bytes then feed_fields_given schema (fields_of bytes) else Err code.Text)
 
 -- an edit or a growth
-abbrev pub IsChange : Line → Type 0
-IsChange line.Nothing = ⊥
-IsChange (line.Edit change) = ⊤
-IsChange (line.Grow leaf) = ⊤
-IsChange (line.Ask asked) = ⊥
+abbrev pub IsChangeLine : Line → Type 0
+IsChangeLine line.Nothing = ⊥
+IsChangeLine (line.Edit change) = ⊤
+IsChangeLine (line.Grow leaf) = ⊤
+IsChangeLine (line.Ask asked) = ⊥
 
 -- what a batch says changes the cube, and what it names is there
 pub record IsChangeOf (schema : SchemaValue) (said : Line) : Type 0 where
   pub there : IsLineOf schema said
-  pub change : IsChange said
+  pub change : IsChangeLine said
 
 -- what a line names is there
 abbrev pub IsFeedLineOf : SchemaValue → FeedLine → Type 0

@@ -2,7 +2,7 @@
 ghost use Rattle.std.specs.Prelude.{◌≡◌, ◌<◌, ◌≤◌, ◌++◌, drop, length, IfOk, OnOk, OnErr};
 ghost use Rattle.cube_model.specs.Cells.{AreRows, all_cells};
 ghost use Rattle.text_lines.specs.LineText.{field_at};
-ghost use Rattle.row_feed.specs.BatchLines.{GoesOn, IsNextLine, IsPlaceIn, first_line};
+ghost use Rattle.row_feed.specs.BatchLines.{GoesOnWith, IsNextLine, IsPlaceIn, first_line};
 ghost use Rattle.row_feed.specs.FeedText.{AreRowsOf, behind_lines, row_line, rows_head, rows_lines};
 
 use cube_base::Memory;
@@ -27,13 +27,13 @@ pub struct BatchLines<'a> {
 
 impl<'a> Model for BatchLines<'a> {
     ghost use Rattle.std.specs.Prelude.{ℕ, List};
-    ghost use Rattle.row_feed.specs.BatchLines.{IsWalk, lines_left};
+    ghost use Rattle.row_feed.specs.BatchLines.{IsBatchWalk, lines_left};
 
     ghost Value = { List (List ℕ) };
 
     ghost view = { λ w. lines_left w.space.now w.entries.now w.place w.ended };
 
-    ghost invariant = { λ w. IsWalk w.space.now w.entries.now w.place w.ended };
+    ghost invariant = { λ w. IsBatchWalk w.space.now w.entries.now w.place w.ended };
 }
 
 impl<'a> BatchLines<'a> {
@@ -62,7 +62,7 @@ impl<'a> BatchLines<'a> {
 
     /// Appends the next line to a text, without its LF: false exactly where none is left.
     pub(crate) fn append_next(&mut self, text: &mut Vec<u8>) -> Result<bool, Memory>
-        ensures next { IfOk result (λ found. GoesOn found self.old text.old.items text.new.items self.new) }
+        ensures next { IfOk result (λ found. GoesOnWith found self.old text.old.items text.new.items self.new) }
         ensures same { OnErr result (self.new ≡ self.old) }
     {
         if self.ended {

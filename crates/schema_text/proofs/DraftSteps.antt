@@ -19,7 +19,7 @@ use Rattle.schema_text.specs.declared.word.SchemaWord.{SchemaWord}
 use Rattle.schema_text.specs.declared.word.SchemaWord.TheVariants.{Cube, Policy, Number, Parts, Dimension as DimensionWord, Node, View, End}
 use Rattle.schema_text.specs.Draft.{HasNodes, HasViews, IsDraft, IsNextMeasure, IsNextNode, open_count}
 use Rattle.schema_text.specs.Schema.{AreViews, IsKind, MAX_VIEWS}
-use Rattle.schema_text.specs.SchemaText.{Draft, depth_fields, depth_of, ended, has_many_cells, has_many_regions, has_no_room, has_wrong_count, has_wrong_depth, has_wrong_depths, has_wrong_name, has_wrong_names, has_wrong_number, has_wrong_policy, is_wrong_depth, is_wrong_name, lacks_measure, may_follow, measure_behind, node_of_fields, number_of, outcomes_of, parts_kind, view_of_fields, with_word, word_fault}
+use Rattle.schema_text.specs.SchemaText.{Draft, depth_fields, ended, has_many_cells, has_many_regions, has_no_room, has_wrong_count, has_wrong_depth, has_wrong_depths, has_wrong_name, has_wrong_names, has_wrong_policy, is_wrong_depth, is_wrong_name, lacks_measure, line_has_wrong_number, may_follow, measure_behind, node_of_fields, outcomes_of, parts_kind, read_depth, read_number, view_of_fields, with_word, word_fault}
 use Rattle.schema_text.proofs.Drafts.{AreNames-push, before-Cube, before-Dimension, before-End, before-Node, before-Number, before-Policy, is_name-right, no_views, Parts-like-Number, View-like-End}
 use Rattle.schema_text.proofs.MeasuresMore.{AreMeasures-push}
 use Rattle.schema_text.proofs.NodesMore.{AreNodes-none, AreNodes-push}
@@ -31,7 +31,7 @@ use Rattle.schema_text.proofs.ViewsMore.{AreViews-none, AreViews-push, depths-sh
 record IsAccepted (draft : Draft) (fields : List (List ℕ)) (word : SchemaWord) : Type 0 where
   pub count : has_wrong_count draft.version (length draft.names) fields word ≡ false
   pub name : has_wrong_name draft fields word ≡ false
-  pub number : has_wrong_number draft fields word ≡ false
+  pub number : line_has_wrong_number draft fields word ≡ false
   pub depth : has_wrong_depth draft fields word ≡ false
   pub room : has_no_room draft fields word ≡ false
 
@@ -49,7 +49,7 @@ none-holds false false false false false false rest none = (refl, refl, refl, re
 IsAccepted-from : (draft : Draft) (fields : List (List ℕ)) (word : SchemaWord) → word_fault draft fields word ≡ None → IsAccepted draft fields word
 IsAccepted-from draft fields word accepted =
     let none =
-    none-holds (has_wrong_count draft.version (length draft.names) fields word) (has_wrong_name draft fields word) (has_wrong_policy draft fields word) (has_wrong_number draft fields word) (has_wrong_depth draft fields word) (has_no_room draft fields word)
+    none-holds (has_wrong_count draft.version (length draft.names) fields word) (has_wrong_name draft fields word) (has_wrong_policy draft fields word) (line_has_wrong_number draft fields word) (has_wrong_depth draft fields word) (has_no_room draft fields word)
     ((lacks_measure draft fields word, code.Policy) ∷ (has_many_cells draft fields word, code.Cells) ∷ (has_many_regions draft fields word, code.Nodes) ∷ []) accepted in
     record { count = none.0; name = none.1; number = none.2; depth = none.3; room = none.4 }
 
@@ -85,9 +85,9 @@ IsNextMeasure-parts draft fields is =
 -- the number of a node aside, it may come next
 IsNextNode-line : (draft : Draft) (fields : List (List ℕ)) → IsAccepted draft fields Node → IsNextNode draft.nodes (node_of_fields draft.version draft.nodes fields)
 IsNextNode-line draft fields is =
-    let numbers = or_parts (is_none (depth_of fields)) (is_none (number_of draft.version draft.nodes fields)) is.number in
+    let numbers = or_parts (is_none (read_depth fields)) (is_none (read_number draft.version draft.nodes fields)) is.number in
     let depth = number_in-range 0 MAX_DEPTH (field_at fields 1) numbers.0 in
-    record { name = is.name; shallow = depth.1; depth = fits (depth_of fields) numbers.0 is.depth; room = grind (arith, nat_tests, is.room) }
+    record { name = is.name; shallow = depth.1; depth = fits (read_depth fields) numbers.0 is.depth; room = grind (arith, nat_tests, is.room) }
   where
     fits : (depth : Option ℕ) → is_none depth ≡ false → option_map_or (is_wrong_depth draft.nodes) depth false ≡ false → is_wrong_depth draft.nodes (unwrap_or depth 0) ≡ false
     fits None some e = cc

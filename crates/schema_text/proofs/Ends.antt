@@ -20,7 +20,7 @@ use Rattle.schema_text.specs.declared.fault.LineFault.TheVariants.{Refused, Memo
 use Rattle.schema_text.specs.Draft.{end_fault, ended_fault, front_fault}
 use Rattle.schema_text.specs.Fault.{IsCause}
 use Rattle.text_lines.specs.LineText.{field_at, is_clean, is_long, without_cr}
-use Rattle.schema_text.specs.SchemaText.{Draft, dims_of, ended, fields_fault, is_end, line_fault, may_follow, policy_among, word_named}
+use Rattle.schema_text.specs.SchemaText.{Draft, dims_of, draft_line_fault, ended, fields_fault, is_end, may_follow, policy_among, word_named}
 
 -- without its CR a line is at most a byte shorter
 pub length-without_cr : (line : List ℕ) → length line ≤ length (without_cr line) + 1
@@ -58,8 +58,8 @@ short line same =
     grind (arith, nat_tests)
 
 -- how it is judged
-pub line_fault-end : (draft : Draft) (line : List ℕ) → is_end line ≡ true → line_fault draft line ≡ end_fault draft
-line_fault-end draft line is =
+pub draft_line_fault-end : (draft : Draft) (line : List ℕ) → is_end line ≡ true → draft_line_fault draft line ≡ end_fault draft
+draft_line_fault-end draft line is =
     let same : without_cr line ≡ codes "end" = (bytes_eq-Decides (without_cr line) (codes "end")).0 is in
     ap (λ l. judged draft l (without_cr line)) (short line same) ∙ ap (judged draft false) same ∙ judged-end draft
 

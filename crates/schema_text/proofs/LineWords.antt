@@ -7,7 +7,7 @@ use Rattle.text_lines.specs.LineText.{field_at, is_clean, is_long, without_cr}
 use Rattle.text_lines.specs.Text.{fields_of}
 use Rattle.schema_text.specs.declared.word.SchemaWord.{SchemaWord}
 use Rattle.schema_text.specs.Draft.{may_stand, word_in}
-use Rattle.schema_text.specs.SchemaText.{Draft, fields_fault, line_fault, may_follow, with_line, with_word, word_fault, word_named}
+use Rattle.schema_text.specs.SchemaText.{Draft, draft_line_fault, fields_fault, may_follow, with_line, with_word, word_fault, word_named}
 
 -- a line has this word, and it may stand there
 pub record HasWord (last : Option SchemaWord) (line : List ℕ) (word : SchemaWord) : Type 0 where
@@ -38,16 +38,16 @@ HasWord-in last line word e = read (is_long line) (is_clean (without_cr line)) r
         record { short = long_is; clean = clean_is; named = parts.0; follows = parts.1 }
 
 -- it is judged by that word
-pub line_fault-word : (draft : Draft) (line : List ℕ) (word : SchemaWord) → HasWord draft.last line word → line_fault draft line ≡ word_fault draft (fields_of (without_cr line)) word
-line_fault-word draft line word has = rw (has.short, has.clean, has.named, has.follows) refl
+pub draft_line_fault-word : (draft : Draft) (line : List ℕ) (word : SchemaWord) → HasWord draft.last line word → draft_line_fault draft line ≡ word_fault draft (fields_of (without_cr line)) word
+draft_line_fault-word draft line word has = rw (has.short, has.clean, has.named, has.follows) refl
 
 -- and read by it
 pub with_line-word : (draft : Draft) (line : List ℕ) (word : SchemaWord) → HasWord draft.last line word → with_line draft line ≡ with_word draft (fields_of (without_cr line)) word
 with_line-word draft line word has = rw has.named refl
 
 -- a line without such a word is refused
-pub line_fault-none : (draft : Draft) (line : List ℕ) (reason : Code) → word_in draft.last line ≡ Err reason → line_fault draft line ≡ Some reason
-line_fault-none draft line reason e = read (is_long line) (is_clean (without_cr line)) (word_named (field_at (fields_of (without_cr line)) 0)) e
+pub draft_line_fault-none : (draft : Draft) (line : List ℕ) (reason : Code) → word_in draft.last line ≡ Err reason → draft_line_fault draft line ≡ Some reason
+draft_line_fault-none draft line reason e = read (is_long line) (is_clean (without_cr line)) (word_named (field_at (fields_of (without_cr line)) 0)) e
   where
     read : (long clean : Bool) (found : Option SchemaWord)
         → (if long then Err code.Long else (if clean then may_stand draft.last found else Err code.Text)) ≡ Err reason

@@ -15,7 +15,7 @@ use Rattle.schema_text.specs.declared.fault.LineFault.{LineFault}
 use Rattle.schema_text.specs.declared.fault.LineFault.TheVariants.{Refused, Memory}
 use Rattle.schema_text.specs.Draft.{IsNextMeasure, kind_fault, parts_fault}
 use Rattle.schema_text.specs.Fault.{IsCause}
-use Rattle.schema_text.specs.SchemaText.{has_wrong_names, is_among_names, is_wrong_name, outcomes_of, scale_of}
+use Rattle.schema_text.specs.SchemaText.{has_wrong_names, is_among_names, is_wrong_name, outcomes_of, read_scale}
 use Rattle.schema_text.proofs.Drafts.{differs}
 
 pub is_among_names-measures : (name : List ℕ) (measures : List Measure) → is_among_names name (map (λ m. m.name) measures) ≡ list_any (λ m. bytes_eq m.name name) measures
@@ -51,7 +51,7 @@ AreMeasures-push measures next is may =
 pub IsCause-kind : (measures : List Measure) (fields : List (List ℕ)) (fault : LineFault) → is_wrong_name (field_at fields 1) (map (λ m. m.name) measures) ≡ false → IsCause (kind_fault fields) fault → IsCause (parts_fault measures fields) fault
 IsCause-kind measures fields Memory right cause = tt
 IsCause-kind measures fields (Refused reason) right cause =
-    rw right (first (has_wrong_names [] (outcomes_of fields)) (is_none (scale_of fields)) (nat_lt MAX_COLS (width_of_all measures + length (outcomes_of fields))) cause)
+    rw right (first (has_wrong_names [] (outcomes_of fields)) (is_none (read_scale fields)) (nat_lt MAX_COLS (width_of_all measures + length (outcomes_of fields))) cause)
   where
     first : (names scale room : Bool) → (if names then Some code.Name else (if scale then Some code.Number else None)) ≡ Some reason
         → (if names then Some code.Name else (if scale then Some code.Number else (if room then Some code.Limit else None))) ≡ Some reason

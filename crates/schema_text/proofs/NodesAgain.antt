@@ -11,7 +11,7 @@ use Rattle.std.proofs.lemmas.List.Elements.{All-cons, All-nil}
 use Rattle.cube_base.specs.Name.{is_name}
 use Rattle.cube_model.specs.declared.tree.NodeLine.{NodeLine}
 use Rattle.cube_model.specs.Limits.{MAX_DEPTH, MAX_NODES}
-use Rattle.cube_model.specs.Tree.{Dimension, Entry, IsTree, are_distinct, first_fault, is_above_parent, is_numbered, line_fault as tree_line_fault, node_lines, numbers}
+use Rattle.cube_model.specs.Tree.{Dimension, Entry, IsTree, are_distinct, first_fault, is_above_parent, is_numbered, line_fault, node_lines, numbers}
 use Rattle.text_lines.proofs.Ascii.{ascii_is_utf8}
 use Rattle.text_lines.specs.Text.{line_text}
 use Rattle.text_lines.proofs.Numbers.{number_in-decimal}
@@ -21,7 +21,7 @@ use Rattle.schema_text.specs.declared.word.SchemaWord.TheVariants.{Node}
 use Rattle.schema_text.specs.declared.word.Version.{Version}
 use Rattle.schema_text.specs.declared.word.Version.TheVariants.{One, Two}
 use Rattle.schema_text.specs.Draft.{IsNextNode, IsNextNumber}
-use Rattle.schema_text.specs.SchemaText.{Draft, MAX_NUMBER, are_places_from, may_follow, node_line, node_of_fields, number_fields}
+use Rattle.schema_text.specs.SchemaText.{Draft, MAX_NODE_NUMBER, are_places_from, may_follow, node_line, node_of_fields, number_fields}
 use Rattle.schema_text.proofs.Drafts.{is_name-right}
 use Rattle.schema_text.proofs.NodesMore.{IsBehind, IsBehind-more, IsBehind-none, line_of, or-none, wrong_behind}
 use Rattle.schema_text.proofs.Reading.{IsRead}
@@ -31,7 +31,7 @@ use Rattle.schema_text.proofs.WrittenLines.{IsField, IsField-decimal, IsField-na
 pub record IsNodeNext (version : Version) (before : Dimension) (node : Entry) : Type 0 where
   pub fits : IsNextNode before node
   pub number : IsNextNumber version before node.number
-  pub small : node.number ≤ MAX_NUMBER
+  pub small : node.number ≤ MAX_NODE_NUMBER
 
 -- the nodes come next one after the other
 abbrev pub AreNodesNext : Version → Dimension → List Entry → Type 0
@@ -44,7 +44,7 @@ pub record IsLineNext (earlier : List NodeLine) (node : NodeLine) : Type 0 where
   pub depth : wrong_behind earlier node.depth ≡ false
   pub name : list_any (λ e. bytes_eq e.name node.name) earlier ≡ false
 
-IsLineNext-from : (earlier : List NodeLine) (k : ℕ) (node : NodeLine) → tree_line_fault earlier k node ≡ None → IsLineNext earlier node
+IsLineNext-from : (earlier : List NodeLine) (k : ℕ) (node : NodeLine) → line_fault earlier k node ≡ None → IsLineNext earlier node
 IsLineNext-from [] k node none = record { shallow = grind (arith, nat_tests); depth = grind (arith, nat_tests); name = refl }
 IsLineNext-from (before ∷ earlier) k node none = record { shallow = grind (arith, nat_tests); depth = grind (arith, nat_tests); name = grind (arith, nat_tests) }
 
@@ -84,13 +84,13 @@ numbers-rest Two before node after are =
     rw joined are
 
 AreNodesNext-from : (version : Version) (before : Dimension) (earlier : List NodeLine) (k : ℕ) (after : List Entry) → IsBehind before earlier → first_fault earlier k (node_lines after) ≡ None
-    → list_all (λ e. is_name e.name) after ≡ true → AreNumbersNext version before after → list_all (λ e. nat_le e.number MAX_NUMBER) after ≡ true → length before + length after ≤ MAX_NODES → AreNodesNext version before after
+    → list_all (λ e. is_name e.name) after ≡ true → AreNumbersNext version before after → list_all (λ e. nat_le e.number MAX_NODE_NUMBER) after ≡ true → length before + length after ≤ MAX_NODES → AreNodesNext version before after
 AreNodesNext-from version before earlier k [] behind none named numbered small few = tt
 AreNodesNext-from version before earlier k (node ∷ after) behind none named numbered small few =
-    let parts = or-none (tree_line_fault earlier k (line_of node)) (first_fault (line_of node ∷ earlier) (k + 1) (node_lines after)) none in
+    let parts = or-none (line_fault earlier k (line_of node)) (first_fault (line_of node ∷ earlier) (k + 1) (node_lines after)) none in
     let next = IsLineNext-from earlier k (line_of node) parts.0 in
     let names = and_parts (is_name node.name) (list_all (λ (e : Entry). is_name e.name) after) named in
-    let numbers_small = and_parts (nat_le node.number MAX_NUMBER) (list_all (λ (e : Entry). nat_le e.number MAX_NUMBER) after) small in (
+    let numbers_small = and_parts (nat_le node.number MAX_NODE_NUMBER) (list_all (λ (e : Entry). nat_le e.number MAX_NODE_NUMBER) after) small in (
       record {
         fits = record { name = rw (names.0, behind.names node.name, next.name) refl; shallow = next.shallow; depth = behind.depths node.depth ∙ next.depth; room = omega arith };
         number = number-next version before node after numbered;
@@ -100,7 +100,7 @@ AreNodesNext-from version before earlier k (node ∷ after) behind none named nu
     )
 
 -- numbers below the count of the nodes are small
-small_numbers : (n : ℕ) (nodes : List Entry) → n ≤ MAX_NODES → list_all (λ m. nat_lt m n) (numbers nodes) ≡ true → list_all (λ e. nat_le e.number MAX_NUMBER) nodes ≡ true
+small_numbers : (n : ℕ) (nodes : List Entry) → n ≤ MAX_NODES → list_all (λ m. nat_lt m n) (numbers nodes) ≡ true → list_all (λ e. nat_le e.number MAX_NODE_NUMBER) nodes ≡ true
 small_numbers n [] few below = refl
 small_numbers n (node ∷ nodes) few below = grind (arith, nat_tests, small_numbers n nodes)
 
@@ -158,7 +158,7 @@ next-node draft last before node follows next = next-version draft.version follo
         }
     next-version Two follows next =
         let depth = number_in-decimal 0 MAX_DEPTH node.depth (omega (arith, next.fits.shallow)) (omega arith) next.fits.shallow in
-        let number = number_in-decimal 0 MAX_NUMBER node.number (omega (arith, next.small)) (omega arith) next.small in
+        let number = number_in-decimal 0 MAX_NODE_NUMBER node.number (omega (arith, next.small)) (omega arith) next.small in
         let few : nat_le MAX_NODES (length before) ≡ false = grind (arith, nat_tests, next.fits.room) in
         record {
           plain = IsPlain-fields (codes "node") (fields_behind Two node) (record { bytes_are = refl; utf8 = ascii_is_utf8 (codes "node") refl; short = lit≤ tt }) (AreFields-node Two before node next) (lit≤ tt);
@@ -175,7 +175,7 @@ node-read One before node next =
     rw (depth, ← next.number) refl
 node-read Two before node next =
     let depth = number_in-decimal 0 MAX_DEPTH node.depth (omega (arith, next.fits.shallow)) (omega arith) next.fits.shallow in
-    let number = number_in-decimal 0 MAX_NUMBER node.number (omega (arith, next.small)) (omega arith) next.small in
+    let number = number_in-decimal 0 MAX_NODE_NUMBER node.number (omega (arith, next.small)) (omega arith) next.small in
     rw (depth, number, next.number) refl
 
 abbrev pub last_node : SchemaWord → List Entry → SchemaWord

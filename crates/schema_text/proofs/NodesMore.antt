@@ -16,12 +16,12 @@ use Rattle.cube_model.specs.declared.tree.DimFault.TheVariants as dim_fault
 use Rattle.cube_model.specs.Limits.{MAX_DEPTH}
 use Rattle.cube_model.specs.Tree.{Dimension, Entry, dim_fault as fault_of_dim, first_fault, is_numbered, line_fault, node_lines, numbers, tree_fault}
 use Rattle.dim_tree.proofs.Outlines.{tree_fault_first}
-use Rattle.dim_tree.specs.Fault.{IsCause as IsDimCause}
+use Rattle.dim_tree.specs.Fault.{IsDimCause}
 use Rattle.schema_text.specs.Fault.{IsCause, of_numbers}
 use Rattle.schema_text.specs.declared.word.Version.{Version}
 use Rattle.schema_text.specs.declared.word.Version.TheVariants.{One, Two}
 use Rattle.schema_text.specs.Draft.{AreNodes, AreTaken, IsFree, IsNextNode, IsNextNumber, taken_with}
-use Rattle.schema_text.specs.SchemaText.{are_places_from, free_number, is_among_names, is_wrong_depth, number_of}
+use Rattle.schema_text.specs.SchemaText.{are_places_from, free_number, is_among_names, is_wrong_depth, read_number}
 
 -- the line of a node
 abbrev pub line_of : Entry → NodeLine
@@ -145,7 +145,7 @@ free-some true n number e = cc
 free-some false n number e = (refl, cc)
 
 -- the number that fields give may come next
-pub IsNextNumber-of : (version : Version) (nodes : Dimension) (fields : List (List ℕ)) (number : ℕ) → number_of version nodes fields ≡ Some number → IsNextNumber version nodes number
+pub IsNextNumber-of : (version : Version) (nodes : Dimension) (fields : List (List ℕ)) (number : ℕ) → read_number version nodes fields ≡ Some number → IsNextNumber version nodes number
 IsNextNumber-of One nodes fields number e = cc
 IsNextNumber-of Two nodes fields number e = given _ e
   where

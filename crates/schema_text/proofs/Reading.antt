@@ -10,8 +10,8 @@ use Rattle.schema_text.specs.declared.fault.LineFault.TheVariants.{Refused, Memo
 use Rattle.schema_text.specs.Draft.{end_fault, read_with}
 use Rattle.schema_text.specs.Fault.{HasCause, IsCause, at_line}
 use Rattle.text_lines.specs.LineText.{is_skipped}
-use Rattle.schema_text.specs.SchemaText.{Draft, blank_draft, is_end, line_fault, read_from, schema_of, schema_of_draft, sized, with_line}
-use Rattle.schema_text.proofs.Ends.{line_fault-end}
+use Rattle.schema_text.specs.SchemaText.{Draft, blank_draft, draft_line_fault, is_end, read_from, schema_of, schema_of_draft, sized, with_line}
+use Rattle.schema_text.proofs.Ends.{draft_line_fault-end}
 
 -- so many lines are read, which leave this draft and this rest
 pub record IsRead (text : List ℕ) (draft : Draft) (lines : ℕ) (rest : List ℕ) : Type 0 where
@@ -51,7 +51,7 @@ IsRead-skip text draft lines rest line behind is cut skipped = record {
 
 -- a line is accepted
 pub IsRead-more : (text : List ℕ) (draft next : Draft) (lines : ℕ) (rest line behind : List ℕ) → IsRead text draft lines rest → IsCut rest line behind → is_skipped line ≡ false
-    → line_fault draft line ≡ None → is_end line ≡ false → next ≡ with_line draft line → IsRead text next (lines + 1) behind
+    → draft_line_fault draft line ≡ None → is_end line ≡ false → next ≡ with_line draft line → IsRead text next (lines + 1) behind
 IsRead-more text draft next lines rest line behind is cut stays accepted goes_on added = record {
   read = is.read ∙ ap (read_from draft lines) cut.cut ∙ rw (stays, accepted, goes_on, added) refl;
   behind = behind-more text lines rest behind is.behind cut.after;
@@ -60,7 +60,7 @@ IsRead-more text draft next lines rest line behind is cut stays accepted goes_on
 
 -- a line is refused
 pub schema_of-bad : (text : List ℕ) (draft : Draft) (lines : ℕ) (rest line behind : List ℕ) (reason : Code) → IsRead text draft lines rest → IsCut rest line behind → is_skipped line ≡ false
-    → line_fault draft line ≡ Some reason → schema_of text ≡ Err (record { line = lines + 1; reason = reason })
+    → draft_line_fault draft line ≡ Some reason → schema_of text ≡ Err (record { line = lines + 1; reason = reason })
 unfolding schema_of
 schema_of-bad text draft lines rest line behind reason is cut stays refused =
     let here : read_from draft lines (line ∷ lines_of behind) ≡ Err (record { line = lines + 1; reason = reason }) = rw (stays, refused) refl in
@@ -68,7 +68,7 @@ schema_of-bad text draft lines rest line behind reason is cut stays refused =
 
 -- a line is refused, or it is out of memory
 pub HasCause-line : (text : List ℕ) (draft : Draft) (lines : ℕ) (rest line behind : List ℕ) (fault : LineFault) → IsRead text draft lines rest → IsCut rest line behind → is_skipped line ≡ false
-    → IsCause (line_fault draft line) fault → HasCause text (at_line (lines + 1) fault)
+    → IsCause (draft_line_fault draft line) fault → HasCause text (at_line (lines + 1) fault)
 HasCause-line text draft lines rest line behind (Refused reason) is cut stays cause = schema_of-bad text draft lines rest line behind reason is cut stays cause
 HasCause-line text draft lines rest line behind Memory is cut stays cause = tt
 
@@ -78,7 +78,7 @@ pub schema_of-end : (text : List ℕ) (draft : Draft) (lines : ℕ) (rest line b
 unfolding schema_of
 schema_of-end text draft lines rest line behind is cut stays ends =
     let here : read_from draft lines (line ∷ lines_of behind) ≡ option_map_or (λ reason. Err (record { line = lines + 1; reason = reason })) (end_fault draft) (Ok (record { schema = schema_of_draft draft; lines = lines + 1 })) =
-    rw (stays, line_fault-end draft line ends, ends) refl in
+    rw (stays, draft_line_fault-end draft line ends, ends) refl in
     ap (sized text) (is.read ∙ ap (read_from draft lines) cut.cut ∙ here) ∙ size_of (end_fault draft)
     ∙ ap (λ l. read_with draft (lines + 1) (length text - length l)) (sym (behind-more text lines rest behind is.behind cut.after))
   where

@@ -29,7 +29,7 @@ use Rattle.schema_text.specs.declared.word.Version.TheVariants.{One, Two}
 use Rattle.schema_text.specs.declared.word.SchemaWord.{SchemaWord}
 use Rattle.schema_text.specs.declared.word.SchemaWord.TheVariants.{Cube, Policy, Dimension as DimensionWord, Node, View, End}
 use Rattle.schema_text.specs.Draft.{end_fault}
-use Rattle.schema_text.specs.Schema.{AreViews, IsSchema, SchemaValue, weight_of}
+use Rattle.schema_text.specs.Schema.{AreViews, IsSchema, SchemaValue, weighing_measure}
 use Rattle.schema_text.specs.SchemaText.{Draft, are_places_from, blank_draft, dims_of, dims_text, ended, fields_fault, may_follow, measure_line, measure_name, policy_among, policy_fields, policy_line, schema_of, schema_of_draft, schema_text, version_named, version_of, version_text, view_line, with_word}
 use Rattle.text_lines.proofs.Cuts.{after_line-cut, lines_of-cut}
 use Rattle.schema_text.proofs.Reading.{IsCut, IsRead, IsRead-none, schema_of-accepted, schema_of-end}
@@ -123,14 +123,14 @@ read_head text version measures policy behind has parts =
 
 -- the policy is found again by the name of its measure
 
-policy-found : (measures : List Measure) (policy : PolicyWord) → IsWeighable measures (weight_of policy) → AllPairs (λ a b. a.name ≢ b.name) measures → policy_among measures (by_name measures policy) ≡ Some policy
+policy-found : (measures : List Measure) (policy : PolicyWord) → IsWeighable measures (weighing_measure policy) → AllPairs (λ a b. a.name ≢ b.name) measures → policy_among measures (by_name measures policy) ≡ Some policy
 policy-found measures policy_word.Uniform weighable distinct = refl
 policy-found measures policy_word.Count weighable distinct = refl
 policy-found measures (policy_word.Weight i) weighable distinct =
     let found = IsWeighable-measure measures i weighable in
     rw (found.1, number_measure-found measures i found.0 found.1 found.2 distinct) refl
 
-HasName-measures : (measures : List Measure) (policy : PolicyWord) → IsWeighable measures (weight_of policy) → All (λ m. is_name m.name ≡ true) measures → HasName measures policy
+HasName-measures : (measures : List Measure) (policy : PolicyWord) → IsWeighable measures (weighing_measure policy) → All (λ m. is_name m.name ≡ true) measures → HasName measures policy
 HasName-measures measures policy_word.Uniform weighable named = tt
 HasName-measures measures policy_word.Count weighable named = tt
 HasName-measures measures (policy_word.Weight i) weighable named =

@@ -16,7 +16,7 @@ use Rattle.std.proofs.lemmas.Fmt.{digits_decimal, length-decimal-le}
 use Rattle.text_lines.proofs.Ascii.{ascii_is_utf8}
 use Rattle.schema_text.specs.declared.word.SchemaWord.{SchemaWord}
 use Rattle.text_lines.specs.LineText.{is_blank, is_clean, is_long, without_cr}
-use Rattle.schema_text.specs.SchemaText.{Draft, fields_fault, line_fault, with_line, with_word, word_named}
+use Rattle.schema_text.specs.SchemaText.{Draft, draft_line_fault, fields_fault, with_line, with_word, word_named}
 use Rattle.text_lines.proofs.Cuts.{after_line-cut, fields_of-cut, fields_of-none, lines_of-cut}
 use Rattle.schema_text.proofs.Ends.{judged}
 use Rattle.schema_text.proofs.Reading.{IsCut, IsRead, IsRead-more}
@@ -142,8 +142,8 @@ pub record IsNext (draft : Draft) (word : List ℕ) (fields : List (List ℕ)) (
   pub goes_on : bytes_eq (joined word fields) (codes "end") ≡ false
   pub accepted : fields_fault draft (word ∷ fields) (Some named) ≡ None
 
-line_fault-next : (draft : Draft) (word : List ℕ) (fields : List (List ℕ)) (named : SchemaWord) → IsNext draft word fields named → line_fault draft (joined word fields) ≡ None
-line_fault-next draft word fields named next =
+draft_line_fault-next : (draft : Draft) (word : List ℕ) (fields : List (List ℕ)) (named : SchemaWord) → IsNext draft word fields named → draft_line_fault draft (joined word fields) ≡ None
+draft_line_fault-next draft word fields named next =
     ap (λ l. judged draft l (without_cr (joined word fields))) next.plain.long ∙ ap (judged draft false) next.plain.bare
     ∙ rw (next.plain.clean, next.plain.cut, next.word_is) next.accepted
 
@@ -163,5 +163,5 @@ IsRead-next text draft lines rest behind word fields named is parts next =
       after = sym (after_line-cut rest line behind cuts next.plain.lf);
       shorter = omega (arith, ap length cuts, length-append line (10 ∷ behind));
     } in
-    IsRead-more text draft (with_word draft (word ∷ fields) named) lines rest line behind is cut (ap is_blank next.plain.bare ∙ next.stays) (line_fault-next draft word fields named next)
+    IsRead-more text draft (with_word draft (word ∷ fields) named) lines rest line behind is cut (ap is_blank next.plain.bare ∙ next.stays) (draft_line_fault-next draft word fields named next)
     (ap (λ l. bytes_eq l (codes "end")) next.plain.bare ∙ next.goes_on) (with_line-next draft word fields named next)

@@ -19,7 +19,7 @@ use Rattle.schema_text.specs.declared.word.SchemaWord.TheVariants.{Dimension as 
 use Rattle.schema_text.specs.declared.word.Version.{Version}
 use Rattle.schema_text.specs.declared.word.Version.TheVariants.{One, Two}
 use Rattle.schema_text.specs.Schema.{AreNames, AreViews, IsKind, MAX_VIEWS}
-use Rattle.schema_text.specs.SchemaText.{BadLine, Draft, ReadSchema, are_places_from, depth_fields, depth_of, dims_of, ended, has_wrong_depths, has_wrong_names, is_weight_word, is_wrong_depth, is_wrong_name, may_follow, number_of, outcomes_of, policy_among, policy_named, scale_of, schema_of_draft, version_named, word_named}
+use Rattle.schema_text.specs.SchemaText.{BadLine, Draft, ReadSchema, are_places_from, depth_fields, dims_of, ended, has_wrong_depths, has_wrong_names, is_weight_word, is_wrong_depth, is_wrong_name, may_follow, outcomes_of, policy_among, policy_named, read_depth, read_number, read_scale, schema_of_draft, version_named, word_named}
 
 -- The nodes so far of a dimension.
 
@@ -64,8 +64,8 @@ abbrev pub node_fault : Version → Dimension → List (List ℕ) → Option Cod
 node_fault version nodes fields =
     first_that_holds
     ((is_wrong_name (field_at fields 2) (map (λ n. n.name) nodes), code.Name)
-    ∷ (is_none (depth_of fields) || is_none (number_of version nodes fields), code.Number)
-    ∷ (option_map_or (is_wrong_depth nodes) (depth_of fields) false, code.Depth)
+    ∷ (is_none (read_depth fields) || is_none (read_number version nodes fields), code.Number)
+    ∷ (option_map_or (is_wrong_depth nodes) (read_depth fields) false, code.Depth)
     ∷ (nat_le MAX_NODES (length nodes), code.Limit) ∷ [])
 
 -- why the policy of these fields is refused
@@ -84,12 +84,12 @@ abbrev pub parts_fault : List Measure → List (List ℕ) → Option Code
 parts_fault measures fields =
     first_that_holds
     ((is_wrong_name (field_at fields 1) (map (λ m. m.name) measures) || has_wrong_names [] (outcomes_of fields), code.Name)
-    ∷ (is_none (scale_of fields), code.Number)
+    ∷ (is_none (read_scale fields), code.Number)
     ∷ (nat_lt MAX_COLS (width_of_all measures + length (outcomes_of fields)), code.Limit) ∷ [])
 
 -- why the outcomes and the scale of a distribution of these fields are refused
 abbrev pub kind_fault : List (List ℕ) → Option Code
-kind_fault fields = first_that_holds ((has_wrong_names [] (outcomes_of fields), code.Name) ∷ (is_none (scale_of fields), code.Number) ∷ [])
+kind_fault fields = first_that_holds ((has_wrong_names [] (outcomes_of fields), code.Name) ∷ (is_none (read_scale fields), code.Number) ∷ [])
 
 -- why a dimension of these fields is refused after those of these names, the last of which ends with the nodes
 abbrev pub dimension_fault : List (List ℕ) → Dimension → List (List ℕ) → Option Code
@@ -178,11 +178,11 @@ front_fault draft =
     then first_that_holds ((not (list_all is_numbered (ended draft.nodes)), code.Number) ∷ (is_none (policy_among draft.measures draft.policy), code.Policy) ∷ [])
     else Some code.Order
 
-abbrev pub size_fault : List Dimension → Option Code
-size_fault dims = first_that_holds ((nat_le SPACE_LIMIT (cell_total dims), code.Cells) ∷ (nat_le SPACE_LIMIT (region_total dims), code.Nodes) ∷ [])
+abbrev pub size_code : List Dimension → Option Code
+size_code dims = first_that_holds ((nat_le SPACE_LIMIT (cell_total dims), code.Cells) ∷ (nat_le SPACE_LIMIT (region_total dims), code.Nodes) ∷ [])
 
 abbrev pub end_fault : Draft → Option Code
-end_fault draft = option_or (front_fault draft) (size_fault (dims_of draft))
+end_fault draft = option_or (front_fault draft) (size_code (dims_of draft))
 
 -- what a text says whose lines before `end` are accepted and make this draft, where `end` is the line of this number and the text
 -- has so many bytes up to there

@@ -14,17 +14,17 @@ use Rattle.schema_text.specs.SchemaText.{schema_of}
 abbrev pub Line : Type 0
 Line = List (List ℕ)
 
-abbrev pub text_of : List Line → List ℕ
-text_of [] = []
-text_of ([] ∷ lines) = text_of lines
-text_of ((word ∷ fields) ∷ lines) = line_text word fields ++ text_of lines
+abbrev pub text_of_fields : List Line → List ℕ
+text_of_fields [] = []
+text_of_fields ([] ∷ lines) = text_of_fields lines
+text_of_fields ((word ∷ fields) ∷ lines) = line_text word fields ++ text_of_fields lines
 
 -- the text is refused at a line for a reason, or says a schema
 abbrev pub IsRefused : List Line → ℕ → Code → Type 0
-IsRefused lines line reason = schema_of (text_of lines) ≡ Err (record { line = line; reason = reason })
+IsRefused lines line reason = schema_of (text_of_fields lines) ≡ Err (record { line = line; reason = reason })
 
-abbrev pub Says : List Line → SchemaValue → Type 0
-Says lines schema = schema_of (text_of lines) ≡ Ok (record { schema = schema; size = length (text_of lines) })
+abbrev pub SaysSchema : List Line → SchemaValue → Type 0
+SaysSchema lines schema = schema_of (text_of_fields lines) ≡ Ok (record { schema = schema; size = length (text_of_fields lines) })
 
 -- the lines of a version, of a policy and of a measure of numbers, and those of dimensions
 abbrev pub version : List ℕ → Line
@@ -39,8 +39,8 @@ weight name = codes "policy" ∷ codes "weight" ∷ name ∷ []
 abbrev pub number : List ℕ → Line
 number name = codes "number" ∷ name ∷ []
 
-abbrev pub parts : List ℕ → List ℕ → Line → Line
-parts name scale outcomes = codes "parts" ∷ name ∷ scale ∷ outcomes
+abbrev pub parts_line : List ℕ → List ℕ → Line → Line
+parts_line name scale outcomes = codes "parts" ∷ name ∷ scale ∷ outcomes
 
 abbrev pub dimension : Line
 dimension = codes "dimension" ∷ codes "D" ∷ []
@@ -81,8 +81,8 @@ abbrev pub three_nodes : Dimension
 three_nodes = record { depth = 0; name = codes "a"; number = 0 } ∷ record { depth = 1; name = codes "b"; number = 2 } ∷ record { depth = 1; name = codes "c"; number = 1 } ∷ []
 
 -- a view of one dimension
-abbrev pub view_at : List ℕ → ℕ → ViewDef
-view_at name depth = record { name = name; depths = depth ∷ [] }
+abbrev pub one_dim_view : List ℕ → ℕ → ViewDef
+one_dim_view name depth = record { name = name; depths = depth ∷ [] }
 
 -- a schema of one dimension
 abbrev pub of_dimension : PolicyWord → List Measure → Dimension → SchemaValue

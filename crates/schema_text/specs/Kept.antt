@@ -7,7 +7,7 @@ use Rattle.schema_text.specs.Draft.{AreTaken, IsDraft}
 use Rattle.schema_text.specs.SchemaText.{Draft}
 
 -- the names and the numbers that are known are those of the nodes
-pub record IsKept (open_dim : OpenDim) : Type 0 where
+pub record KnowsNodes (open_dim : OpenDim) : Type 0 where
   pub known : map string_bytes open_dim.known.keys ≡ map (λ n. n.name) open_dim.nodes.items
   pub taken : AreTaken open_dim.version open_dim.nodes.items open_dim.taken.keys
 
@@ -19,4 +19,4 @@ draft_of r = record { last = r.last; version = r.named_last.version; policy = r.
 pub record IsReader (r : Reader) : Type 0 where
   pub draft : IsDraft (draft_of r)
   pub width : r.columns ≡ width_of_all r.measures.items
-  pub kept : IsKept r.named_last
+  pub kept : KnowsNodes r.named_last

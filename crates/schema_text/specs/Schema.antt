@@ -24,14 +24,14 @@ pub record SchemaValue : Type 0 where
   pub views : List ViewDef
 
 -- the place of the measure by whose sum cells weigh, if they do
-abbrev pub weight_of : PolicyWord → Option ℕ
-weight_of Uniform = None
-weight_of Count = None
-weight_of (Weight measure) = Some measure
+abbrev pub weighing_measure : PolicyWord → Option ℕ
+weighing_measure Uniform = None
+weighing_measure Count = None
+weighing_measure (Weight measure) = Some measure
 
 -- the measures with that one
 abbrev pub shape_of : SchemaValue → ShapeValue
-shape_of schema = record { measures = schema.measures; weight = weight_of schema.policy }
+shape_of schema = record { measures = schema.measures; weight = weighing_measure schema.policy }
 
 -- how cells weigh
 abbrev pub weigh_of : PolicyWord → CellStat → ℕ
@@ -40,11 +40,11 @@ weigh_of Count = weigh_count
 weigh_of (Weight measure) = weigh_sum
 
 -- a policy that weighs so, over the measures of a schema; and the schema's own
-abbrev pub policy_in : (CellStat → ℕ) → SchemaValue → Policy
-policy_in weigh schema = policy_over weigh (shape_of schema)
+abbrev pub schema_policy : (CellStat → ℕ) → SchemaValue → Policy
+schema_policy weigh schema = policy_over weigh (shape_of schema)
 
 abbrev pub policy_of : SchemaValue → Policy
-policy_of schema = policy_in (weigh_of schema.policy) schema
+policy_of schema = schema_policy (weigh_of schema.policy) schema
 
 -- the fewest outcomes of a distribution
 abbrev pub MIN_OUTCOMES : ℕ

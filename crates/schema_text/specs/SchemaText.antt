@@ -30,8 +30,8 @@ use Rattle.schema_text.specs.declared.word.Version.TheVariants.{One, Two}
 use Rattle.schema_text.specs.Schema.{MAX_VIEWS, SchemaValue}
 
 -- the greatest number of a node
-abbrev pub MAX_NUMBER : ℕ
-MAX_NUMBER = 65535
+abbrev pub MAX_NODE_NUMBER : ℕ
+MAX_NODE_NUMBER = 65535
 
 -- the word of a schema that bytes spell
 abbrev pub word_named : List ℕ → Option SchemaWord
@@ -152,18 +152,18 @@ abbrev pub outcomes_of : List (List ℕ) → List (List ℕ)
 outcomes_of fields = drop 3 fields
 
 -- the scale of a distribution
-abbrev pub scale_of : List (List ℕ) → Option ℕ
-scale_of fields = number_in MIN_SCALE MAX_SCALE (field_at fields 2)
+abbrev pub read_scale : List (List ℕ) → Option ℕ
+read_scale fields = number_in MIN_SCALE MAX_SCALE (field_at fields 2)
 
 -- the depth of a node
-abbrev pub depth_of : List (List ℕ) → Option ℕ
-depth_of fields = number_in 0 MAX_DEPTH (field_at fields 1)
+abbrev pub read_depth : List (List ℕ) → Option ℕ
+read_depth fields = number_in 0 MAX_DEPTH (field_at fields 1)
 
 -- the number of a node after these: its place in version 1, in version 2 that of the last field, which is none of
 -- theirs
-abbrev pub number_of : Version → Dimension → List (List ℕ) → Option ℕ
-number_of One nodes fields = Some (length nodes)
-number_of Two nodes fields = option_and_then (free_number nodes) (number_in 0 MAX_NUMBER (field_at fields 3))
+abbrev pub read_number : Version → Dimension → List (List ℕ) → Option ℕ
+read_number One nodes fields = Some (length nodes)
+read_number Two nodes fields = option_and_then (free_number nodes) (number_in 0 MAX_NODE_NUMBER (field_at fields 3))
 
 -- a depth that a field spells, and the fields of a view's depths
 abbrev pub depth_in : List ℕ → Option ℕ
@@ -215,17 +215,17 @@ has_wrong_policy draft fields Policy = is_none (policy_named (field_at fields 1)
 has_wrong_policy draft fields word = false
 
 -- a number of the line is wrong, or those of the dimension that ends at it are
-abbrev pub has_wrong_number : Draft → List (List ℕ) → SchemaWord → Bool
-has_wrong_number draft fields Cube = is_none (version_named (field_at fields 1))
-has_wrong_number draft fields Parts = is_none (scale_of fields)
-has_wrong_number draft fields Node = is_none (depth_of fields) || is_none (number_of draft.version draft.nodes fields)
-has_wrong_number draft fields DimensionWord = not (list_all is_numbered (ended draft.nodes))
-has_wrong_number draft fields View = has_wrong_depths (depth_fields fields) || not (list_all is_numbered (ended draft.nodes))
-has_wrong_number draft fields End = not (list_all is_numbered (ended draft.nodes))
-has_wrong_number draft fields word = false
+abbrev pub line_has_wrong_number : Draft → List (List ℕ) → SchemaWord → Bool
+line_has_wrong_number draft fields Cube = is_none (version_named (field_at fields 1))
+line_has_wrong_number draft fields Parts = is_none (read_scale fields)
+line_has_wrong_number draft fields Node = is_none (read_depth fields) || is_none (read_number draft.version draft.nodes fields)
+line_has_wrong_number draft fields DimensionWord = not (list_all is_numbered (ended draft.nodes))
+line_has_wrong_number draft fields View = has_wrong_depths (depth_fields fields) || not (list_all is_numbered (ended draft.nodes))
+line_has_wrong_number draft fields End = not (list_all is_numbered (ended draft.nodes))
+line_has_wrong_number draft fields word = false
 
 abbrev pub has_wrong_depth : Draft → List (List ℕ) → SchemaWord → Bool
-has_wrong_depth draft fields Node = option_map_or (is_wrong_depth draft.nodes) (depth_of fields) false
+has_wrong_depth draft fields Node = option_map_or (is_wrong_depth draft.nodes) (read_depth fields) false
 has_wrong_depth draft fields word = false
 
 -- the line would pass a limit: a column beyond seven beside the count, a seventh dimension, a node too many, or a fifth view
@@ -256,7 +256,7 @@ word_conditions draft fields word =
     (has_wrong_count draft.version (length draft.names) fields word, code.Fields)
     ∷ (has_wrong_name draft fields word, code.Name)
     ∷ (has_wrong_policy draft fields word, code.Policy)
-    ∷ (has_wrong_number draft fields word, code.Number)
+    ∷ (line_has_wrong_number draft fields word, code.Number)
     ∷ (has_wrong_depth draft fields word, code.Depth)
     ∷ (has_no_room draft fields word, code.Limit)
     ∷ (lacks_measure draft fields word, code.Policy)
@@ -273,8 +273,8 @@ fields_fault draft fields None = Some code.Order
 fields_fault draft fields (Some word) = if may_follow draft.last word then word_fault draft fields word else Some code.Order
 
 -- why a line is refused that follows those of the draft
-abbrev pub line_fault : Draft → List ℕ → Option Code
-line_fault draft line =
+abbrev pub draft_line_fault : Draft → List ℕ → Option Code
+draft_line_fault draft line =
     let fields = fields_of (without_cr line) in
     if is_long line then Some code.Long
     else (if is_clean (without_cr line) then fields_fault draft fields (word_named (field_at fields 0)) else Some code.Text)
@@ -285,11 +285,11 @@ measure_behind before name of_kind = record { name = name; kind = of_kind; first
 
 -- the kind of a distribution
 abbrev pub parts_kind : List (List ℕ) → Kind
-parts_kind fields = kind.Parts (unwrap_or (scale_of fields) 0) (outcomes_of fields)
+parts_kind fields = kind.Parts (unwrap_or (read_scale fields) 0) (outcomes_of fields)
 
 -- the node of a line
 abbrev pub node_of_fields : Version → Dimension → List (List ℕ) → Entry
-node_of_fields version nodes fields = record { depth = unwrap_or (depth_of fields) 0; name = field_at fields 2; number = unwrap_or (number_of version nodes fields) 0 }
+node_of_fields version nodes fields = record { depth = unwrap_or (read_depth fields) 0; name = field_at fields 2; number = unwrap_or (read_number version nodes fields) 0 }
 
 -- the view of a line
 abbrev pub view_of_fields : List (List ℕ) → ViewDef
@@ -335,7 +335,7 @@ read_from draft k [] = Err (record { line = k + 1; reason = code.Cut })
 read_from draft k (line ∷ lines) =
     if is_skipped line then read_from draft (k + 1) lines
     else option_map_or (λ fault. Err (record { line = k + 1; reason = fault }))
-    (line_fault draft line)
+    (draft_line_fault draft line)
     (if is_end line then Ok (record { schema = schema_of_draft draft; lines = k + 1 }) else read_from (with_line draft line) (k + 1) lines)
 
 -- a schema, and how many bytes its text takes

@@ -4,7 +4,7 @@ ghost use Rattle.std.specs.Prelude.{◌≡◌, ◌∷◌, ◌++◌, ◌<◌, [],
 ghost use Rattle.cube_base.specs.declared.code.Code.TheVariants as code;
 ghost use Rattle.text_lines.specs.LineText.{LINE_FRONT};
 ghost use Rattle.schema_text.specs.declared.word.PolicyWord.TheVariants as policy_word;
-ghost use Rattle.schema_text.specs.Examples.{IsRefused, Says, dimension, measured, node, number, number_measure, numbered_node, of_dimension, one_node, parts, parts_measure, policy, three_nodes, version, view, view_at, viewed, weight, with_nodes};
+ghost use Rattle.schema_text.specs.Examples.{IsRefused, SaysSchema, dimension, measured, node, number, number_measure, numbered_node, of_dimension, one_dim_view, one_node, parts_line, parts_measure, policy, three_nodes, version, view, viewed, weight, with_nodes};
 ghost use Rattle.schema_text.specs.Schema.{IsSchema, SchemaValue};
 ghost use Rattle.schema_text.specs.SchemaText.{Draft, read_from, schema_of, schema_text};
 
@@ -22,30 +22,30 @@ pub fn long_line_means_its_front()
 
 /// Distributions.
 pub fn worked_distributions()
-    ensures read { Says (measured (policy (codes "count")) (parts (codes "Q") (codes "100") (codes "g" ∷ codes "b" ∷ []) ∷ []))
+    ensures read { SaysSchema (measured (policy (codes "count")) (parts_line (codes "Q") (codes "100") (codes "g" ∷ codes "b" ∷ []) ∷ []))
         (of_dimension policy_word.Count (parts_measure (codes "Q") 100 (codes "g" ∷ codes "b" ∷ []) 1 ∷ []) one_node) }
-    ensures one_outcome { IsRefused (measured (policy (codes "count")) (parts (codes "Q") (codes "9") (codes "g" ∷ []) ∷ [])) 3 code.Fields }
-    ensures outcome_twice { IsRefused (measured (policy (codes "count")) (parts (codes "Q") (codes "0") (codes "g" ∷ codes "g" ∷ []) ∷ [])) 3 code.Name }
-    ensures scale_0 { IsRefused (measured (policy (codes "count")) (parts (codes "Q") (codes "0") (codes "g" ∷ codes "b" ∷ []) ∷ [])) 3 code.Number }
-    ensures scale_above { IsRefused (measured (policy (codes "count")) (parts (codes "Q") (codes "1000001") (codes "g" ∷ codes "b" ∷ []) ∷ [])) 3 code.Number }
-    ensures eighth_column { IsRefused (measured (policy (codes "count")) (number (codes "A") ∷ number (codes "B") ∷ parts (codes "Q") (codes "1") (codes "a" ∷ codes "b" ∷ codes "c" ∷ codes "d" ∷ codes "e" ∷ codes "f" ∷ []) ∷ [])) 5 code.Limit }
+    ensures one_outcome { IsRefused (measured (policy (codes "count")) (parts_line (codes "Q") (codes "9") (codes "g" ∷ []) ∷ [])) 3 code.Fields }
+    ensures outcome_twice { IsRefused (measured (policy (codes "count")) (parts_line (codes "Q") (codes "0") (codes "g" ∷ codes "g" ∷ []) ∷ [])) 3 code.Name }
+    ensures scale_0 { IsRefused (measured (policy (codes "count")) (parts_line (codes "Q") (codes "0") (codes "g" ∷ codes "b" ∷ []) ∷ [])) 3 code.Number }
+    ensures scale_above { IsRefused (measured (policy (codes "count")) (parts_line (codes "Q") (codes "1000001") (codes "g" ∷ codes "b" ∷ []) ∷ [])) 3 code.Number }
+    ensures eighth_column { IsRefused (measured (policy (codes "count")) (number (codes "A") ∷ number (codes "B") ∷ parts_line (codes "Q") (codes "1") (codes "a" ∷ codes "b" ∷ codes "c" ∷ codes "d" ∷ codes "e" ∷ codes "f" ∷ []) ∷ [])) 5 code.Limit }
 {}
 
 /// Policies by the sum of a measure.
 pub fn worked_weights()
-    ensures read { Says (measured (weight (codes "B")) (number (codes "A") ∷ number (codes "B") ∷ []))
+    ensures read { SaysSchema (measured (weight (codes "B")) (number (codes "A") ∷ number (codes "B") ∷ []))
         (of_dimension (policy_word.Weight 1) (number_measure (codes "A") 1 ∷ number_measure (codes "B") 2 ∷ []) one_node) }
     ensures no_name { IsRefused (measured (policy (codes "weight")) []) 2 code.Fields }
     ensures empty_name { IsRefused (measured (weight []) []) 2 code.Name }
     ensures a_name_more { IsRefused (measured (codes "policy" ∷ codes "count" ∷ codes "A" ∷ []) []) 2 code.Fields }
     ensures unknown { IsRefused (measured (policy (codes "em")) []) 2 code.Policy }
     ensures no_measure { IsRefused (measured (weight (codes "A")) []) 5 code.Policy }
-    ensures no_number { IsRefused (measured (weight (codes "Q")) (parts (codes "Q") (codes "9") (codes "g" ∷ codes "b" ∷ []) ∷ [])) 6 code.Policy }
+    ensures no_number { IsRefused (measured (weight (codes "Q")) (parts_line (codes "Q") (codes "9") (codes "g" ∷ codes "b" ∷ []) ∷ [])) 6 code.Policy }
 {}
 
 /// Nodes with numbers of their own.
 pub fn worked_numbers()
-    ensures read { Says (with_nodes (numbered_node (codes "0") (codes "a") (codes "0") ∷ numbered_node (codes "1") (codes "b") (codes "2") ∷ numbered_node (codes "1") (codes "c") (codes "1") ∷ []))
+    ensures read { SaysSchema (with_nodes (numbered_node (codes "0") (codes "a") (codes "0") ∷ numbered_node (codes "1") (codes "b") (codes "2") ∷ numbered_node (codes "1") (codes "c") (codes "1") ∷ []))
         (of_dimension policy_word.Count [] three_nodes) }
     ensures version_3 { IsRefused (version (codes "3") ∷ []) 1 code.Number }
     ensures no_number { IsRefused (with_nodes (node (codes "0") (codes "a") ∷ [])) 4 code.Fields }
@@ -58,8 +58,8 @@ pub fn worked_numbers()
 
 /// Views.
 pub fn worked_views()
-    ensures read { Says (viewed (view (codes "v") (codes "0" ∷ []) ∷ view (codes "w") (codes "8" ∷ []) ∷ []))
-        (record (of_dimension policy_word.Count [] one_node) { views = view_at (codes "v") 0 ∷ view_at (codes "w") 8 ∷ [] }) }
+    ensures read { SaysSchema (viewed (view (codes "v") (codes "0" ∷ []) ∷ view (codes "w") (codes "8" ∷ []) ∷ []))
+        (record (of_dimension policy_word.Count [] one_node) { views = one_dim_view (codes "v") 0 ∷ one_dim_view (codes "w") 8 ∷ [] }) }
     ensures no_depth { IsRefused (viewed (view (codes "v") [] ∷ [])) 5 code.Fields }
     ensures a_depth_more { IsRefused (viewed (view (codes "v") (codes "0" ∷ codes "0" ∷ []) ∷ [])) 5 code.Fields }
     ensures empty_name { IsRefused (viewed (view [] (codes "9" ∷ []) ∷ [])) 5 code.Name }

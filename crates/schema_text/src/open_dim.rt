@@ -11,8 +11,8 @@ ghost use Rattle.text_lines.specs.LineText.{field_at};
 ghost use Rattle.schema_text.specs.declared.word.Version.TheVariants as version;
 ghost use Rattle.schema_text.specs.Draft.{AreNodes, IsFree, IsNextNumber, ended_fault, node_fault, taken_with, version_fault};
 ghost use Rattle.schema_text.specs.Fault.{IsCause};
-ghost use Rattle.schema_text.specs.Kept.{IsKept};
-ghost use Rattle.schema_text.specs.SchemaText.{MAX_NUMBER, ended, free_number, is_among_names, is_wrong_depth, is_wrong_name, node_of_fields, number_of, version_named};
+ghost use Rattle.schema_text.specs.Kept.{KnowsNodes};
+ghost use Rattle.schema_text.specs.SchemaText.{MAX_NODE_NUMBER, ended, free_number, is_among_names, is_wrong_depth, is_wrong_name, node_of_fields, read_number, version_named};
 
 use crate::fault::LineFault;
 use crate::name::{name_of, text_of};
@@ -44,7 +44,7 @@ impl OpenDim {
     pub fn new(alloc: Global) -> Self
         ensures version { result.version ≡ version.One }
         ensures nodes { result.nodes.items ≡ [] }
-        ensures kept { IsKept result }
+        ensures kept { KnowsNodes result }
     {
         OpenDim {
             version: Version::One,
@@ -57,10 +57,10 @@ impl OpenDim {
     /// Takes the version of a line, where there is no node.
     pub fn take_version(&mut self, line: &[u8]) -> Result<(), LineFault>
         requires none { self.old.nodes.items ≡ [] }
-        requires kept { IsKept self.old }
+        requires kept { KnowsNodes self.old }
         ensures version { OnOk result (version_named (field_at (fields_of line.now) 1) ≡ Some self.new.version) }
         ensures nodes { self.new.nodes ≡ self.old.nodes }
-        ensures kept { OnOk result (IsKept self.new) }
+        ensures kept { OnOk result (KnowsNodes self.new) }
         ensures accepted { OnOk result (version_fault (fields_of line.now) ≡ None) }
         ensures refused { IfErr result (IsCause (version_fault (fields_of line.now))) }
     {
@@ -76,10 +76,10 @@ impl OpenDim {
     /// Takes the node of a line that has as many fields as it needs.
     pub fn take_node(&mut self, alloc: Global, line: &[u8]) -> Result<(), LineFault>
         requires few { length self.old.nodes.items ≤ MAX_NODES }
-        requires kept { IsKept self.old }
+        requires kept { KnowsNodes self.old }
         ensures nodes { OnOk result (self.new.nodes.items ≡ self.old.nodes.items ++ node_of_fields self.old.version self.old.nodes.items (fields_of line.now) ∷ []) }
         ensures version { self.new.version ≡ self.old.version }
-        ensures kept { OnOk result (IsKept self.new) }
+        ensures kept { OnOk result (KnowsNodes self.new) }
         ensures accepted { OnOk result (node_fault self.old.version self.old.nodes.items (fields_of line.now) ≡ None) }
         ensures refused { IfErr result (IsCause (node_fault self.old.version self.old.nodes.items (fields_of line.now))) }
     {
@@ -92,9 +92,9 @@ impl OpenDim {
     /// The depth and the number of the node of a line, or the first of the conditions that refuse it.
     fn judge_node(&self, line: &[u8]) -> Result<(u8, u32), Code>
         requires few { length self.now.nodes.items ≤ MAX_NODES }
-        requires kept { IsKept self.now }
+        requires kept { KnowsNodes self.now }
         ensures read { IfOk result (λ read. node_of_fields self.now.version self.now.nodes.items (fields_of line.now) ≡ record { depth = read.0; name = field_at (fields_of line.now) 2; number = read.1 }) }
-        ensures number { IfOk result (λ read. number_of self.now.version self.now.nodes.items (fields_of line.now) ≡ Some read.1) }
+        ensures number { IfOk result (λ read. read_number self.now.version self.now.nodes.items (fields_of line.now) ≡ Some read.1) }
         ensures name { OnOk result (is_wrong_name (field_at (fields_of line.now) 2) (map (λ n. n.name) self.now.nodes.items) ≡ false) }
         ensures accepted { OnOk result (node_fault self.now.version self.now.nodes.items (fields_of line.now) ≡ None) }
         ensures refused { IfErr result (λ code. node_fault self.now.version self.now.nodes.items (fields_of line.now) ≡ Some code) }
@@ -119,7 +119,7 @@ impl OpenDim {
 
     /// Whether bytes are no name, or that of a node.
     fn is_wrong_name(&self, name: &[u8]) -> bool
-        requires { IsKept self.now }
+        requires { KnowsNodes self.now }
         ensures { result ≡ is_wrong_name name.now (map (λ n. n.name) self.now.nodes.items) }
     {
         match str::from_utf8(name) {
@@ -131,8 +131,8 @@ impl OpenDim {
     /// The number of the node that comes next: None where its field is none, or the number is taken.
     fn number_of(&self, line: &[u8]) -> Option<u32>
         requires few { length self.now.nodes.items ≤ MAX_NODES }
-        requires kept { IsKept self.now }
-        ensures { result ≡ number_of self.now.version self.now.nodes.items (fields_of line.now) }
+        requires kept { KnowsNodes self.now }
+        ensures { result ≡ read_number self.now.version self.now.nodes.items (fields_of line.now) }
     {
         match self.version {
             Version::One => Some(self.nodes.len() as u32),
@@ -143,8 +143,8 @@ impl OpenDim {
     /// The number that bytes spell, where it is not taken, in version 2.
     fn free_number(&self, bytes: &[u8]) -> Option<u32>
         requires two { self.now.version ≡ version.Two }
-        requires kept { IsKept self.now }
-        ensures { result ≡ option_and_then (free_number self.now.nodes.items) (number_in 0 MAX_NUMBER bytes.now) }
+        requires kept { KnowsNodes self.now }
+        ensures { result ≡ option_and_then (free_number self.now.nodes.items) (number_in 0 MAX_NODE_NUMBER bytes.now) }
     {
         let number = number_in(bytes, 0, MAX_NUMBER)? as u32;
         if self.taken.contains(&number) {
@@ -164,10 +164,10 @@ impl OpenDim {
     ) -> Result<(), Memory>
         requires name { is_wrong_name name.now (map (λ n. n.name) self.old.nodes.items) ≡ false }
         requires number { IsNextNumber self.old.version self.old.nodes.items number }
-        requires kept { IsKept self.old }
+        requires kept { KnowsNodes self.old }
         ensures nodes { OnOk result (self.new.nodes.items ≡ self.old.nodes.items ++ (record { depth = depth; name = name.now; number = number }) ∷ []) }
         ensures version { self.new.version ≡ self.old.version }
-        ensures kept { OnOk result (IsKept self.new) }
+        ensures kept { OnOk result (KnowsNodes self.new) }
     {
         add_known(alloc, &mut self.known, name)?;
         add_taken(self.version, &mut self.taken, number)?;
@@ -178,11 +178,11 @@ impl OpenDim {
     /// are refused for their numbers alone.
     pub fn end_into(&mut self, alloc: Global, dims: &mut Vec<Dim>) -> Result<(), LineFault>
         requires nodes { AreNodes self.old.nodes.items }
-        requires kept { IsKept self.old }
+        requires kept { KnowsNodes self.old }
         ensures dims { OnOk result (dims.new.items ≡ dims.old.items ++ ended self.old.nodes.items) }
         ensures nodes { OnOk result (self.new.nodes.items ≡ []) }
         ensures version { self.new.version ≡ self.old.version }
-        ensures kept { OnOk result (IsKept self.new) }
+        ensures kept { OnOk result (KnowsNodes self.new) }
         ensures accepted { OnOk result (ended_fault self.old.nodes.items ≡ None) }
         ensures refused { IfErr result (IsCause (ended_fault self.old.nodes.items)) }
     {
@@ -198,7 +198,7 @@ impl OpenDim {
     fn clear(&mut self)
         ensures nodes { self.new.nodes.items ≡ [] }
         ensures version { self.new.version ≡ self.old.version }
-        ensures kept { IsKept self.new }
+        ensures kept { KnowsNodes self.new }
     {
         self.nodes.clear();
         self.known.clear();

@@ -8,7 +8,7 @@ ghost use Rattle.fact_records.specs.Fields.{is_number_measure};
 ghost use Rattle.fact_records.specs.Shape.{AreMeasures, IsWeighable};
 ghost use Rattle.schema_text.specs.Draft.{policy_fault};
 ghost use Rattle.schema_text.specs.Fault.{IsCause};
-ghost use Rattle.schema_text.specs.Schema.{weigh_of, weight_of};
+ghost use Rattle.schema_text.specs.Schema.{weigh_of, weighing_measure};
 ghost use Rattle.schema_text.specs.SchemaText.{is_weight_word, number_measure_named, policy_among, policy_named};
 
 use crate::fault::LineFault;
@@ -96,7 +96,7 @@ fn policy_named(alloc: Global, word: &[u8], name: &[u8]) -> Result<Option<NamedP
 pub fn policy_among(measures: &[Measure], policy: &NamedPolicy) -> Option<PolicyWord>
     requires { AreMeasures measures.now }
     ensures placed { result ≡ policy_among measures.now policy.now }
-    ensures weighable { IfSome result (λ word. IsWeighable measures.now (weight_of word)) }
+    ensures weighable { IfSome result (λ word. IsWeighable measures.now (weighing_measure word)) }
 {
     match policy {
         NamedPolicy::Uniform => Some(PolicyWord::Uniform),
@@ -135,9 +135,9 @@ fn is_number_measure(kind: &Kind) -> bool
 
 /// The shape, whose cells weigh by the measure of the policy.
 pub fn weigh_by(shape: Shape, policy: PolicyWord) -> Shape
-    requires weighable { IsWeighable shape.measures (weight_of policy) }
+    requires weighable { IsWeighable shape.measures (weighing_measure policy) }
     requires even { shape.weight ≡ None }
-    ensures { result ≡ record shape { weight = weight_of policy } }
+    ensures { result ≡ record shape { weight = weighing_measure policy } }
 {
     match policy {
         PolicyWord::Uniform | PolicyWord::Count => shape,

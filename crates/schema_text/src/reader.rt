@@ -6,11 +6,11 @@ ghost use Rattle.text_lines.specs.Text.{fields_of};
 ghost use Rattle.text_lines.specs.LineText.{field_at};
 ghost use Rattle.fact_records.specs.Shape.{AreMeasures, IsWeighable, width_of_all};
 ghost use Rattle.schema_text.specs.declared.word.SchemaWord.TheVariants as schema_word;
-ghost use Rattle.schema_text.specs.Draft.{dimension_fault, front_fault, end_fault, size_fault, view_fault, word_in};
+ghost use Rattle.schema_text.specs.Draft.{dimension_fault, front_fault, end_fault, size_code, view_fault, word_in};
 ghost use Rattle.schema_text.specs.Fault.{IsCause};
-ghost use Rattle.schema_text.specs.Kept.{IsKept, IsReader, draft_of};
-ghost use Rattle.schema_text.specs.Schema.{AreNames, AreViews, IsKind, weight_of};
-ghost use Rattle.schema_text.specs.SchemaText.{blank_draft, dims_of, ended, has_wrong_count, is_end, line_fault, may_follow, policy_among, schema_of_draft, view_of_fields, with_line, with_word, word_fault};
+ghost use Rattle.schema_text.specs.Kept.{IsReader, KnowsNodes, draft_of};
+ghost use Rattle.schema_text.specs.Schema.{AreNames, AreViews, IsKind, weighing_measure};
+ghost use Rattle.schema_text.specs.SchemaText.{blank_draft, dims_of, draft_line_fault, ended, has_wrong_count, is_end, may_follow, policy_among, schema_of_draft, view_of_fields, with_line, with_word, word_fault};
 
 use crate::fault::LineFault;
 use crate::measures::{take_number, take_parts};
@@ -71,8 +71,8 @@ impl Reader {
         requires goes_on { is_end line.now ≡ false }
         ensures made { OnOk result (draft_of self.new ≡ with_line (draft_of self.old) line.now) }
         ensures reader { OnOk result (IsReader self.new) }
-        ensures accepted { OnOk result (line_fault (draft_of self.old) line.now ≡ None) }
-        ensures refused { IfErr result (IsCause (line_fault (draft_of self.old) line.now)) }
+        ensures accepted { OnOk result (draft_line_fault (draft_of self.old) line.now ≡ None) }
+        ensures refused { IfErr result (IsCause (draft_line_fault (draft_of self.old) line.now)) }
     {
         match word_in(self.last, line) {
             Ok(word) => self.take_word(alloc, without_cr(line), word),
@@ -106,7 +106,7 @@ impl Reader {
         requires goes_on { word ≢ schema_word.End }
         ensures made { OnOk result (record (draft_of self.new) { last = Some word } ≡ with_word (draft_of self.old) (fields_of line.now) word) }
         ensures width { OnOk result (self.new.columns ≡ width_of_all self.new.measures.items) }
-        ensures kept { OnOk result (IsKept self.new.named_last) }
+        ensures kept { OnOk result (KnowsNodes self.new.named_last) }
         ensures accepted { OnOk result (word_fault (draft_of self.old) (fields_of line.now) word ≡ None) }
         ensures refused { IfErr result (IsCause (word_fault (draft_of self.old) (fields_of line.now) word)) }
     {
@@ -129,7 +129,7 @@ impl Reader {
         ensures dims { OnOk result (self.new.dims.items ≡ self.old.dims.items ++ ended self.old.named_last.nodes.items) }
         ensures nodes { OnOk result (self.new.named_last.nodes.items ≡ []) }
         ensures version { self.new.named_last.version ≡ self.old.named_last.version }
-        ensures kept { OnOk result (IsKept self.new.named_last) }
+        ensures kept { OnOk result (KnowsNodes self.new.named_last) }
         ensures others { (self.new.policy ≡ self.old.policy) × (self.new.measures ≡ self.old.measures) × (self.new.columns ≡ self.old.columns) × (self.new.views ≡ self.old.views) }
         ensures accepted { OnOk result (dimension_fault self.old.names.items self.old.named_last.nodes.items (fields_of line.now) ≡ None) }
         ensures refused { IfErr result (IsCause (dimension_fault self.old.names.items self.old.named_last.nodes.items (fields_of line.now))) }
@@ -154,7 +154,7 @@ impl Reader {
         ensures dims { OnOk result (self.new.dims.items ≡ self.old.dims.items ++ ended self.old.named_last.nodes.items) }
         ensures nodes { OnOk result (self.new.named_last.nodes.items ≡ []) }
         ensures version { self.new.named_last.version ≡ self.old.named_last.version }
-        ensures kept { OnOk result (IsKept self.new.named_last) }
+        ensures kept { OnOk result (KnowsNodes self.new.named_last) }
         ensures others { (self.new.policy ≡ self.old.policy) × (self.new.measures ≡ self.old.measures) × (self.new.columns ≡ self.old.columns) × (self.new.names ≡ self.old.names) }
         ensures accepted { OnOk result (view_fault self.old.views.items self.old.named_last.nodes.items (fields_of line.now) ≡ None) }
         ensures refused { IfErr result (IsCause (view_fault self.old.views.items self.old.named_last.nodes.items (fields_of line.now))) }
@@ -180,7 +180,7 @@ impl Reader {
     fn take_end(&mut self, alloc: Global) -> Result<PolicyWord, LineFault>
         requires { IsReader self.old }
         ensures policy { IfOk result (λ policy. policy_among self.old.measures.items self.old.policy ≡ Some policy) }
-        ensures weighable { IfOk result (λ policy. IsWeighable self.old.measures.items (weight_of policy)) }
+        ensures weighable { IfOk result (λ policy. IsWeighable self.old.measures.items (weighing_measure policy)) }
         ensures dims { OnOk result (self.new.dims.items ≡ dims_of (draft_of self.old)) }
         ensures named { OnOk result (length self.old.names.items ≡ length self.new.dims.items) }
         ensures others { (self.new.names ≡ self.old.names) × (self.new.measures ≡ self.old.measures) × (self.new.views ≡ self.old.views) }
@@ -203,8 +203,8 @@ impl Reader {
         requires few { length self.old.dims.items ≤ MAX_DIMS }
         ensures made { IfOk result (λ space. space ≡ self.old.dims.items) }
         ensures others { (self.new.names ≡ self.old.names) × (self.new.measures ≡ self.old.measures) × (self.new.views ≡ self.old.views) }
-        ensures accepted { OnOk result (size_fault self.old.dims.items ≡ None) }
-        ensures refused { IfErr result (IsCause (size_fault self.old.dims.items)) }
+        ensures accepted { OnOk result (size_code self.old.dims.items ≡ None) }
+        ensures refused { IfErr result (IsCause (size_code self.old.dims.items)) }
     {
         match Space::new(alloc, mem::replace(&mut self.dims, Vec::new(alloc))) {
             Ok(space) => Ok(space),
@@ -219,7 +219,7 @@ impl Reader {
         requires measures { AreMeasures self.old.measures.items }
         requires kinds { All (λ m. IsKind m.kind) self.old.measures.items }
         requires measure_names { All (λ m. is_name m.name ≡ true) self.old.measures.items }
-        requires weighable { IsWeighable self.old.measures.items (weight_of policy) }
+        requires weighable { IsWeighable self.old.measures.items (weighing_measure policy) }
         requires names { AreNames self.old.names.items }
         requires named { length self.old.names.items ≡ length space }
         requires views { AreViews (length self.old.names.items) self.old.views.items }

@@ -1,7 +1,7 @@
 //! A schema: the policy, the measures, the named dimensions and the views of a cube.
 ghost use Rattle.std.specs.Prelude.{◌≡◌, ◌<◌, All, IfOk, IfSome, length, true};
 ghost use Rattle.cube_base.specs.Name.{is_name};
-ghost use Rattle.schema_text.specs.Schema.{AreNames, AreViews, IsKind, IsSchema, over_dims, shape_of, view_named, weight_of};
+ghost use Rattle.schema_text.specs.Schema.{AreNames, AreViews, IsKind, IsSchema, over_dims, shape_of, view_named, weighing_measure};
 
 use crate::views::place_of;
 use crate::word::PolicyWord;
@@ -49,13 +49,13 @@ pub struct Schema {
 
 impl Model for Schema {
     ghost use Rattle.std.specs.Prelude.{◌≡◌};
-    ghost use Rattle.schema_text.specs.Schema.{IsSchema, SchemaValue, weight_of};
+    ghost use Rattle.schema_text.specs.Schema.{IsSchema, SchemaValue, weighing_measure};
 
     ghost Value = { SchemaValue };
 
     ghost view = { λ s. record { policy = s.policy; measures = s.shape.measures; names = s.dim_names; dims = s.space; views = s.views } };
 
-    ghost invariant = { λ s. IsSchema (record { policy = s.policy; measures = s.shape.measures; names = s.dim_names; dims = s.space; views = s.views }) × (s.shape.weight ≡ weight_of s.policy) };
+    ghost invariant = { λ s. IsSchema (record { policy = s.policy; measures = s.shape.measures; names = s.dim_names; dims = s.space; views = s.views }) × (s.shape.weight ≡ weighing_measure s.policy) };
 }
 
 impl Schema {
@@ -67,7 +67,7 @@ impl Schema {
         dim_names: Names,
         views: ViewDefs,
     ) -> Self
-        requires weight { shape.weight ≡ weight_of policy }
+        requires weight { shape.weight ≡ weighing_measure policy }
         requires kinds { All (λ m. IsKind m.kind) shape.measures }
         requires measure_names { All (λ m. is_name m.name ≡ true) shape.measures }
         requires dim_names { AreNames dim_names }

@@ -7,7 +7,7 @@ ghost use Rattle.schema_text.specs.Schema.{weigh_of};
 ghost use Rattle.script_text.specs.LineOf.{IsMeasureOver, IsQuestionOf};
 ghost use Rattle.script_text.specs.Reply.{NamesCells, NamesPlaces};
 ghost use Rattle.script_text.specs.ScriptWord.{kind_of};
-ghost use Rattle.cube_core.specs.Cube.{rows_in};
+ghost use Rattle.cube_core.specs.Cube.{cube_rows};
 ghost use Rattle.script_answers.specs.Answers.{answer_to, id_answer, measure_answer, region_answer, reply_to, rows_answer, state_of, worlds_answer};
 
 use crate::depending::{component_answer, rounds_answer};
@@ -173,7 +173,7 @@ fn worlds_answer(
     region: Region,
 ) -> Result<Result<Answer, Code>, Memory>
     requires { IsRegion cube.now.schema.dims region }
-    ensures answer { IfOk result (λ told. told ≡ worlds_answer (width_of_all cube.now.schema.measures + 1) cube.now.schema.dims region (rows_in weigh_of cube.now)) }
+    ensures answer { IfOk result (λ told. told ≡ worlds_answer (width_of_all cube.now.schema.measures + 1) cube.now.schema.dims region (cube_rows weigh_of cube.now)) }
     ensures places { IfOk result (λ told. IfOk told (NamesPlaces cube.now.schema.dims)) }
 {
     match cube.worlds(region) {

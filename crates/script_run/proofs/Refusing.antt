@@ -10,7 +10,7 @@ use Rattle.cube_model.specs.declared.tree.Grow.{Grow}
 use Rattle.cube_core.specs.declared.cube.Receipt.{Receipt}
 use Rattle.cube_core.specs.declared.fault.EditFault.{EditFault}
 use Rattle.cube_core.specs.declared.fault.EditFault.TheVariants as edit_fault
-use Rattle.cube_core.specs.Cube.{CountsEditFault, CubeValue, IsFaultOf, judge_in}
+use Rattle.cube_core.specs.Cube.{CountsEditFault, CubeValue, IsFaultOf, cube_judgement}
 use Rattle.cube_core.specs.Growth.{IsGrowthFaultOf, judge_growth_in}
 use Rattle.fact_keeper.specs.declared.content.Batch.{Batch}
 use Rattle.fact_keeper.specs.Keeper.{KeeperTold}
@@ -21,7 +21,7 @@ use Rattle.script_run.specs.declared.script.LineStop.{LineStop}
 use Rattle.script_run.specs.Kept.{Commits}
 use Rattle.script_run.specs.Run.{Step, cube_at, replied, state_of}
 use Rattle.script_run.specs.Seen.{Told, told_of}
-use Rattle.script_run.specs.Stop.{IsStopOf, reply_to}
+use Rattle.script_run.specs.Stop.{IsStopOf, refusal_reply}
 use Rattle.script_run.proofs.Batches.{commits_none}
 
 -- a fault is one of what is judged so
@@ -31,7 +31,7 @@ IsJudged judged (edit_fault.Rows would) = judged ≡ Some code.Rows
 IsJudged judged edit_fault.KeepFault = judged ≡ None
 IsJudged judged edit_fault.Memory = ⊤
 
-pub edit_judged : {P : Type 0} (weigh : P → CellStat → ℕ) (cube : CubeValue P) (edit : Edit) (fault : EditFault) → IsFaultOf weigh cube edit fault → IsJudged (judge_in weigh cube edit) fault
+pub edit_judged : {P : Type 0} (weigh : P → CellStat → ℕ) (cube : CubeValue P) (edit : Edit) (fault : EditFault) → IsFaultOf weigh cube edit fault → IsJudged (cube_judgement weigh cube edit) fault
 edit_judged weigh cube edit (edit_fault.Code refusal) told = told.0
 edit_judged weigh cube edit (edit_fault.Rows would) told = told.0
 edit_judged weigh cube edit edit_fault.KeepFault told = told
@@ -62,7 +62,7 @@ pub record IsAnswered {P : Type 0} (cube cube_after : CubeValue P) (before after
 -- What is judged so is refused, or a keeper failed, or it ran out of memory: the cube and the keeper stand as before.
 pub not_done : {P : Type 0} (cube cube_after : CubeValue P) (before after : Told) (faults faults_after : ℕ) (judged : Option Code) (accepted : Step) (batch : Batch) (fault : EditFault)
     → IsJudged judged fault → cube_after ≡ cube → after ≡ before → CountsEditFault {R = Receipt} faults faults_after (Err fault)
-    → IsAnswered cube cube_after before after faults faults_after (option_map_or (λ refusal. replied (state_of cube) (reply.Refused refusal)) judged accepted) (if is_none judged then batch ∷ [] else []) (reply_to fault)
+    → IsAnswered cube cube_after before after faults faults_after (option_map_or (λ refusal. replied (state_of cube) (reply.Refused refusal)) judged accepted) (if is_none judged then batch ∷ [] else []) (refusal_reply fault)
 not_done cube cube_after before after faults faults_after judged accepted batch (edit_fault.Code refusal) told same same_kept counts = record {
   reply = rw told refl;
   state = rw told same;

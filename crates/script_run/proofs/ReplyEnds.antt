@@ -8,14 +8,14 @@ use Rattle.std.proofs.lemmas.Bool.Decides.{nat_tests}
 use Rattle.std.proofs.lemmas.List.{take-append-le, length-take-le}
 use Rattle.std.proofs.lemmas.List.Sums.{sum_by-cons}
 use Rattle.std.proofs.Math.Seq.{take-append-add, take-append_seam, drop-append_seam}
-use Rattle.script_run.specs.ReplyEnds.{IsCut, cut_at_ends, ends_from, whole_within}
+use Rattle.script_run.specs.ReplyEnds.{IsCutAtEnds, cut_at_ends, reply_ends_from, whole_within}
 
-pub length-ends_from : (start : ℕ) (texts : List (List ℕ)) → length (ends_from start texts) ≡ length texts
+pub length-ends_from : (start : ℕ) (texts : List (List ℕ)) → length (reply_ends_from start texts) ≡ length texts
 length-ends_from start [] = refl
 length-ends_from start (text ∷ texts) = ap suc (length-ends_from (start + length text) texts)
 
 -- the ends of some replies cut their text into them
-cut_ends : (start : ℕ) (texts : List (List ℕ)) → cut_at_ends start (ends_from start texts) (concat texts) ≡ texts
+cut_ends : (start : ℕ) (texts : List (List ℕ)) → cut_at_ends start (reply_ends_from start texts) (concat texts) ≡ texts
 cut_ends start [] = refl
 cut_ends start (text ∷ texts) =
     let end = start + length text in
@@ -23,27 +23,27 @@ cut_ends start (text ∷ texts) =
     rw (len, take-append_seam text (concat texts), drop-append_seam text (concat texts)) (ap (λ ts. text ∷ ts) (cut_ends end texts))
 
 -- ends and a text that are those of some replies
-pub cut_of : (texts : List (List ℕ)) (ends text : List ℕ) → text ≡ concat texts → ends ≡ ends_from 0 texts → cut_at_ends 0 ends text ≡ texts
+pub cut_of : (texts : List (List ℕ)) (ends text : List ℕ) → text ≡ concat texts → ends ≡ reply_ends_from 0 texts → cut_at_ends 0 ends text ≡ texts
 cut_of texts ends text is_text are_ends = rw (is_text, are_ends) (cut_ends 0 texts)
 
-pub is_cut_of : (texts : List (List ℕ)) (ends text : List ℕ) → text ≡ concat texts → ends ≡ ends_from 0 texts → IsCut ends text
+pub is_cut_of : (texts : List (List ℕ)) (ends text : List ℕ) → text ≡ concat texts → ends ≡ reply_ends_from 0 texts → IsCutAtEnds ends text
 is_cut_of texts ends text is_text are_ends =
     let same = cut_of texts ends text is_text are_ends in
     record {
       text_is = is_text ∙ ap concat (sym same);
-      ends_are = are_ends ∙ ap (ends_from 0) (sym same);
+      ends_are = are_ends ∙ ap (reply_ends_from 0) (sym same);
     }
 
 -- there are as many replies as ends
-pub length_cut : (ends text : List ℕ) → IsCut ends text → length ends ≡ length (cut_at_ends 0 ends text)
+pub length_cut : (ends text : List ℕ) → IsCutAtEnds ends text → length ends ≡ length (cut_at_ends 0 ends text)
 length_cut ends text cut = ap length cut.ends_are ∙ length-ends_from 0 (cut_at_ends 0 ends text)
 
 -- one reply more ends where all of them end
-pub ends_from-push : (start : ℕ) (texts : List (List ℕ)) (text : List ℕ) (end : ℕ) → end ≡ start + length (concat texts) + length text
-    → ends_from start (texts ++ text ∷ []) ≡ ends_from start texts ++ end ∷ []
-ends_from-push start [] text end last = ap (λ n. n ∷ []) (omega arith)
-ends_from-push start (first ∷ texts) text end last =
-    ap (λ ends. (start + length first) ∷ ends) (ends_from-push (start + length first) texts text end (omega (arith, length-append first (concat texts))))
+pub reply_ends_from-push : (start : ℕ) (texts : List (List ℕ)) (text : List ℕ) (end : ℕ) → end ≡ start + length (concat texts) + length text
+    → reply_ends_from start (texts ++ text ∷ []) ≡ reply_ends_from start texts ++ end ∷ []
+reply_ends_from-push start [] text end last = ap (λ n. n ∷ []) (omega arith)
+reply_ends_from-push start (first ∷ texts) text end last =
+    ap (λ ends. (start + length first) ∷ ends) (reply_ends_from-push (start + length first) texts text end (omega (arith, length-append first (concat texts))))
 
 -- one reply more makes up one text more
 concat-push : (texts : List (List ℕ)) (more : List ℕ) → concat (texts ++ more ∷ []) ≡ concat texts ++ more
@@ -53,19 +53,19 @@ concat-push (text ∷ texts) more = ap (λ l. text ++ l) (concat-push texts more
 text-push : (texts : List (List ℕ)) (text more text_after : List ℕ) → text ≡ concat texts → text_after ≡ text ++ more → text_after ≡ concat (texts ++ more ∷ [])
 text-push texts text more text_after is_text more_text = more_text ∙ ap (λ l. l ++ more) is_text ∙ sym (concat-push texts more)
 
-ends-push : (texts : List (List ℕ)) (text ends more text_after ends_after : List ℕ) → text ≡ concat texts → ends ≡ ends_from 0 texts → text_after ≡ text ++ more → ends_after ≡ ends ++ length text_after ∷ []
-    → ends_after ≡ ends_from 0 (texts ++ more ∷ [])
+ends-push : (texts : List (List ℕ)) (text ends more text_after ends_after : List ℕ) → text ≡ concat texts → ends ≡ reply_ends_from 0 texts → text_after ≡ text ++ more → ends_after ≡ ends ++ length text_after ∷ []
+    → ends_after ≡ reply_ends_from 0 (texts ++ more ∷ [])
 ends-push texts text ends more text_after ends_after is_text are_ends more_text more_ends =
     let last : length text_after ≡ 0 + length (concat texts) + length more = omega (arith, ap length more_text, length-append text more, ap length is_text) in
-    more_ends ∙ ap (λ l. l ++ length text_after ∷ []) are_ends ∙ sym (ends_from-push 0 texts more (length text_after) last)
+    more_ends ∙ ap (λ l. l ++ length text_after ∷ []) are_ends ∙ sym (reply_ends_from-push 0 texts more (length text_after) last)
 
 -- the text of one reply more and its end, behind those of others
-pub is_cut-push : (ends text ends_after text_after more : List ℕ) → IsCut ends text → text_after ≡ text ++ more → ends_after ≡ ends ++ length text_after ∷ [] → IsCut ends_after text_after
+pub is_cut-push : (ends text ends_after text_after more : List ℕ) → IsCutAtEnds ends text → text_after ≡ text ++ more → ends_after ≡ ends ++ length text_after ∷ [] → IsCutAtEnds ends_after text_after
 is_cut-push ends text ends_after text_after more cut more_text more_ends =
     let texts = cut_at_ends 0 ends text in
     is_cut_of (texts ++ more ∷ []) ends_after text_after (text-push texts text more text_after cut.text_is more_text) (ends-push texts text ends more text_after ends_after cut.text_is cut.ends_are more_text more_ends)
 
-pub cut-push : (ends text ends_after text_after more : List ℕ) → IsCut ends text → text_after ≡ text ++ more → ends_after ≡ ends ++ length text_after ∷ [] → cut_at_ends 0 ends_after text_after ≡ cut_at_ends 0 ends text ++ more ∷ []
+pub cut-push : (ends text ends_after text_after more : List ℕ) → IsCutAtEnds ends text → text_after ≡ text ++ more → ends_after ≡ ends ++ length text_after ∷ [] → cut_at_ends 0 ends_after text_after ≡ cut_at_ends 0 ends text ++ more ∷ []
 cut-push ends text ends_after text_after more cut more_text more_ends =
     let texts = cut_at_ends 0 ends text in
     cut_of (texts ++ more ∷ []) ends_after text_after (text-push texts text more text_after cut.text_is more_text) (ends-push texts text ends more text_after ends_after cut.text_is cut.ends_are more_text more_ends)
@@ -83,10 +83,10 @@ whole_within-part bytes end ends lt =
     sum_by-cons (λ e. if nat_le e bytes then 1 else 0) end ends ∙ rw outside (omega arith)
 
 -- no reply ends within fewer bytes than stand before it
-none_whole : (start bytes : ℕ) (texts : List (List ℕ)) → bytes < start → whole_within bytes (ends_from start texts) ≡ 0
+none_whole : (start bytes : ℕ) (texts : List (List ℕ)) → bytes < start → whole_within bytes (reply_ends_from start texts) ≡ 0
 none_whole start bytes [] lt = refl
 none_whole start bytes (text ∷ texts) lt =
-    whole_within-part bytes (start + length text) (ends_from (start + length text) texts) (omega arith) ∙ none_whole (start + length text) bytes texts (omega arith)
+    whole_within-part bytes (start + length text) (reply_ends_from (start + length text) texts) (omega arith) ∙ none_whole (start + length text) bytes texts (omega arith)
 
 -- a text begins with its front
 pub starts_with_front : (front back : List ℕ) → StartsWith (front ++ back) front
@@ -126,11 +126,11 @@ cut_later text texts p q whole split cut =
     }
 
 -- the ends within the first p bytes count the whole replies, also where some are empty
-pub cut_at : (texts : List (List ℕ)) (start p bytes : ℕ) → bytes ≡ start + p → p < length (concat texts) → CutAt texts p (whole_within bytes (ends_from start texts))
+pub cut_at : (texts : List (List ℕ)) (start p bytes : ℕ) → bytes ≡ start + p → p < length (concat texts) → CutAt texts p (whole_within bytes (reply_ends_from start texts))
 cut_at [] start p bytes sum part = absurd (omega arith)
 cut_at (text ∷ texts) start p bytes sum part =
     let end = start + length text in
-    let later = ends_from end texts in
+    let later = reply_ends_from end texts in
     elim (cases_lt p (length text)) [
       | inl within ↦
           let none : whole_within bytes (end ∷ later) ≡ 0 = whole_within-part bytes end later (omega arith) ∙ none_whole end bytes texts (omega arith) in
@@ -143,5 +143,5 @@ cut_at (text ∷ texts) start p bytes sum part =
     ]
 
 -- fewer replies are whole than there are, where the text is cut
-pub whole-lt : (texts : List (List ℕ)) (p whole : ℕ) → p < length (concat texts) → whole ≡ whole_within p (ends_from 0 texts) → whole < length texts
+pub whole-lt : (texts : List (List ℕ)) (p whole : ℕ) → p < length (concat texts) → whole ≡ whole_within p (reply_ends_from 0 texts) → whole < length texts
 whole-lt texts p whole part is_whole = rw is_whole (cut_at texts 0 p p (omega arith) part).more

@@ -5,7 +5,7 @@ use Rattle.std.specs.Io.{StartsWith}
 use Rattle.std.proofs.lemmas.List.{take_all, take-append-drop, take-append-le, length-take-le}
 use Rattle.std.proofs.Math.Seq.{take-append-add}
 use Rattle.script_run.specs.Written.{Broken, Gathered, Stopped}
-use Rattle.script_run.specs.ReplyEnds.{ends_from, whole_within}
+use Rattle.script_run.specs.ReplyEnds.{reply_ends_from, whole_within}
 use Rattle.script_run.proofs.ReplyEnds.{cut_at, starts_with_front, starts_with_both}
 
 -- joined lists
@@ -31,9 +31,9 @@ starts_with_fewer n m texts le =
     rw split (starts_with_front (concat (take m texts)) (concat (drop m (take n texts))))
 
 -- Where p bytes of some replies were taken, the reply in which the cut lies is broken, and those before it are whole.
-pub broken_at : (texts : List (List ℕ)) (p : ℕ) → p < length (concat texts) → Broken texts (whole_within p (ends_from 0 texts) + 1) (take p (concat texts))
+pub broken_at : (texts : List (List ℕ)) (p : ℕ) → p < length (concat texts) → Broken texts (whole_within p (reply_ends_from 0 texts) + 1) (take p (concat texts))
 broken_at texts p part =
-    let whole = whole_within p (ends_from 0 texts) in
+    let whole = whole_within p (reply_ends_from 0 texts) in
     let cut = cut_at texts 0 p p (omega arith) part in
     let before : whole + 1 - 1 ≡ whole = omega arith in
     record {

@@ -11,7 +11,7 @@ use Rattle.script_run.specs.declared.break_off.BreakOff.{BreakOff}
 use Rattle.script_run.specs.declared.break_off.BreakOff.TheVariants.{Write, SinkMemory, Memory, Keep}
 use Rattle.script_run.specs.Written.{Answered, Broken, Gathered}
 use Rattle.script_run.specs.Progress.{BreaksOff, CountsCut, HasGathered, break_off_at}
-use Rattle.script_run.specs.ReplyEnds.{ends_from, whole_within}
+use Rattle.script_run.specs.ReplyEnds.{reply_ends_from, whole_within}
 use Rattle.script_run.specs.Seen.{NoWriteFault, SinkSeen, Wrote, seen_since}
 use Rattle.script_run.proofs.Texts.{broken-more, broken_at, broken_behind, concat-append, gathered-more, gathered_before}
 
@@ -38,7 +38,7 @@ wrote_behind (Some xs) (Some ys) (Some zs) front P Q appends written behind =
     wrote (Some xs) (Some zs) (front ++ bytes) Q all (behind bytes written.1)
 
 -- where a sink took p bytes of some replies, one is broken
-pub wrote_part : (texts : List (List ℕ)) (before after : Option (List ℕ)) (p whole : ℕ) → p < length (concat texts) → Appends before after (take p (concat texts)) → whole ≡ whole_within p (ends_from 0 texts)
+pub wrote_part : (texts : List (List ℕ)) (before after : Option (List ℕ)) (p whole : ℕ) → p < length (concat texts) → Appends before after (take p (concat texts)) → whole ≡ whole_within p (reply_ends_from 0 texts)
     → Wrote before after (Broken texts (whole + 1))
 wrote_part texts before after p whole part bytes is_whole = wrote before after (take p (concat texts)) (Broken texts (whole + 1)) bytes (rw is_whole (broken_at texts p part))
 

@@ -10,7 +10,7 @@ use Rattle.fact_keeper.specs.declared.content.Stored.{Stored}
 use Rattle.fact_keeper.specs.Batch.{apply_batch}
 use Rattle.fact_records.specs.Judge.{judge}
 use Rattle.schema_text.specs.Growth.{dims_with}
-use Rattle.schema_text.specs.Schema.{SchemaValue, policy_in, shape_of}
+use Rattle.schema_text.specs.Schema.{SchemaValue, schema_policy, shape_of}
 use Rattle.script_text.specs.declared.line.Line.{Line}
 use Rattle.script_text.specs.declared.line.Line.TheVariants as line
 use Rattle.script_text.specs.ScriptLine.{line_of}
@@ -23,9 +23,9 @@ use Rattle.script_run.specs.Seen.{Told}
 -- Whatever is refused, skipped or asked commits none.
 abbrev pub batches_of : (CellStat → ℕ) → SchemaValue → State → Line → List Batch
 batches_of weigh schema state (line.Edit edit) =
-    if is_none (judge (policy_in weigh schema) (shape_of schema) state.dims edit state.facts) then difference (policy_in weigh schema) state.dims edit state.facts ∷ [] else []
+    if is_none (judge (schema_policy weigh schema) (shape_of schema) state.dims edit state.facts) then difference (schema_policy weigh schema) state.dims edit state.facts ∷ [] else []
 batches_of weigh schema state (line.Grow grow) =
-    if is_none (judge_growth (policy_in weigh schema) state.dims state.facts grow) then growth_difference (policy_in weigh schema) (schema_at schema state) (dims_with grow state.dims) state.facts ∷ [] else []
+    if is_none (judge_growth (schema_policy weigh schema) state.dims state.facts grow) then growth_difference (schema_policy weigh schema) (schema_at schema state) (dims_with grow state.dims) state.facts ∷ [] else []
 batches_of weigh schema state line.Nothing = []
 batches_of weigh schema state (line.Ask asked) = []
 

@@ -23,7 +23,7 @@ abbrev pub MARK_LINES : ℕ
 MARK_LINES = 4096
 
 -- the gathered replies are too few for a write
-pub record AreFew (gathered : List (List ℕ)) : Type 0 where
+pub record AreFewReplies (gathered : List (List ℕ)) : Type 0 where
   pub bytes : length (concat gathered) < MARK_BYTES
   pub lines : length gathered < MARK_LINES
 

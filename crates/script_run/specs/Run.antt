@@ -11,7 +11,7 @@ use Rattle.cube_model.specs.Facts.{after}
 use Rattle.cube_model.specs.Tree.{Dimension}
 use Rattle.fact_records.specs.Judge.{judge}
 use Rattle.schema_text.specs.Growth.{dims_with}
-use Rattle.schema_text.specs.Schema.{SchemaValue, policy_in, shape_of, weigh_of}
+use Rattle.schema_text.specs.Schema.{SchemaValue, schema_policy, shape_of, weigh_of}
 use Rattle.script_text.specs.declared.line.Line.{Line}
 use Rattle.script_text.specs.declared.line.Line.TheVariants as line
 use Rattle.script_text.specs.declared.reply.Reply.{Reply}
@@ -33,28 +33,28 @@ replied state answer = record { reply = Some answer; state = state }
 
 -- an accepted edit answers how many facts it refreshes
 abbrev pub accepted : (CellStat → ℕ) → SchemaValue → State → List Fact → Step
-accepted weigh schema state later = record { reply = Some (Done (length (refreshed (policy_in weigh schema) state.dims state.facts later))); state = record state { facts = later } }
+accepted weigh schema state later = record { reply = Some (Done (length (refreshed (schema_policy weigh schema) state.dims state.facts later))); state = record state { facts = later } }
 
 -- an edit is done unless it is refused
-abbrev pub edited : (CellStat → ℕ) → SchemaValue → State → Edit → Step
-edited weigh schema state edit =
-    option_map_or (λ refusal. replied state (Refused refusal)) (judge (policy_in weigh schema) (shape_of schema) state.dims edit state.facts) (accepted weigh schema state (after edit state.facts))
+abbrev pub edit_step : (CellStat → ℕ) → SchemaValue → State → Edit → Step
+edit_step weigh schema state edit =
+    option_map_or (λ refusal. replied state (Refused refusal)) (judge (schema_policy weigh schema) (shape_of schema) state.dims edit state.facts) (accepted weigh schema state (after edit state.facts))
 
 -- A growth is done unless it is refused: it answers with the number of facts whose allocation changed. The facts stay.
-abbrev pub grown : (CellStat → ℕ) → SchemaValue → State → Grow → Step
-grown weigh schema state grow = record {
-  reply = Some (Done (length (moved (policy_in weigh schema) state.dims (dims_with grow state.dims) state.facts)));
+abbrev pub growth_step : (CellStat → ℕ) → SchemaValue → State → Grow → Step
+growth_step weigh schema state grow = record {
+  reply = Some (Done (length (moved (schema_policy weigh schema) state.dims (dims_with grow state.dims) state.facts)));
   state = record state { dims = dims_with grow state.dims };
 }
 
 abbrev pub growth : (CellStat → ℕ) → SchemaValue → State → Grow → Step
 growth weigh schema state grow =
-    option_map_or (λ refusal. replied state (Refused refusal)) (judge_growth (policy_in weigh schema) state.dims state.facts grow) (grown weigh schema state grow)
+    option_map_or (λ refusal. replied state (Refused refusal)) (judge_growth (schema_policy weigh schema) state.dims state.facts grow) (growth_step weigh schema state grow)
 
 -- what a line that is read does: an edit or a growth is done, and what a question asks is answered
 abbrev pub step_of : (CellStat → ℕ) → SchemaValue → State → Line → Step
 step_of weigh schema state line.Nothing = record { reply = None; state = state }
-step_of weigh schema state (line.Edit edit) = edited weigh schema state edit
+step_of weigh schema state (line.Edit edit) = edit_step weigh schema state edit
 step_of weigh schema state (line.Grow grow) = growth weigh schema state grow
 step_of weigh schema state (line.Ask asked) = replied state (reply_to weigh schema state asked)
 

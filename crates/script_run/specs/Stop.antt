@@ -35,8 +35,8 @@ IsStopOf committed before after Memory = after ≡ before
 IsStopOf committed before after KeepFault = Rose before after × (length committed ≡ 1)
 
 -- the reply to an edit or a growth that a cube refuses, where that has one
-abbrev pub reply_to : EditFault → Result Reply LineStop
-reply_to (edit_fault.Code refusal) = Ok (reply.Refused refusal)
-reply_to (edit_fault.Rows would) = Ok (reply.Refused code.Rows)
-reply_to edit_fault.KeepFault = Err KeepFault
-reply_to edit_fault.Memory = Err Memory
+abbrev pub refusal_reply : EditFault → Result Reply LineStop
+refusal_reply (edit_fault.Code refusal) = Ok (reply.Refused refusal)
+refusal_reply (edit_fault.Rows would) = Ok (reply.Refused code.Rows)
+refusal_reply edit_fault.KeepFault = Err KeepFault
+refusal_reply edit_fault.Memory = Err Memory

@@ -4,8 +4,8 @@ ghost use Rattle.std.specs.Io.KnownBytes.{Appends};
 ghost use Rattle.std.specs.List.{concat};
 ghost use Rattle.script_text.specs.Reply.{NamesCells};
 ghost use Rattle.script_run.specs.Written.{Broken};
-ghost use Rattle.script_run.specs.Progress.{AreFew, CountsCut};
-ghost use Rattle.script_run.specs.ReplyEnds.{ends_from, whole_within};
+ghost use Rattle.script_run.specs.Progress.{AreFewReplies, CountsCut};
+ghost use Rattle.script_run.specs.ReplyEnds.{reply_ends_from, whole_within};
 ghost use Rattle.script_run.specs.Run.{text_of};
 ghost use Rattle.script_run.specs.Seen.{Wrote, sink_seen};
 
@@ -32,13 +32,13 @@ pub struct Outbox {
 
 impl Model for Outbox {
     ghost use Rattle.std.specs.Prelude.{ℕ, List};
-    ghost use Rattle.script_run.specs.ReplyEnds.{IsCut, cut_at_ends};
+    ghost use Rattle.script_run.specs.ReplyEnds.{IsCutAtEnds, cut_at_ends};
 
     ghost Value = { List (List ℕ) };
 
     ghost view = { λ o. cut_at_ends 0 o.ends.items o.text.items };
 
-    ghost invariant = { λ o. IsCut o.ends.items o.text.items };
+    ghost invariant = { λ o. IsCutAtEnds o.ends.items o.text.items };
 }
 
 /// Where a sink broke off.
@@ -70,7 +70,7 @@ impl Outbox {
 
     /// Whether enough is gathered for a write.
     pub fn is_full(&self) -> bool
-        ensures { result ≡ false → AreFew self.now }
+        ensures { result ≡ false → AreFewReplies self.now }
     {
         self.text.len() >= GATHERED || self.ends.len() >= GATHERED_LINES
     }
@@ -111,7 +111,7 @@ impl Outbox {
 
     // How many of the replies end within so many bytes.
     fn whole(&self, taken: usize) -> u64
-        ensures { result ≡ whole_within taken (ends_from 0 self.now) }
+        ensures { result ≡ whole_within taken (reply_ends_from 0 self.now) }
     {
         self.ends.iter().filter(|end| **end <= taken).count() as u64
     }

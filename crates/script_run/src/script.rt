@@ -9,9 +9,9 @@ ghost use Rattle.script_text.specs.LineOf.{IsLineOf};
 ghost use Rattle.script_text.specs.Reply.{NamesCells};
 ghost use Rattle.script_text.specs.ScriptLine.{line_of};
 ghost use Rattle.script_run.specs.Kept.{Commits, batches_from, batches_of};
-ghost use Rattle.script_run.specs.Run.{cube_at, edited, growth, refusals_in, state_of, step_from, step_of};
+ghost use Rattle.script_run.specs.Run.{cube_at, edit_step, growth, refusals_in, state_of, step_from, step_of};
 ghost use Rattle.script_run.specs.Seen.{told_of};
-ghost use Rattle.script_run.specs.Stop.{IsStopOf, is_edit, reply_to};
+ghost use Rattle.script_run.specs.Stop.{IsStopOf, is_edit, refusal_reply};
 
 use cube_base::{Code, Memory};
 use cube_core::{Cube, EditFault};
@@ -132,8 +132,8 @@ fn do_edit<Q: Keeper>(
 ) -> Result<Reply, LineStop>
     requires edit { IsEditOf (shape_of cube.old.schema) cube.old.schema.dims edit.now }
     requires open { IsTrue (Q.tells keeper.old).is_open }
-    ensures reply { IfOk result (λ reply. Some reply ≡ (edited (weigh_of cube.old.policy) cube.old.schema (state_of cube.old) edit.now).reply) }
-    ensures state { OnOk result (cube.new ≡ cube_at cube.old (edited (weigh_of cube.old.policy) cube.old.schema (state_of cube.old) edit.now).state) }
+    ensures reply { IfOk result (λ reply. Some reply ≡ (edit_step (weigh_of cube.old.policy) cube.old.schema (state_of cube.old) edit.now).reply) }
+    ensures state { OnOk result (cube.new ≡ cube_at cube.old (edit_step (weigh_of cube.old.policy) cube.old.schema (state_of cube.old) edit.now).state) }
     ensures cells { IfOk result (NamesCells cube.new.schema.dims) }
     ensures same { OnErr result (cube.new ≡ cube.old) }
     ensures kept { OnOk result (Commits (batches_of (weigh_of cube.old.policy) cube.old.schema (state_of cube.old) (line.Edit edit.now)) (told_of Q.tells keeper.old) (told_of Q.tells keeper.new)) }
@@ -157,8 +157,8 @@ fn do_edit_by<L: Ledger, Q: Keeper>(
     requires name { blank.name ≡ L.name }
     requires parts { blank.parts ≡ L.parts }
     requires some { 0 < L.parts }
-    ensures reply { IfOk result (λ reply. Some reply ≡ (edited (weigh_of cube.old.policy) cube.old.schema (state_of cube.old) edit.now).reply) }
-    ensures state { OnOk result (cube.new ≡ cube_at cube.old (edited (weigh_of cube.old.policy) cube.old.schema (state_of cube.old) edit.now).state) }
+    ensures reply { IfOk result (λ reply. Some reply ≡ (edit_step (weigh_of cube.old.policy) cube.old.schema (state_of cube.old) edit.now).reply) }
+    ensures state { OnOk result (cube.new ≡ cube_at cube.old (edit_step (weigh_of cube.old.policy) cube.old.schema (state_of cube.old) edit.now).state) }
     ensures cells { IfOk result (NamesCells cube.new.schema.dims) }
     ensures same { OnErr result (cube.new ≡ cube.old) }
     ensures kept { OnOk result (Commits (batches_of (weigh_of cube.old.policy) cube.old.schema (state_of cube.old) (line.Edit edit.now)) (told_of Q.tells keeper.old) (told_of Q.tells keeper.new)) }
@@ -205,7 +205,7 @@ fn do_growth<Q: Keeper>(
 
 /// The reply to an edit or a growth that a cube refuses, where that has one.
 fn reply_to(fault: EditFault) -> Result<Reply, LineStop>
-    ensures { result ≡ reply_to fault }
+    ensures { result ≡ refusal_reply fault }
 {
     match fault {
         EditFault::Code(code) => Ok(Reply::Refused(code)),

@@ -10,7 +10,7 @@ ghost use Rattle.script_text.specs.Reply.{NamesCells};
 ghost use Rattle.script_text.specs.ScriptLine.{line_of};
 ghost use Rattle.script_run.specs.declared.break_off.BreakOff.TheVariants as break_off;
 ghost use Rattle.script_run.specs.Kept.{Commits, HasKept, IsBehind, IsGatheredStop, KeptAt, batches_from, is_keep};
-ghost use Rattle.script_run.specs.Progress.{AreFew, BreaksOff, Done, HasDone, HasGathered};
+ghost use Rattle.script_run.specs.Progress.{AreFewReplies, BreaksOff, Done, HasDone, HasGathered};
 ghost use Rattle.script_run.specs.Run.{State, cube_at, refusals_in, run, state_of, step_from, text_of};
 ghost use Rattle.script_run.specs.Seen.{Told, seen_since, sink_seen, told_of};
 ghost use Rattle.script_run.specs.Stop.{IsReadyFor, IsStopOf};
@@ -77,7 +77,7 @@ impl ScriptRun {
         requires open { IsTrue (Q.tells keeper.old).is_open }
         ensures done { (schema : SchemaValue) (first : State) (lines : List (List ℕ)) (start : Option (List ℕ)) → HasDone (weigh_of self.old.cube.policy) schema first lines start (K.tells out.old).taken self.old
             → OnOk result (HasDone (weigh_of self.old.cube.policy) schema first (lines ++ line.now ∷ []) start (K.tells out.new).taken self.new) }
-        ensures few_gathered { OnOk result (AreFew self.new.gathered) }
+        ensures few_gathered { OnOk result (AreFewReplies self.new.gathered) }
         ensures policy { self.new.cube.policy ≡ self.old.cube.policy }
         ensures keeps { self.new.keeps ≡ self.old.keeps }
         ensures count { OnOk result ((K.tells out.new).faults ≡ (K.tells out.old).faults) }
@@ -168,7 +168,7 @@ impl ScriptRun {
         requires open { IsTrue (Q.tells keeper.old).is_open }
         ensures done { (schema : SchemaValue) (first : State) (lines : List (List ℕ)) (start : Option (List ℕ)) (line : List ℕ) → HasDone (weigh_of self.old.cube.policy) schema first lines start (K.tells out.old).taken self.old → line_of self.old.cube.schema line ≡ read.now
             → OnOk result (HasDone (weigh_of self.old.cube.policy) schema first (lines ++ line ∷ []) start (K.tells out.new).taken self.new) }
-        ensures few_gathered { OnOk result (AreFew self.new.gathered) }
+        ensures few_gathered { OnOk result (AreFewReplies self.new.gathered) }
         ensures policy { self.new.cube.policy ≡ self.old.cube.policy }
         ensures keeps { self.new.keeps ≡ self.old.keeps }
         ensures count { OnOk result ((K.tells out.new).faults ≡ (K.tells out.old).faults) }
@@ -203,7 +203,7 @@ impl ScriptRun {
         requires few { self.old.done < 2 ^ 62 }
         ensures done { (schema : SchemaValue) (first : State) (lines : List (List ℕ)) (start : Option (List ℕ)) (line : List ℕ) → HasDone (weigh_of self.old.cube.policy) schema first lines start (K.tells out.old).taken self.old → line_of self.old.cube.schema line ≡ Err code
             → OnOk result (HasDone (weigh_of self.old.cube.policy) schema first (lines ++ line ∷ []) start (K.tells out.new).taken self.new) }
-        ensures few_gathered { OnOk result (AreFew self.new.gathered) }
+        ensures few_gathered { OnOk result (AreFewReplies self.new.gathered) }
         ensures policy { self.new.cube.policy ≡ self.old.cube.policy }
         ensures keeps { self.new.keeps ≡ self.old.keeps }
         ensures count { OnOk result ((K.tells out.new).faults ≡ (K.tells out.old).faults) }
@@ -254,7 +254,7 @@ impl ScriptRun {
             → OnOk result (HasGathered (replies ++ text_of self.old.cube.schema.dims reply.now ∷ []) start (K.tells out.new).taken self.new.gathered) }
         ensures answered { OnOk result (self.new ≡ record self.old { gathered = self.new.gathered; done = self.old.done + 1; refused = self.old.refused + refusals_in reply.now }) }
         ensures one_more { OnOk result (length self.new.gathered ≤ length self.old.gathered + 1) }
-        ensures few_gathered { OnOk result (AreFew self.new.gathered) }
+        ensures few_gathered { OnOk result (AreFewReplies self.new.gathered) }
         ensures policy { self.new.cube.policy ≡ self.old.cube.policy }
         ensures keeps { self.new.keeps ≡ self.old.keeps }
         ensures count { OnOk result ((K.tells out.new).faults ≡ (K.tells out.old).faults) }

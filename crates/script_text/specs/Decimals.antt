@@ -48,8 +48,8 @@ exact_text None = codes "wide"
 exact_text (Some fraction) = fraction_text fraction.0 fraction.1
 
 -- the bounds of a number, and its fraction
-abbrev pub value_fields : Value → List (List ℕ)
-value_fields value = units_text value.lo ∷ units_text value.hi ∷ exact_text value.exact ∷ []
+abbrev pub bounds_fields : Value → List (List ℕ)
+bounds_fields value = units_text value.lo ∷ units_text value.hi ∷ exact_text value.exact ∷ []
 
 -- those of a quotient; none where there is no count to divide by
 abbrev pub quotient_fields : Quotient → List (List ℕ)

@@ -65,6 +65,6 @@ IsGrowth (line.Grow grow) = ⊤
 IsGrowth (line.Ask asked) = ⊥
 
 -- where a line is refused, this is its code; there is no memory for a line that lets a dimension grow, which has a name, and for no other
-abbrev pub IsFaultOf : SchemaValue → List ℕ → LineFault → Type 0
-IsFaultOf schema bytes (fault.Code refusal) = line_of schema bytes ≡ Err refusal
-IsFaultOf schema bytes fault.Memory = IsOkAnd (line_of schema bytes) IsGrowth
+abbrev pub IsLineFaultOf : SchemaValue → List ℕ → LineFault → Type 0
+IsLineFaultOf schema bytes (fault.Code refusal) = line_of schema bytes ≡ Err refusal
+IsLineFaultOf schema bytes fault.Memory = IsOkAnd (line_of schema bytes) IsGrowth

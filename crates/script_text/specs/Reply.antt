@@ -16,7 +16,7 @@ use Rattle.script_text.specs.declared.reply.Answer.TheVariants.{Value, Quotient,
 use Rattle.script_text.specs.declared.reply.Reply.{Reply}
 use Rattle.script_text.specs.declared.reply.Reply.TheVariants.{Done, Refused, Told}
 use Rattle.script_text.specs.declared.word.ScriptWord.TheVariants.{Asks}
-use Rattle.script_text.specs.Decimals.{pool_fields, quotient_fields, value_fields}
+use Rattle.script_text.specs.Decimals.{bounds_fields, pool_fields, quotient_fields}
 use Rattle.script_text.specs.ScriptWord.{spelling_of}
 
 -- the denominator of a term and all its numerators, that of the count first
@@ -78,7 +78,7 @@ table_fields dims entries = decimal (length entries) ∷ flat_map (told_fields d
 
 -- the fields of an answer
 abbrev pub fields_of_answer : List Dimension → Answer → List (List ℕ)
-fields_of_answer dims (Value value) = value_fields value
+fields_of_answer dims (Value value) = bounds_fields value
 fields_of_answer dims (Quotient quotient) = quotient_fields quotient
 fields_of_answer dims (Quotients quotients) = pool_fields quotients
 fields_of_answer dims (Terms list) = terms_fields list.terms

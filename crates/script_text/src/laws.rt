@@ -17,7 +17,7 @@ ghost use Rattle.script_text.specs.declared.word.RegionWord.TheVariants.{Count, 
 ghost use Rattle.script_text.specs.declared.word.RoundsWord.TheVariants.{Iterate};
 ghost use Rattle.script_text.specs.declared.word.TableWord.TheVariants.{Counts};
 ghost use Rattle.script_text.specs.declared.word.ViewWord.TheVariants.{View};
-ghost use Rattle.script_text.specs.Decimals.{pool_fields, quotient_fields, quotient_of, units_in, units_text, value_fields};
+ghost use Rattle.script_text.specs.Decimals.{bounds_fields, pool_fields, quotient_fields, quotient_of, units_in, units_text};
 ghost use Rattle.script_text.specs.Examples.{counted, graded, line_with, weighed};
 ghost use Rattle.script_text.specs.Reply.{numbers_fields, picks_fields, rows_fields, table_fields, terms_fields, view_fields};
 ghost use Rattle.script_text.specs.ScriptLine.{line_of};
@@ -35,7 +35,7 @@ pub fn printed_bounds_read_back()
 
 /// A number is printed as the quotient that it is.
 pub fn values_print_as_quotients()
-    ensures { (value : Value) → quotient_fields (quotient_of value) ≡ value_fields value }
+    ensures { (value : Value) → quotient_fields (quotient_of value) ≡ bounds_fields value }
 {}
 
 /// Lines that are accepted. CR is 13.
@@ -131,12 +131,12 @@ pub fn worked_replies()
     ensures no_terms { terms_fields [] ≡ codes "0" ∷ [] }
     ensures terms { terms_fields (record { den = 1; count = 2; sums = pos 400 ∷ [] } ∷ record { den = 3; count = 2; sums = negsuc 1199 ∷ [] } ∷ [])
         ≡ codes "2" ∷ codes "1" ∷ codes "2" ∷ codes "400" ∷ codes "3" ∷ codes "2" ∷ codes "-1200" ∷ [] }
-    ensures fraction { value_fields (record { lo = pos 2666666666; hi = pos 2666666667; exact = Some (pos 8, 3) }) ≡ codes "2.666666666" ∷ codes "2.666666667" ∷ codes "8/3" ∷ [] }
-    ensures whole { value_fields (record { lo = pos 800000000000; hi = pos 800000000000; exact = Some (pos 800, 1) }) ≡ codes "800.000000000" ∷ codes "800.000000000" ∷ codes "800" ∷ [] }
-    ensures zero { value_fields (record { lo = pos 0; hi = pos 0; exact = Some (pos 0, 1) }) ≡ codes "0.000000000" ∷ codes "0.000000000" ∷ codes "0" ∷ [] }
-    ensures below_zero { value_fields (record { lo = negsuc 333333333; hi = negsuc 333333332; exact = Some (negsuc 0, 3) }) ≡ codes "-0.333333334" ∷ codes "-0.333333333" ∷ codes "-1/3" ∷ [] }
-    ensures whole_below_zero { value_fields (record { lo = negsuc 1999999999; hi = negsuc 1999999999; exact = Some (negsuc 1, 1) }) ≡ codes "-2.000000000" ∷ codes "-2.000000000" ∷ codes "-2" ∷ [] }
-    ensures wide { value_fields (record { lo = negsuc 0; hi = pos 1000000001; exact = None }) ≡ codes "-0.000000001" ∷ codes "1.000000001" ∷ codes "wide" ∷ [] }
+    ensures fraction { bounds_fields (record { lo = pos 2666666666; hi = pos 2666666667; exact = Some (pos 8, 3) }) ≡ codes "2.666666666" ∷ codes "2.666666667" ∷ codes "8/3" ∷ [] }
+    ensures whole { bounds_fields (record { lo = pos 800000000000; hi = pos 800000000000; exact = Some (pos 800, 1) }) ≡ codes "800.000000000" ∷ codes "800.000000000" ∷ codes "800" ∷ [] }
+    ensures zero { bounds_fields (record { lo = pos 0; hi = pos 0; exact = Some (pos 0, 1) }) ≡ codes "0.000000000" ∷ codes "0.000000000" ∷ codes "0" ∷ [] }
+    ensures below_zero { bounds_fields (record { lo = negsuc 333333333; hi = negsuc 333333332; exact = Some (negsuc 0, 3) }) ≡ codes "-0.333333334" ∷ codes "-0.333333333" ∷ codes "-1/3" ∷ [] }
+    ensures whole_below_zero { bounds_fields (record { lo = negsuc 1999999999; hi = negsuc 1999999999; exact = Some (negsuc 1, 1) }) ≡ codes "-2.000000000" ∷ codes "-2.000000000" ∷ codes "-2" ∷ [] }
+    ensures wide { bounds_fields (record { lo = negsuc 0; hi = pos 1000000001; exact = None }) ≡ codes "-0.000000001" ∷ codes "1.000000001" ∷ codes "wide" ∷ [] }
     ensures average { quotient_fields (Is (Some (pos 262500000000)) (Some (pos 262500000000)) (Some (pos 525, 2))) ≡ codes "262.500000000" ∷ codes "262.500000000" ∷ codes "525/2" ∷ [] }
     ensures no_bounds { quotient_fields (Is None None None) ≡ codes "-" ∷ codes "-" ∷ codes "wide" ∷ [] }
     ensures undefined { quotient_fields Undefined ≡ [] }

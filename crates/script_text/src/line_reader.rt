@@ -4,7 +4,7 @@ ghost use Rattle.std.specs.Str.{bytes_eq};
 ghost use Rattle.cube_base.specs.Name.{is_name};
 ghost use Rattle.text_lines.specs.LineText.{field_at};
 ghost use Rattle.text_lines.specs.Text.{fields_of};
-ghost use Rattle.script_text.specs.LineOf.{IsFaultOf, IsLineOf};
+ghost use Rattle.script_text.specs.LineOf.{IsLineFaultOf, IsLineOf};
 ghost use Rattle.script_text.specs.LineSteps.{IsReadOf};
 ghost use Rattle.script_text.specs.ScriptLine.{command_line, dim_given, field_count_of, growth_given, line_given, line_of, new_name_given, parent_given};
 ghost use Rattle.script_text.specs.ScriptWord.{word_spelled};
@@ -32,7 +32,7 @@ use text_lines::{FieldWalk, Fields, clean_text, field_count, is_long, is_skipped
 /// No other line takes memory.
 pub fn read_line(alloc: Global, schema: &Schema, line: &[u8]) -> Result<Line, LineFault>
     ensures line { IfOk result (λ read. line_of schema.now line.now ≡ Ok read) }
-    ensures refused { IfErr result (IsFaultOf schema.now line.now) }
+    ensures refused { IfErr result (IsLineFaultOf schema.now line.now) }
     ensures within { IfOk result (IsLineOf schema.now) }
 {
     read_over(alloc, schema, line)

@@ -2,7 +2,7 @@
 ghost use Rattle.std.specs.Prelude.{◌≡◌, ◌<◌, ◌∷◌, ◌++◌, OnOk, OnErr};
 ghost use Rattle.std.specs.Fmt.{sign_text};
 ghost use Rattle.exact_fraction.specs.Fraction.{UNIT};
-ghost use Rattle.script_text.specs.Decimals.{PLACES, bound_text, exact_text, fraction_text, last_digits, pool_fields, quotient_fields, size_text, units_text, value_fields};
+ghost use Rattle.script_text.specs.Decimals.{PLACES, bound_text, bounds_fields, exact_text, fraction_text, last_digits, pool_fields, quotient_fields, size_text, units_text};
 ghost use Rattle.script_text.specs.ReplySteps.{Keeps, fields_text};
 
 use crate::reply_fields::{append_field, append_signed};
@@ -15,7 +15,7 @@ const UNITS: u128 = 1_000_000_000;
 
 /// Appends the fields of a number: its bounds and its fraction.
 pub fn append_value(text: &mut Vec<u8>, value: &Value) -> Result<(), Memory>
-    ensures ok { OnOk result (text.new.items ≡ text.old.items ++ fields_text (value_fields value.now)) }
+    ensures ok { OnOk result (text.new.items ≡ text.old.items ++ fields_text (bounds_fields value.now)) }
     ensures err { OnErr result (Keeps text.old.items text.new.items) }
 {
     append_units(text, value.lo)?;

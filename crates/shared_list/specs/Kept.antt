@@ -11,7 +11,7 @@ items_of (Here items) = items
 items_of (There items) = vec_items (rc_value items)
 
 -- only several items are on storage
-abbrev pub IsKept : {A : Type 0} → Kept A → Type 0
-IsKept Nowhere = Unit {0}
-IsKept (Here item) = Unit {0}
-IsKept (There items) = 1 < length (vec_items (rc_value items))
+abbrev pub IsKeptList : {A : Type 0} → Kept A → Type 0
+IsKeptList Nowhere = Unit {0}
+IsKeptList (Here item) = Unit {0}
+IsKeptList (There items) = 1 < length (vec_items (rc_value items))

@@ -1,6 +1,6 @@
 //! A list over storage that its copies share, which contracts see as the list of its items.
 ghost use Rattle.std.specs.Prelude.{◌≡◌, ◌≤◌, [], ◌∷◌, ◌++◌, IfOk, IsOk, OnErr, OnOk, length};
-ghost use Rattle.shared_list.specs.Kept.{IsKept, items_of};
+ghost use Rattle.shared_list.specs.Kept.{IsKeptList, items_of};
 
 use cube_base::Memory;
 use std::alloc::Global;
@@ -31,13 +31,13 @@ pub type SharedPairs = SharedList<(u64, u64)>;
 
 impl<T> Model for SharedList<T> {
     ghost use Rattle.std.specs.Prelude.{List};
-    ghost use Rattle.shared_list.specs.Kept.{IsKept, items_of};
+    ghost use Rattle.shared_list.specs.Kept.{IsKeptList, items_of};
 
     ghost Value = { List T };
 
     ghost view = { λ l. items_of l.kept };
 
-    ghost invariant = { λ l. IsKept l.kept };
+    ghost invariant = { λ l. IsKeptList l.kept };
 }
 
 impl<T: Copy> SharedList<T> {
@@ -122,7 +122,7 @@ impl<T: Copy> SharedList<T> {
 /// Where the items and one more are kept apart from these.
 fn one_more<T: Copy>(alloc: Global, items: &[T], x: T) -> Result<Kept<T>, Memory>
     ensures items { IfOk result (λ kept. items_of kept ≡ items.now ++ x ∷ []) }
-    ensures kept { IfOk result (λ kept. IsKept kept) }
+    ensures kept { IfOk result (λ kept. IsKeptList kept) }
 {
     if items.is_empty() {
         return Ok(Kept::Here([x]));

@@ -7,12 +7,12 @@ use Rattle.std.proofs.lemmas.List.Folds.{list_any-append}
 use Rattle.std.specs.Cmp.{nat_eq_equiv}
 use Rattle.std.specs.List.{All, list_any}
 use Rattle.staged_map.specs.Lends.{Stays}
-use Rattle.staged_map.specs.Staged.{Places, Reserves, ReservesSome, Sets, has_place, place_of}
+use Rattle.staged_map.specs.Staged.{Places, Reserves, ReservesSome, Sets, has_place, key_place}
 
 module _ {V : Type 0} (old new : Places V) (key : ℕ) where
   -- a key that has a place gets a value
   pub Sets-written : (value : V) → has_place old key ≡ true
-      → ((k : ℕ) → place_of new k ≡ cond (eqb key k) (Some (Some value)) (place_of old k))
+      → ((k : ℕ) → key_place new k ≡ cond (eqb key k) (Some (Some value)) (key_place old k))
       → Sets old new key value
   Sets-written value there writes = record {
     values = λ k. grind (arith, common_steps, writes k);
@@ -20,14 +20,14 @@ module _ {V : Type 0} (old new : Places V) (key : ℕ) where
   }
 
   -- what is written at a key that has a place is its own value again, and all stays
-  pub Stays-written : (value : Option V) → place_of old key ≡ Some value
-      → ((k : ℕ) → place_of new k ≡ cond (eqb key k) (Some value) (place_of old k))
+  pub Stays-written : (value : Option V) → key_place old key ≡ Some value
+      → ((k : ℕ) → key_place new k ≡ cond (eqb key k) (Some value) (key_place old k))
       → Stays old new
   Stays-written value there writes k = grind (arith, common_steps, there, writes k)
 
   -- a key that has no place gets one
   pub Reserves-new : has_place old key ≡ false
-      → ((k : ℕ) → place_of new k ≡ cond (eqb key k) (Some None) (place_of old k))
+      → ((k : ℕ) → key_place new k ≡ cond (eqb key k) (Some None) (key_place old k))
       → Reserves old new (key ∷ [])
   Reserves-new absent writes = record {
     values = λ k. grind (arith, common_steps, absent, writes k);

@@ -6,13 +6,13 @@ use Rattle.std.proofs.lemmas.Map.Keys.{IsDistinct-cons, IsDistinct-head, IsDisti
 use Rattle.std.specs.List.{AllByRecursion, list_any}
 use Rattle.std.specs.Map.{keys_of}
 use Rattle.std.specs.Option.{option_map_or, option_or}
-use Rattle.staged_map.specs.Staged.{AreOfDifferentKeys, Entries, Places, PutsAll, Reserves, entry_of, has_place, have_places, value_at}
+use Rattle.staged_map.specs.Staged.{AreOfDifferentKeys, Entries, Places, PutsAll, Reserves, has_place, have_places, staged_entry, value_at}
 
 -- what is staged for a key, with one entry more behind the others
-pub entry_of-push : {V : Type 0} (entries : Entries V) (entry : ℕ × Option V) (k : ℕ)
-    → entry_of (entries ++ entry ∷ []) k ≡ option_or (entry_of entries k) (cond (eqb k entry.0) (Some entry.1) None)
-entry_of-push [] entry k = refl
-entry_of-push (first ∷ entries) entry k = grind (arith, common_steps, entry_of-push entries entry k)
+pub staged_entry-push : {V : Type 0} (entries : Entries V) (entry : ℕ × Option V) (k : ℕ)
+    → staged_entry (entries ++ entry ∷ []) k ≡ option_or (staged_entry entries k) (cond (eqb k entry.0) (Some entry.1) None)
+staged_entry-push [] entry k = refl
+staged_entry-push (first ∷ entries) entry k = grind (arith, common_steps, staged_entry-push entries entry k)
 
 -- a key that is apart from those of all entries is so from those before the last, and from the last
 apart-push : {V : Type 0} (k : ℕ) (entries : Entries V) (entry : ℕ × Option V)
@@ -56,8 +56,8 @@ have_places-last places (first ∷ entries) entry placed =
 pub record PutsLeft {V : Type 0} (old new : Places V) (entries left : Entries V) : Type 0 where
   pub distinct : AreOfDifferentKeys left
   pub placed : have_places new left ≡ true
-  pub values : (k : ℕ) → unwrap_or (entry_of left k) (value_at new k) ≡ unwrap_or (entry_of entries k) (value_at old k)
-  pub places : (k : ℕ) → option_map_or is_some (entry_of left k) (has_place new k) ≡ option_map_or is_some (entry_of entries k) (has_place old k)
+  pub values : (k : ℕ) → unwrap_or (staged_entry left k) (value_at new k) ≡ unwrap_or (staged_entry entries k) (value_at old k)
+  pub places : (k : ℕ) → option_map_or is_some (staged_entry left k) (has_place new k) ≡ option_map_or is_some (staged_entry entries k) (has_place old k)
 
 module _ {V : Type 0} (old between new : Places V) (entries all left : Entries V) (entry : ℕ × Option V) where
   -- the last of those that are left has a place
@@ -71,8 +71,8 @@ module _ {V : Type 0} (old between new : Places V) (entries all left : Entries V
   PutsLeft-next cut before puts = record {
     distinct = AreOfDifferentKeys-front left entry distinct;
     placed = have_places-front between new left entry distinct puts (sym (ap (have_places between) cut) ∙ before.placed);
-    values = λ k. grind (arith, common_steps, puts.values k, before.values k, entry_of-push left entry k, ap (λ es. entry_of es k) cut);
-    places = λ k. grind (arith, common_steps, puts.places k, before.places k, entry_of-push left entry k, ap (λ es. entry_of es k) cut);
+    values = λ k. grind (arith, common_steps, puts.values k, before.values k, staged_entry-push left entry k, ap (λ es. staged_entry es k) cut);
+    places = λ k. grind (arith, common_steps, puts.places k, before.places k, staged_entry-push left entry k, ap (λ es. staged_entry es k) cut);
   }
     where
       distinct : AreOfDifferentKeys (left ++ entry ∷ [])
@@ -107,11 +107,11 @@ module _ {V : Type 0} (value : ℕ → Option V) where
   keys_of-made (key ∷ keys) = ap (λ rest. key ∷ rest) (keys_of-made keys)
 
   -- and what is staged for one of these keys is what the rule says
-  pub entry_of-made : (keys : List ℕ) (k : ℕ) → entry_of (map (λ key. (key, value key)) keys) k ≡ cond (list_any (eqb k) keys) (Some (value k)) None
-  entry_of-made [] k = refl
-  entry_of-made (key ∷ keys) k = grind (arith, common_steps, nat_tests, entry_of-made keys k)
+  pub staged_entry-made : (keys : List ℕ) (k : ℕ) → staged_entry (map (λ key. (key, value key)) keys) k ≡ cond (list_any (eqb k) keys) (Some (value k)) None
+  staged_entry-made [] k = refl
+  staged_entry-made (key ∷ keys) k = grind (arith, common_steps, nat_tests, staged_entry-made keys k)
 
   -- putting them gives each of the keys what the rule says
   pub PutsAll-made : (old new : Places V) (keys : List ℕ) → PutsAll old new (map (λ key. (key, value key)) keys) → (k : ℕ)
       → value_at new k ≡ cond (list_any (eqb k) keys) (value k) (value_at old k)
-  PutsAll-made old new keys puts k = grind (arith, common_steps, puts.values k, entry_of-made keys k)
+  PutsAll-made old new keys puts k = grind (arith, common_steps, puts.values k, staged_entry-made keys k)

@@ -6,7 +6,7 @@ use Rattle.std.proofs.lemmas.Map.Keys.{IsDistinct-cons, IsDistinct-head, IsDisti
 use Rattle.std.specs.List.{AllByRecursion, IsDistinct, cons_option, filter_map, slice_get}
 use Rattle.std.specs.Map.{keys_of, lookup}
 use Rattle.std.specs.Option.{option_and_then, option_to_list}
-use Rattle.staged_map.specs.Staged.{Places, held, held_of, place_of, value_at}
+use Rattle.staged_map.specs.Staged.{Places, held, held_of, key_place, value_at}
 
 module _ {X Y : Type 0} (h : X → Option Y) where
   -- what one element more adds to those that a rule picks
@@ -47,7 +47,7 @@ IsDistinct-held ((k, Some value) ∷ places) distinct =
     (IsDistinct-held places (IsDistinct-tail eqb k (keys_of places) distinct))
 
 -- a key that is apart from those of all places has no value
-value_at-apart : {V : Type 0} (key : ℕ) (places : Places V) → AllByRecursion (λ k. eqb key k ≡ false) (keys_of places) → place_of places key ≡ None
+value_at-apart : {V : Type 0} (key : ℕ) (places : Places V) → AllByRecursion (λ k. eqb key k ≡ false) (keys_of places) → key_place places key ≡ None
 value_at-apart key [] apart = refl
 value_at-apart key (place ∷ places) apart = grind (arith, common_steps, apart.0, value_at-apart key places apart.1)
 
@@ -57,5 +57,5 @@ lookup-held [] key distinct = refl
 lookup-held ((k, Some value) ∷ places) key distinct =
     grind (arith, common_steps, lookup-held places key (IsDistinct-tail eqb k (keys_of places) distinct))
 lookup-held ((k, None) ∷ places) key distinct =
-    let gone : place_of places k ≡ None = value_at-apart k places (IsDistinct-head eqb k (keys_of places) distinct) in
+    let gone : key_place places k ≡ None = value_at-apart k places (IsDistinct-head eqb k (keys_of places) distinct) in
     grind (arith, common_steps, nat_tests, gone, lookup-held places key (IsDistinct-tail eqb k (keys_of places) distinct))

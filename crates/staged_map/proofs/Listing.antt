@@ -10,7 +10,7 @@ use Rattle.std.specs.List.Sorted.{IsPermutation, IsSorted}
 use Rattle.std.specs.Map.{keys_of}
 use Rattle.std.specs.Option.{option_flatten}
 use Rattle.std.specs.Ordering.{nat_cmp}
-use Rattle.staged_map.specs.Staged.{AreKeys, Places, place_of, value_at}
+use Rattle.staged_map.specs.Staged.{AreKeys, Places, key_place, value_at}
 
 -- what is left of a place that must hold a value is its value
 is_some-option_filter : {V : Type 0} (place : Option (Option V)) → is_some (option_filter is_some place) ≡ is_some (option_flatten place)
@@ -38,4 +38,4 @@ AreKeys-sorted {V} places unsorted sorted distinct are moved rising = record {
         ∙ ap (list_any (eqb k)) are
         ∙ sym (is_some-lookup (eqb k) (filter (λ place. is_some place.1) places))
         ∙ ap is_some (lookup-filter-values nat_eq_equiv is_some k places distinct)
-        ∙ is_some-option_filter (place_of places k)
+        ∙ is_some-option_filter (key_place places k)

@@ -2,12 +2,12 @@
 use Rattle.std.specs.Prelude.{◌≡◌, ℕ, Option}
 use Rattle.std.specs.Option.{OnSome}
 use Rattle.std.specs.Borrow.{Fml, RattleType, MutBor, LendsSo}
-use Rattle.staged_map.specs.Staged.{Places, Sets, place_of}
+use Rattle.staged_map.specs.Staged.{Places, Sets, key_place}
 use Rattle.staged_map.specs.contracts.staged.Staged.{the_row}
 
 -- all keys have the places and the values that they had
 abbrev pub Stays : {V : Type 0} → Places V → Places V → Type 0
-Stays old new = (k : ℕ) → place_of new k ≡ place_of old k
+Stays old new = (k : ℕ) → key_place new k ≡ key_place old k
 
 -- the key has the last value written through r, and every other key what it had; at `None` all keys have what they had
 abbrev pub lends_value : (V : RattleType) → MutBor (Places V.Denot) → ℕ → Option (MutBor V.Denot) → Fml

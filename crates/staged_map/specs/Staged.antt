@@ -10,16 +10,16 @@ abbrev pub Places : Type 0 → Type 0
 Places V = List (ℕ × Option V)
 
 -- the place of a key, if it has one: what it holds is the key's value, if it has one
-abbrev pub place_of : {V : Type 0} → Places V → ℕ → Option (Option V)
-place_of places key = lookup (λ k. key == k) places
+abbrev pub key_place : {V : Type 0} → Places V → ℕ → Option (Option V)
+key_place places key = lookup (λ k. key == k) places
 
 -- the value at a key
 abbrev pub value_at : {V : Type 0} → Places V → ℕ → Option V
-value_at places key = option_flatten (place_of places key)
+value_at places key = option_flatten (key_place places key)
 
 -- the key has a place
 abbrev pub has_place : {V : Type 0} → Places V → ℕ → Bool
-has_place places key = is_some (place_of places key)
+has_place places key = is_some (key_place places key)
 
 -- the key and the value of a place, if it has one
 abbrev pub held_of : {V : Type 0} → ℕ × Option V → Option (ℕ × V)
@@ -64,8 +64,8 @@ abbrev pub Entries : Type 0 → Type 0
 Entries V = List (ℕ × Option V)
 
 -- what is staged for a key, if something is
-abbrev pub entry_of : {V : Type 0} → Entries V → ℕ → Option (Option V)
-entry_of entries key = lookup (λ k. key == k) entries
+abbrev pub staged_entry : {V : Type 0} → Entries V → ℕ → Option (Option V)
+staged_entry entries key = lookup (λ k. key == k) entries
 
 -- no key is staged twice
 abbrev pub AreOfDifferentKeys : {V : Type 0} → Entries V → Type 0
@@ -78,5 +78,5 @@ have_places places entries = list_all (λ entry. not (is_some entry.1) || has_pl
 -- Each key that has an entry has what the entry says, and every other key what it had. A key that has an entry has a
 -- place exactly where it has a value.
 pub record PutsAll {V : Type 0} (old new : Places V) (entries : Entries V) : Type 0 where
-  pub values : (k : ℕ) → value_at new k ≡ unwrap_or (entry_of entries k) (value_at old k)
-  pub places : (k : ℕ) → has_place new k ≡ option_map_or is_some (entry_of entries k) (has_place old k)
+  pub values : (k : ℕ) → value_at new k ≡ unwrap_or (staged_entry entries k) (value_at old k)
+  pub places : (k : ℕ) → has_place new k ≡ option_map_or is_some (staged_entry entries k) (has_place old k)

@@ -5,7 +5,7 @@ use Rattle.cube_model.specs.declared.edit.Fact.{Fact}
 use Rattle.cube_model.specs.Allocation.{extended, row_count}
 use Rattle.cube_model.specs.Limits.{MAX_ROWS}
 use Rattle.fact_keeper.specs.Batch.{apply_batch, empty_content, fact_id, rows_id, updated}
-use Rattle.fact_keeper.specs.Order.{IsAscending}
+use Rattle.fact_keeper.specs.Order.{AscendsBy}
 use Rattle.fact_keeper.proofs.Found.{entry_of}
 use Rattle.fact_records.specs.Valid.{AreValid}
 use Rattle.schema_text.specs.Schema.{SchemaValue, policy_of, shape_of}
@@ -18,7 +18,7 @@ use Rattle.store_law.proofs.Told.{holds-these}
 use Rattle.store_law.proofs.Updated.{updated-is}
 
 -- entries that ascend, put where there are none
-all-put : {X : Type 0} (id_of : X → ℕ) (new : List X) → IsAscending id_of new → updated id_of [] new [] ≡ new
+all-put : {X : Type 0} (id_of : X → ℕ) (new : List X) → AscendsBy id_of new → updated id_of [] new [] ≡ new
 all-put id_of new up = updated-is id_of [] new [] new up (λ i j d before within. absurd (omega (arith, within))) up (λ n. alone (entry_of id_of n new))
   where
     alone : {X : Type 0} (found : Option X) → option_or found None ≡ found

@@ -28,7 +28,7 @@ use Rattle.cube_cli.specs.declared.end.End.TheVariants.{Finished, Usage, Schema,
 use Rattle.cube_cli.specs.Command.{asked_line, command_of}
 use Rattle.cube_cli.specs.Doing.{Fits, LineWork, OneWork, ask_work, base_in, feed_lines, file_work, follow_work, import_work, init_work, lead_work, mending_work, rebuild_work, refused_schema, run_work, text_work}
 use Rattle.cube_cli.specs.End.{DidKeep, FitsAt, Leaves, MeansAsNeeded, MeansAtOnce, MeansByLines, Says, SaysAsked, SaysOf, StoppedFirst}
-use Rattle.cube_cli.specs.Files.{IsAccepted, import_batch, mending_batches, refused_file, refused_over, rows_with}
+use Rattle.cube_cli.specs.Files.{IsAccepted, import_batch, mending_batches, refused_file, refused_over, row_count_with_file}
 use Rattle.cube_cli.specs.SchemaAlone.{schema_alone}
 use Rattle.cube_cli.specs.Seen.{Holds, IsUntouched}
 use Rattle.cube_cli.specs.Store.{IsEmptyOrSound, IsMendableContent, IsMendableOver, IsSoundContent, IsSoundOver, batches_over, policy_of, schema_batch}
@@ -48,9 +48,9 @@ not-refused None rows none = (refl, by (nat_lt MAX_ROWS rows) refl none)
     by true is none = absurd (cc none)
     by false is none = ltb-false MAX_ROWS rows is
 
-accepted-file : (policy : Policy) (schema : SchemaValue) (facts : List Fact) (file : List ℕ) → refused_file (refused_over schema facts file) (rows_with policy schema facts file) ≡ None → IsAccepted policy schema facts file
+accepted-file : (policy : Policy) (schema : SchemaValue) (facts : List Fact) (file : List ℕ) → refused_file (refused_over schema facts file) (row_count_with_file policy schema facts file) ≡ None → IsAccepted policy schema facts file
 accepted-file policy schema facts file none =
-    let is = not-refused (refused_over schema facts file) (rows_with policy schema facts file) none in
+    let is = not-refused (refused_over schema facts file) (row_count_with_file policy schema facts file) none in
     record { accepted = is.0; few = is.1 }
 
 -- The rows of a content that are put right, over its schema: nothing is kept where they are right, and else the batch that makes it sound.

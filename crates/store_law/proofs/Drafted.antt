@@ -21,13 +21,13 @@ use Rattle.schema_text.specs.declared.word.PolicyWord.TheVariants as policy_word
 use Rattle.schema_text.specs.declared.word.SchemaWord.{SchemaWord}
 use Rattle.schema_text.specs.declared.word.SchemaWord.TheVariants.{End}
 use Rattle.schema_text.specs.Draft.{IsDraft, end_fault, front_fault, word_in}
-use Rattle.schema_text.specs.Schema.{AreViews, IsSchema, SchemaValue, weight_of}
-use Rattle.schema_text.specs.SchemaText.{BadLine, Draft, ReadLines, ReadSchema, blank_draft, dims_of, ended, has_wrong_count, is_end, line_fault, may_follow, number_measure_named, policy_among, read_from, schema_of, schema_of_draft, sized, with_line, word_conditions, word_fault}
+use Rattle.schema_text.specs.Schema.{AreViews, IsSchema, SchemaValue, weighing_measure}
+use Rattle.schema_text.specs.SchemaText.{BadLine, Draft, ReadLines, ReadSchema, blank_draft, dims_of, draft_line_fault, ended, has_wrong_count, is_end, may_follow, number_measure_named, policy_among, read_from, schema_of, schema_of_draft, sized, with_line, word_conditions, word_fault}
 use Rattle.schema_text.proofs.Drafts.{before-End}
 use Rattle.schema_text.proofs.DraftSteps.{IsDraft-word}
-use Rattle.schema_text.proofs.Ends.{line_fault-end}
+use Rattle.schema_text.proofs.Ends.{draft_line_fault-end}
 use Rattle.schema_text.proofs.LineFaults.{end-one_field, other_word}
-use Rattle.schema_text.proofs.LineWords.{HasWord, HasWord-in, line_fault-none, line_fault-word, with_line-word}
+use Rattle.schema_text.proofs.LineWords.{HasWord, HasWord-in, draft_line_fault-none, draft_line_fault-word, with_line-word}
 use Rattle.schema_text.proofs.NodesMore.{AreNodes-none}
 use Rattle.schema_text.proofs.Policies.{IsWeighable-named}
 use Rattle.schema_text.proofs.ViewsMore.{AreViews-none}
@@ -50,12 +50,12 @@ whole draft none = either (may_follow draft.last End) refl (front_fault draft) (
     either true ends_is None false many_is false wide_is front_is none = record { ends = ends_is; cells = grind (arith, nat_tests, many_is); regions = grind (arith, nat_tests, wide_is) }
 
 -- the measure by whose sum cells weigh is one of numbers
-weighable : (measures : List Measure) (named : NamedPolicy) → IsWeighable measures (weight_of (unwrap_or (policy_among measures named) policy_word.Uniform))
+weighable : (measures : List Measure) (named : NamedPolicy) → IsWeighable measures (weighing_measure (unwrap_or (policy_among measures named) policy_word.Uniform))
 weighable measures policy.Uniform = tt
 weighable measures policy.Count = tt
 weighable measures (policy.Weight name) = by_place (number_measure_named measures name) refl
   where
-    by_place : (found : Option ℕ) → number_measure_named measures name ≡ found → IsWeighable measures (weight_of (unwrap_or (option_map (λ i. policy_word.Weight i) found) policy_word.Uniform))
+    by_place : (found : Option ℕ) → number_measure_named measures name ≡ found → IsWeighable measures (weighing_measure (unwrap_or (option_map (λ i. policy_word.Weight i) found) policy_word.Uniform))
     by_place None is = tt
     by_place (Some i) is = IsWeighable-named measures name i is
 
@@ -84,17 +84,17 @@ first-fails false rest none = refl
 right-count : (draft : Draft) (fields : List (List ℕ)) (word : SchemaWord) → word_fault draft fields word ≡ None → has_wrong_count draft.version (length draft.names) fields word ≡ false
 right-count draft fields word none = first-fails (has_wrong_count draft.version (length draft.names) fields word) (drop 1 (word_conditions draft fields word)) none
 
-IsDraft-line : (draft : Draft) (line : List ℕ) → IsDraft draft → line_fault draft line ≡ None → is_end line ≡ false → IsDraft (with_line draft line)
+IsDraft-line : (draft : Draft) (line : List ℕ) → IsDraft draft → draft_line_fault draft line ≡ None → is_end line ≡ false → IsDraft (with_line draft line)
 IsDraft-line draft line known accepted other = by_word (word_in draft.last line) refl
   where
     by_word : (found : Result SchemaWord Code) → word_in draft.last line ≡ found → IsDraft (with_line draft line)
     by_word (Err reason) is =
-        let refused = line_fault-none draft line reason is in
+        let refused = draft_line_fault-none draft line reason is in
         cc
     by_word (Ok word) is =
         let its : HasWord draft.last line word = HasWord-in draft.last line word is in
         let fields = fields_of (without_cr line) in
-        let judged : word_fault draft fields word ≡ None = sym (line_fault-word draft line word its) ∙ accepted in
+        let judged : word_fault draft fields word ≡ None = sym (draft_line_fault-word draft line word its) ∙ accepted in
         let count : has_wrong_count draft.version (length draft.names) fields word ≡ false = right-count draft fields word judged in
         let goes_on : word ≢ End = other_word draft.version (length draft.names) fields word count (λ ends. end-one_field line other (its.named ∙ ap (λ w. Some w) ends)) in
         subst IsDraft (sym (with_line-word draft line word its)) (IsDraft-word draft fields word known its.follows goes_on judged)
@@ -106,7 +106,7 @@ record IsReadAs (schema : SchemaValue) : Type 0 where
   accepted : end_fault draft ≡ None
   same : schema_of_draft draft ≡ schema
 
-by_line : (draft : Draft) (k : ℕ) (line : List ℕ) (lines : List (List ℕ)) (read : ReadLines) (skipped : Bool) (fault : Option Code) (ends : Bool) → line_fault draft line ≡ fault → is_end line ≡ ends → IsDraft draft
+by_line : (draft : Draft) (k : ℕ) (line : List ℕ) (lines : List (List ℕ)) (read : ReadLines) (skipped : Bool) (fault : Option Code) (ends : Bool) → draft_line_fault draft line ≡ fault → is_end line ≡ ends → IsDraft draft
     → (read_from draft (k + 1) lines ≡ Ok read → IsReadAs read.schema)
     → (IsDraft (with_line draft line) → read_from (with_line draft line) (k + 1) lines ≡ Ok read → IsReadAs read.schema)
     → (if skipped then read_from draft (k + 1) lines
@@ -118,13 +118,13 @@ by_line draft k line lines read false (Some why) ends fault_is ends_is known ski
 by_line draft k line lines read false None true fault_is ends_is known skip more e =
     let made : ReadLines = record { schema = schema_of_draft draft; lines = k + 1 } in
     let same : made ≡ read = cc in
-    record { draft = draft; known = known; accepted = sym (line_fault-end draft line ends_is) ∙ fault_is; same = ap (λ (r : ReadLines). r.schema) same }
+    record { draft = draft; known = known; accepted = sym (draft_line_fault-end draft line ends_is) ∙ fault_is; same = ap (λ (r : ReadLines). r.schema) same }
 by_line draft k line lines read false None false fault_is ends_is known skip more e = more (IsDraft-line draft line known fault_is ends_is) e
 
 read_from-draft : (draft : Draft) (k : ℕ) (lines : List (List ℕ)) (read : ReadLines) → IsDraft draft → read_from draft k lines ≡ Ok read → IsReadAs read.schema
 read_from-draft draft k [] read known e = cc
 read_from-draft draft k (line ∷ lines) read known e =
-    by_line draft k line lines read (is_skipped line) (line_fault draft line) (is_end line) refl refl known
+    by_line draft k line lines read (is_skipped line) (draft_line_fault draft line) (is_end line) refl refl known
     (λ e. read_from-draft draft (k + 1) lines read known e) (λ next e. read_from-draft (with_line draft line) (k + 1) lines read next e) e
 
 IsDraft-blank : IsDraft blank_draft

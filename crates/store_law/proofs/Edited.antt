@@ -13,7 +13,7 @@ use Rattle.fact_groups.specs.Edits.{edited_id, given}
 use Rattle.fact_groups.proofs.Edits.{find-after, pairs-after}
 use Rattle.fact_keeper.specs.declared.content.Stored.{Stored}
 use Rattle.fact_keeper.specs.Batch.{apply_batch, fact_id, rows_id, updated}
-use Rattle.fact_keeper.specs.Order.{IsAscending}
+use Rattle.fact_keeper.specs.Order.{AscendsBy}
 use Rattle.fact_keeper.proofs.Found.{entry_of}
 use Rattle.fact_records.specs.FactList.{fact_of}
 use Rattle.fact_records.specs.Judge.{judge}
@@ -72,7 +72,7 @@ module _ (edit : Edit) (facts : List Fact) (n : ℕ) where
       by_edit (Withdraw id) so = by_id id (id == n) refl so
 
 -- the kept facts after it
-given-ascends : (o : Option Fact) → IsAscending fact_id (map kept_fact (option_to_list o))
+given-ascends : (o : Option Fact) → AscendsBy fact_id (map kept_fact (option_to_list o))
 given-ascends None = λ i j d before within. absurd (omega (arith, within))
 given-ascends (Some fact) = λ i j d before within. absurd (omega (arith, before, within))
 

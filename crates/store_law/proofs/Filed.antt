@@ -19,7 +19,7 @@ use Rattle.fact_records.specs.Fields.{cols_given, fact_given, fact_with, id_give
 use Rattle.fact_records.specs.Shape.{ShapeValue}
 use Rattle.fact_records.specs.Valid.{IsPlaced}
 use Rattle.schema_text.specs.Schema.{SchemaValue, shape_of}
-use Rattle.csv_facts.specs.FactFile.{facts_from, facts_in, facts_with, header_of, is_header, record_given}
+use Rattle.csv_facts.specs.FactFile.{facts_from, facts_in, header_of, is_header, record_given, seq_with}
 use Rattle.store_law.proofs.ReadIds.{fact_given-id}
 
 -- a node of a name is one of the dimension, and nodes of names are a region
@@ -81,7 +81,7 @@ module _ (schema : SchemaValue) (trees : All IsTree schema.dims) where
   records-placed index (row ∷ rows) = by_record (record_given schema row) refl (records-placed (index + 1) rows)
     where
       by_record : (given : Result Fact Code) → record_given schema row ≡ given → All (IsPlaced schema.dims) (facts_from schema (index + 1) rows).facts
-          → All (IsPlaced schema.dims) (facts_with index given (facts_from schema (index + 1) rows)).facts
+          → All (IsPlaced schema.dims) (seq_with index given (facts_from schema (index + 1) rows)).facts
       by_record (Err why) is rest = All-nil (IsPlaced schema.dims)
       by_record (Ok fact) is rest = All-cons (IsPlaced schema.dims) fact (facts_from schema (index + 1) rows).facts (record-placed row fact is) rest
 

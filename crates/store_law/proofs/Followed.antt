@@ -31,7 +31,7 @@ use Rattle.row_feed.specs.declared.feed_line.FeedLine.TheVariants as feed
 use Rattle.row_feed.specs.FeedLine.{feed_line_of}
 use Rattle.row_feed.specs.FeedText.{feed_bytes}
 use Rattle.schema_text.specs.Growth.{dims_with}
-use Rattle.schema_text.specs.Schema.{IsSchema, SchemaValue, policy_in, policy_of, shape_of, weigh_of}
+use Rattle.schema_text.specs.Schema.{IsSchema, SchemaValue, policy_of, schema_policy, shape_of, weigh_of}
 use Rattle.schema_text.specs.SchemaText.{schema_text}
 use Rattle.script_run.specs.Kept.{apply_all, batches_of}
 use Rattle.script_run.specs.Run.{State, schema_at}
@@ -122,14 +122,14 @@ same-facts (fact ∷ facts) (other ∷ others) none = by_first (are_same fact ot
 
 -- what is said commits one batch at most
 one-batch : (weigh : CellStat → ℕ) (schema : SchemaValue) (state : State) (said : Line) (batch : Batch) (rest : List Batch) → batches_of weigh schema state said ≡ batch ∷ rest → rest ≡ []
-one-batch weigh schema state (line.Edit edit) batch rest e = either (is_none (judge (policy_in weigh schema) (shape_of schema) state.dims edit state.facts)) e
+one-batch weigh schema state (line.Edit edit) batch rest e = either (is_none (judge (schema_policy weigh schema) (shape_of schema) state.dims edit state.facts)) e
   where
-    either : (b : Bool) → (if b then difference (policy_in weigh schema) state.dims edit state.facts ∷ [] else []) ≡ batch ∷ rest → rest ≡ []
+    either : (b : Bool) → (if b then difference (schema_policy weigh schema) state.dims edit state.facts ∷ [] else []) ≡ batch ∷ rest → rest ≡ []
     either true e = cc
     either false e = cc
-one-batch weigh schema state (line.Grow grow) batch rest e = either (is_none (judge_growth (policy_in weigh schema) state.dims state.facts grow)) e
+one-batch weigh schema state (line.Grow grow) batch rest e = either (is_none (judge_growth (schema_policy weigh schema) state.dims state.facts grow)) e
   where
-    either : (b : Bool) → (if b then growth_difference (policy_in weigh schema) (schema_at schema state) (dims_with grow state.dims) state.facts ∷ [] else []) ≡ batch ∷ rest → rest ≡ []
+    either : (b : Bool) → (if b then growth_difference (schema_policy weigh schema) (schema_at schema state) (dims_with grow state.dims) state.facts ∷ [] else []) ≡ batch ∷ rest → rest ≡ []
     either true e = cc
     either false e = cc
 one-batch weigh schema state line.Nothing batch rest e = cc

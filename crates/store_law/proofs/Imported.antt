@@ -28,7 +28,7 @@ use Rattle.edit_plan.specs.Whole.{difference_with}
 use Rattle.cube_state.proofs.Accepting.{AreValid-new}
 use Rattle.stored_state.specs.Sound.{IsSound, facts_told}
 use Rattle.csv_facts.specs.RecordList.{records_of}
-use Rattle.cube_cli.specs.Files.{IsAccepted, facts_with, import_batch, seq_of}
+use Rattle.cube_cli.specs.Files.{IsAccepted, facts_with_file, import_batch, seq_of}
 use Rattle.cube_cli.specs.Store.{IsSoundOver, policy_of}
 use Rattle.cube_cli.proofs.KeptFacts.{pairs-map}
 use Rattle.store_law.specs.Holds.{HoldsState}
@@ -104,7 +104,7 @@ first-none None bad none = refl
 first-none (Some record_at) bad none = cc
 
 pub file-holds : (schema : SchemaValue) (content : Stored) (file : List ℕ) → IsSchema schema → IsSoundOver schema content → IsAccepted (policy_of schema) schema (facts_told content) file
-    → HoldsState (policy_of schema) (shape_of schema) schema.dims (facts_with schema (facts_told content) file) (apply_batch (import_batch (policy_of schema) schema (facts_told content) file) content)
+    → HoldsState (policy_of schema) (shape_of schema) schema.dims (facts_with_file schema (facts_told content) file) (apply_batch (import_batch (policy_of schema) schema (facts_told content) file) content)
 file-holds schema content file is sound accepted =
     let seq = seq_of schema file in
     imported-holds (policy_of schema) (shape_of schema) schema.dims content seq.facts sound (facts-placed schema is.trees (records_of file))

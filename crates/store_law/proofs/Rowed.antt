@@ -10,7 +10,7 @@ use Rattle.cube_model.specs.Cells.{is_among}
 use Rattle.cube_model.specs.Tree.{Dimension}
 use Rattle.fact_keeper.specs.declared.content.KeptRows.{KeptRows}
 use Rattle.fact_keeper.specs.Batch.{rows_id, updated}
-use Rattle.fact_keeper.specs.Order.{IsAscending}
+use Rattle.fact_keeper.specs.Order.{AscendsBy}
 use Rattle.fact_keeper.proofs.Found.{entry_of}
 use Rattle.fact_records.specs.FactList.{fact_of}
 use Rattle.edit_plan.specs.Plan.{kept_rows}
@@ -52,10 +52,10 @@ module _ (policy : Policy) (dims : List Dimension) (facts : List Fact) where
     unfolding extended
     whole-ascends = pairs-map whole (λ (e : ExtendedFact). e.id) facts up
 
-    pub rows-ascend : IsAscending rows_id (map kept_rows (extended policy dims facts))
+    pub rows-ascend : AscendsBy rows_id (map kept_rows (extended policy dims facts))
     rows-ascend = pairs-map kept_rows rows_id (extended policy dims facts) whole-ascends
 
-    pub among-ascend : (ids : List ℕ) → IsAscending rows_id (map kept_rows (filter (λ e. is_among ids e.id) (extended policy dims facts)))
+    pub among-ascend : (ids : List ℕ) → AscendsBy rows_id (map kept_rows (filter (λ e. is_among ids e.id) (extended policy dims facts)))
     among-ascend ids =
         pairs-map kept_rows rows_id (filter (λ e. is_among ids e.id) (extended policy dims facts)) (AllPairs-filter (λ (d e : ExtendedFact). d.id < e.id) (λ e. is_among ids e.id) (extended policy dims facts) whole-ascends)
 

@@ -26,7 +26,7 @@ use Rattle.stored_state.specs.Sound.{facts_told}
 use Rattle.stored_state.specs.declared.finding.Finding.{Finding}
 use Rattle.stored_state.proofs.Once.{sound-none}
 use Rattle.schema_text.specs.Growth.{dims_with}
-use Rattle.schema_text.specs.Schema.{IsSchema, SchemaValue, policy_in, shape_of, weigh_of}
+use Rattle.schema_text.specs.Schema.{IsSchema, SchemaValue, schema_policy, shape_of, weigh_of}
 use Rattle.schema_text.specs.SchemaText.{BadLine}
 use Rattle.script_text.specs.declared.line.Line.{Line}
 use Rattle.script_text.specs.declared.line.Line.TheVariants as line
@@ -36,7 +36,7 @@ use Rattle.script_text.specs.ScriptLine.{command_line, line_of}
 use Rattle.script_text.proofs.NamedRegions.{OnFact, command_line-lies, line_of-lies}
 use Rattle.cube_core.specs.Growth.{growth_difference, judge_growth}
 use Rattle.script_run.specs.Kept.{apply_all, batches, batches_at, batches_from, batches_of}
-use Rattle.script_run.specs.Run.{State, accepted, edited, grown, growth, replied, run, schema_at, step, step_from, step_of}
+use Rattle.script_run.specs.Run.{State, accepted, edit_step, growth, growth_step, replied, run, schema_at, step, step_from, step_of}
 use Rattle.cube_cli.specs.SchemaAlone.{schema_alone}
 use Rattle.cube_cli.specs.Store.{Finds, FindsBy, IsSoundContent, IsSoundOver, state_over, policy_of}
 use Rattle.cube_cli.proofs.Growths.{IsLeafOf, command_line-leaf, line_of-leaf}
@@ -61,7 +61,7 @@ module _ (schema : SchemaValue) where
   weigh = weigh_of schema.policy
 
   abbrev pub policy : Policy
-  policy = policy_in weigh schema
+  policy = schema_policy weigh schema
 
   -- A content is the one of a state: its text is a schema over the dimensions of the state, and it holds the facts.
   pub record IsKeptAt (state : State) (content : Stored) : Type 0 where
@@ -70,7 +70,7 @@ module _ (schema : SchemaValue) where
     pub holds : HoldsState policy (shape_of schema) state.dims state.facts content
 
   edit-kept : (state : State) (content : Stored) (edit : Edit) → IsKeptAt state content → IsId (edited_id edit) → OnFact (λ fact. IsRegion state.dims fact.region) (line.Edit edit)
-      → IsKeptAt (edited weigh schema state edit).state (apply_all (batches_of weigh schema state (line.Edit edit)) content)
+      → IsKeptAt (edit_step weigh schema state edit).state (apply_all (batches_of weigh schema state (line.Edit edit)) content)
   edit-kept state content edit kept id region = by_judge (judge policy (shape_of schema) state.dims edit state.facts) refl
     where
       holds : (facts : List Fact) → facts_told content ≡ facts → judge policy (shape_of schema) state.dims edit facts ≡ None
@@ -101,7 +101,7 @@ module _ (schema : SchemaValue) where
           (ap (λ (fs : List Fact). judge_growth policy state.dims fs grow) told ∙ none))
 
       by_judge : (refusal : Option Code) → judge_growth policy state.dims state.facts grow ≡ refusal
-          → IsKeptAt (option_map_or (λ refusal. replied state (reply.Refused refusal)) refusal (grown weigh schema state grow)).state
+          → IsKeptAt (option_map_or (λ refusal. replied state (reply.Refused refusal)) refusal (growth_step weigh schema state grow)).state
           (apply_all (if is_none refusal then growth_difference policy (schema_at schema state) (dims_with grow state.dims) state.facts ∷ [] else []) content)
       by_judge (Some refusal) is = kept
       by_judge None is =

@@ -5,7 +5,7 @@ use Rattle.std.specs.List.{list_any}
 use Rattle.std.specs.Option.{option_map, option_or}
 use Rattle.std.proofs.lemmas.Bool.Decides.{nat_tests}
 use Rattle.fact_keeper.specs.Batch.{updated}
-use Rattle.fact_keeper.specs.Order.{IsAscending}
+use Rattle.fact_keeper.specs.Order.{AscendsBy}
 use Rattle.fact_keeper.proofs.Found.{entry_of, entry_of-updated, same_from_entries, updated-ascends}
 
 -- an entry of what is made of items
@@ -41,7 +41,7 @@ module _ {X : Type 0} (id_of : X → ℕ) where
       either false false is passes rest = rw (passes, is) rest
 
   -- the entries after a batch are those of which each id has the new one, else the old one unless it is gone
-  pub updated-is : (gone : List ℕ) (new old later : List X) → IsAscending id_of new → IsAscending id_of old → IsAscending id_of later
+  pub updated-is : (gone : List ℕ) (new old later : List X) → AscendsBy id_of new → AscendsBy id_of old → AscendsBy id_of later
       → ((n : ℕ) → option_or (entry_of id_of n new) (cond (list_any (λ g. g == n) gone) None (entry_of id_of n old)) ≡ entry_of id_of n later) → updated id_of gone new old ≡ later
   updated-is gone new old later new_up up later_up each =
       same_from_entries id_of (updated id_of gone new old) later (updated-ascends id_of gone new old up) later_up (λ n. entry_of-updated id_of n gone new old new_up ∙ each n)

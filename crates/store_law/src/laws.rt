@@ -2,7 +2,7 @@
 ghost use Rattle.std.specs.Prelude.{◌≡◌, ◌≤◌, [], ℕ, All, List, IfSome, IsOkAnd, IsSome, None, Ok, Some, true};
 ghost use Rattle.cube_base.specs.Name.{is_name};
 ghost use Rattle.cube_cli.specs.End.{Says, SaysOf};
-ghost use Rattle.cube_cli.specs.Files.{IsAccepted, facts_with, import_batch};
+ghost use Rattle.cube_cli.specs.Files.{IsAccepted, facts_with_file, import_batch};
 ghost use Rattle.cube_cli.specs.SchemaAlone.{schema_alone};
 ghost use Rattle.cube_cli.specs.Seen.{Holds};
 ghost use Rattle.cube_cli.specs.Store.{Finds, IsSoundContent, IsSoundOver, policy_of, schema_batch, state_over};
@@ -70,7 +70,7 @@ pub fn imports_keep_stores_sound()
         → HoldsState policy shape dims (put_all new (facts_told content)) (apply_batch (difference_with policy dims new (facts_told content)) content) }
     ensures file { (schema : SchemaValue) (content : Stored) (file : List ℕ) → schema_alone content.schema ≡ Ok schema → IsSoundOver schema content
         → IsAccepted (policy_of schema) schema (facts_told content) file
-        → HoldsState (policy_of schema) (shape_of schema) schema.dims (facts_with schema (facts_told content) file)
+        → HoldsState (policy_of schema) (shape_of schema) schema.dims (facts_with_file schema (facts_told content) file)
         (apply_batch (import_batch (policy_of schema) schema (facts_told content) file) content) }
     ensures schema { (policy : Policy) (dims : List Dimension) (content : Stored) (new : List Fact)
         → (apply_batch (difference_with policy dims new (facts_told content)) content).schema ≡ content.schema }

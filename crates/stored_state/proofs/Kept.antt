@@ -10,7 +10,7 @@ use Rattle.cube_model.specs.Ascending.{ascends_from}
 use Rattle.cube_model.proofs.Ascending.{ascends_later}
 use Rattle.fact_groups.proofs.Ascending.{ascends-from_pairs, pairs-from_ascends}
 use Rattle.fact_keeper.specs.Batch.{rows_id}
-use Rattle.fact_keeper.specs.Order.{IsAscending}
+use Rattle.fact_keeper.specs.Order.{AscendsBy}
 use Rattle.fact_keeper.specs.declared.content.KeptRows.{KeptRows}
 use Rattle.fact_keeper.proofs.Puts.{ascending_from_adjacent, first_least, rest_ascends}
 use Rattle.stored_state.specs.Mending.{is_equal}
@@ -46,7 +46,7 @@ or-false : (b c : Bool) → c ≡ false → (b || c) ≡ b
 or-false true c none = refl
 or-false false c none = none
 
-equal-there : (new : KeptRows) (xs : List KeptRows) (place : ℕ) (d : KeptRows) → IsAscending rows_id xs → place < length xs → (get_or xs place d).id ≡ new.id → list_any (λ k. is_equal k new) xs ≡ is_equal (get_or xs place d) new
+equal-there : (new : KeptRows) (xs : List KeptRows) (place : ℕ) (d : KeptRows) → AscendsBy rows_id xs → place < length xs → (get_or xs place d).id ≡ new.id → list_any (λ k. is_equal k new) xs ≡ is_equal (get_or xs place d) new
 equal-there new [] place d up within named = absurd (omega (arith, within))
 equal-there new (x ∷ xs) zero d up within named = or-false (is_equal x new) (list_any (λ k. is_equal k new) xs) (none-equal new xs (λ i e lt. omega (arith, named, first_least rows_id x xs up i e lt)))
 equal-there new (x ∷ xs) (suc place) d up within named =

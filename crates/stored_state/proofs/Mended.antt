@@ -12,7 +12,7 @@ use Rattle.cube_model.specs.Allocation.{ExtendedFact, Policy, allocation, extend
 use Rattle.cube_model.specs.Tree.{Dimension}
 use Rattle.edit_plan.specs.Plan.{kept_rows}
 use Rattle.fact_keeper.specs.Batch.{apply_batch, fact_id, rows_id, without}
-use Rattle.fact_keeper.specs.Order.{IsAscending}
+use Rattle.fact_keeper.specs.Order.{AscendsBy}
 use Rattle.fact_keeper.specs.declared.content.KeptFact.{KeptFact}
 use Rattle.fact_keeper.specs.declared.content.KeptRows.{KeptRows}
 use Rattle.fact_keeper.specs.declared.content.Stored.{Stored}
@@ -33,14 +33,14 @@ module _ {X Y : Type 0} (f : X → Y) where
   map-map g [] = refl
   map-map g (x ∷ xs) = ap (λ zs. g (f x) ∷ zs) (map-map g xs)
 
-  ascending-map : (id_of : Y → ℕ) (xs : List X) → IsAscending (λ x. id_of (f x)) xs → IsAscending id_of (map f xs)
+  ascending-map : (id_of : Y → ℕ) (xs : List X) → AscendsBy (λ x. id_of (f x)) xs → AscendsBy id_of (map f xs)
   ascending-map id_of [] up = λ i j d before within. absurd (omega (arith, within))
   ascending-map id_of (x ∷ xs) up =
       AllPairs-cons (λ a b. id_of a < id_of b) (f x) (map f xs) (All-map (λ y. id_of (f x) < id_of y) f xs (first_least (λ y. id_of (f y)) x xs up))
       (ascending-map id_of xs (rest_ascends (λ y. id_of (f y)) x xs up))
 
 -- facts of which none is refused ascend
-good-ascend : (shape : ShapeValue) (dims : List Dimension) (facts : List KeptFact) → AreGood shape dims facts → IsAscending fact_id facts
+good-ascend : (shape : ShapeValue) (dims : List Dimension) (facts : List KeptFact) → AreGood shape dims facts → AscendsBy fact_id facts
 good-ascend shape dims facts good = ascending_from_adjacent fact_id facts step
   where
     step : (i : ℕ) (d : KeptFact) → i + 1 < length facts → true ≡ nat_lt (get_or facts i d).id (get_or facts (i + 1) d).id
@@ -80,8 +80,8 @@ module _ (policy : Policy) (dims : List Dimension) (content : Stored) where
   ids-anew n = ap (λ rows. has rows_id rows n) each-anew ∙ any-map rows_for (λ r. r.id == n) content.facts
 
   module _ (shape : ShapeValue) (good : AreGood shape dims content.facts) where
-    anew-ascend : IsAscending rows_id (rows_anew policy dims content)
-    anew-ascend = subst (IsAscending rows_id) (sym each-anew) (ascending-map rows_for rows_id content.facts (good-ascend shape dims content.facts good))
+    anew-ascend : AscendsBy rows_id (rows_anew policy dims content)
+    anew-ascend = subst (AscendsBy rows_id) (sym each-anew) (ascending-map rows_for rows_id content.facts (good-ascend shape dims content.facts good))
 
     rows-right : (apply_batch (mended_batch policy dims content) content).rows ≡ rows_anew policy dims content
     rows-right = put-right content.rows (rows_anew policy dims content) content.facts anew-ascend ids-anew

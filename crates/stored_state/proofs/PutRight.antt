@@ -12,7 +12,7 @@ use Rattle.dim_tree.proofs.Climbing.{both, together}
 use Rattle.fact_groups.proofs.Ascending.{ascends-from_pairs, pairs-from_ascends}
 use Rattle.fact_groups.proofs.Refreshing.{same_allocation, same_allocations}
 use Rattle.fact_keeper.specs.Batch.{put, rows_id, updated, without}
-use Rattle.fact_keeper.specs.Order.{IsAscending}
+use Rattle.fact_keeper.specs.Order.{AscendsBy}
 use Rattle.fact_keeper.specs.declared.content.KeptFact.{KeptFact}
 use Rattle.fact_keeper.specs.declared.content.KeptRows.{KeptRows}
 use Rattle.fact_keeper.proofs.Found.{entry_of}
@@ -140,7 +140,7 @@ none-equal new (x ∷ xs) above =
     let other : (x.id == new.id) ≡ false = grind (arith, nat_tests, All-head (λ e. new.id < e.id) x xs above) in
     rw other (none-equal new xs (All-tail (λ e. new.id < e.id) x xs above))
 
-pub equal-entry : (new : KeptRows) (xs : List KeptRows) → IsAscending rows_id xs → list_any (λ k. is_equal k new) xs ≡ true → entry_of rows_id new.id xs ≡ Some new
+pub equal-entry : (new : KeptRows) (xs : List KeptRows) → AscendsBy rows_id xs → list_any (λ k. is_equal k new) xs ≡ true → entry_of rows_id new.id xs ≡ Some new
 equal-entry new [] up some = let no : false ≡ true = some in cc
 equal-entry new (x ∷ xs) up some = either (is_equal x new) (x.id == new.id) refl refl some (equal-entry new xs (rest_ascends rows_id x xs up))
   where
@@ -155,7 +155,7 @@ equal-entry new (x ∷ xs) up some = either (is_equal x new) (x.id == new.id) re
     either false false is named some later = rw named (later some)
 
 -- Kept rows beside those made anew of facts of the same ids.
-module _ (kept anew : List KeptRows) (facts : List KeptFact) (up : IsAscending rows_id anew) (ids : (n : ℕ) → has rows_id anew n ≡ list_any (λ f. f.id == n) facts) where
+module _ (kept anew : List KeptRows) (facts : List KeptFact) (up : AscendsBy rows_id anew) (ids : (n : ℕ) → has rows_id anew n ≡ list_any (λ f. f.id == n) facts) where
   abbrev astray : ℕ → Bool
   astray n = not (list_any (λ f. f.id == n) facts)
 

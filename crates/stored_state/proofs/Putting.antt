@@ -6,7 +6,7 @@ use Rattle.std.proofs.lemmas.Bool.Decides.{nat_tests}
 use Rattle.std.proofs.lemmas.List.Elements.{All-cons, All-filter, All-head, All-nil, All-tail, All-weaker}
 use Rattle.std.proofs.lemmas.List.Kept.{AllPairs-filter}
 use Rattle.fact_keeper.specs.Batch.{put}
-use Rattle.fact_keeper.specs.Order.{IsAscending}
+use Rattle.fact_keeper.specs.Order.{AscendsBy}
 use Rattle.fact_keeper.proofs.Found.{entry_of}
 use Rattle.fact_keeper.proofs.Puts.{first_least, rest_ascends}
 
@@ -84,10 +84,10 @@ module _ {X : Type 0} (id_of : X → ℕ) where
 
   -- An entry of its id is there already: it is this one, and all entries ascend.
   pub record StandsThere (new : X) (xs : List X) : Type 0 where
-    pub ascending : IsAscending id_of xs
+    pub ascending : AscendsBy id_of xs
     pub entry : entry_of id_of (id_of new) xs ≡ Some new
 
-  others-ascend : (x : X) (xs : List X) → IsAscending id_of xs → IsAscending id_of (others x xs)
+  others-ascend : (x : X) (xs : List X) → AscendsBy id_of xs → AscendsBy id_of (others x xs)
   others-ascend x xs up = AllPairs-filter (λ a b. id_of a < id_of b) (λ e. not (id_of e == id_of x)) xs up
 
   -- so it is the first where none is smaller
@@ -134,7 +134,7 @@ module _ {X : Type 0} (id_of : X → ℕ) where
     all-kept x new greater = All-filter is_put (λ e. id_of x < id_of e) new greater
 
     -- where the others are put, all new ones stand there, and nothing else
-    pub all-put : (new xs : List X) → IsAscending id_of new → AreOf new xs → AreThere new xs → fold (put id_of) xs (filter is_put new) ≡ new
+    pub all-put : (new xs : List X) → AscendsBy id_of new → AreOf new xs → AreThere new xs → fold (put id_of) xs (filter is_put new) ≡ new
     all-put [] [] up are there = refl
     all-put [] (x ∷ xs) up are there = let no : false ≡ true = All-head (λ e. has [] (id_of e) ≡ true) x xs are in cc
     all-put (n ∷ new) xs up are there =

@@ -10,12 +10,12 @@ abbrev pub kept_at : ℕ → List ℕ → ℕ → KeptFact
 kept_at id nodes value = record { id = id; nodes = nodes; cols = pos value ∷ [] }
 
 -- facts of these ids on the first cell
-abbrev pub facts_of : List ℕ → List KeptFact
-facts_of ids = map (λ id. kept_at id (2 ∷ 1 ∷ []) 5) ids
+abbrev pub facts_of_ids : List ℕ → List KeptFact
+facts_of_ids ids = map (λ id. kept_at id (2 ∷ 1 ∷ []) 5) ids
 
 -- two facts on the first cell
 abbrev pub two_facts : List KeptFact
-two_facts = facts_of (1 ∷ 2 ∷ [])
+two_facts = facts_of_ids (1 ∷ 2 ∷ [])
 
 -- rows of one cell: as a fact there has them, and over another denominator
 abbrev pub whole_at : ℕ → ℕ → KeptRows

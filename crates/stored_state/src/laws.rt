@@ -8,7 +8,7 @@ ghost use Rattle.fact_keeper.specs.declared.content.Stored.{Stored};
 ghost use Rattle.fact_records.specs.Examples.{one_number};
 ghost use Rattle.fact_records.specs.Shape.{ShapeValue};
 ghost use Rattle.region_algebra.specs.Examples.{small_space};
-ghost use Rattle.stored_state.specs.Examples.{batch_of, content_of, facts_of, kept_at, over_two, two_facts, whole_at};
+ghost use Rattle.stored_state.specs.Examples.{batch_of, content_of, facts_of_ids, kept_at, over_two, two_facts, whole_at};
 ghost use Rattle.stored_state.specs.Mending.{IsMendable, changed_by, mended, mended_batch};
 ghost use Rattle.stored_state.specs.Sound.{IsFinding, IsSound, fact_fault, fault_at};
 ghost use Rattle.stored_state.specs.declared.finding.Finding.{Finding};
@@ -25,9 +25,9 @@ pub fn one_finding()
 /// Kept facts that were judged by hand. An id of 0, and one that is not above the one before, is refused at its place, also where a
 /// later one is refused too. The first of several reasons is reported.
 pub fn worked_facts()
-    ensures ascending { map (fault_at one_number small_space (facts_of (1 ∷ 2 ∷ 5 ∷ []))) (0 ∷ 1 ∷ 2 ∷ 3 ∷ []) ≡ None ∷ None ∷ None ∷ None ∷ [] }
-    ensures zero { IsFinding by_count one_number small_space (content_of (facts_of (0 ∷ 2 ∷ [])) []) (finding.Fact 0 0 code.Id) }
-    ensures repeated { IsFinding by_count one_number small_space (content_of (facts_of (1 ∷ 2 ∷ 2 ∷ [])) []) (finding.Fact 2 2 code.Id) }
+    ensures ascending { map (fault_at one_number small_space (facts_of_ids (1 ∷ 2 ∷ 5 ∷ []))) (0 ∷ 1 ∷ 2 ∷ 3 ∷ []) ≡ None ∷ None ∷ None ∷ None ∷ [] }
+    ensures zero { IsFinding by_count one_number small_space (content_of (facts_of_ids (0 ∷ 2 ∷ [])) []) (finding.Fact 0 0 code.Id) }
+    ensures repeated { IsFinding by_count one_number small_space (content_of (facts_of_ids (1 ∷ 2 ∷ 2 ∷ [])) []) (finding.Fact 2 2 code.Id) }
     ensures reasons { map (fact_fault one_number small_space 1048576 3) (kept_at 3 (2 ∷ 7 ∷ []) 1000000000001 ∷ kept_at 4 (2 ∷ 7 ∷ []) 1000000000001 ∷ kept_at 4 (2 ∷ 1 ∷ []) 1000000000001 ∷ kept_at 4 (2 ∷ 1 ∷ []) 5 ∷ [])
         ≡ Some code.Id ∷ Some code.Node ∷ Some code.Value ∷ Some code.Facts ∷ [] }
 {}

@@ -12,8 +12,8 @@ use Rattle.cube_model.specs.Tree.{Dimension}
 use Rattle.group_sum.specs.Terms.{TermList}
 use Rattle.staged_map.specs.Staged.{Places}
 use Rattle.view_store.specs.declared.change.ViewChange.{ViewChange}
-use Rattle.view_store.specs.Changes.{IsChange, facts_of}
-use Rattle.view_store.specs.Drafts.{AddsChange, AreOver, FitsChange, FitsShares, HasShares, KeepsToView, draft_at, facts_of_kind, is_of_kind}
+use Rattle.view_store.specs.Changes.{IsChange, change_facts}
+use Rattle.view_store.specs.Drafts.{AddsChange, AreOver, FitsChange, FitsShares, HasShares, KeepsToView, draft_at, facts_of_kind, puts_as}
 use Rattle.view_store.specs.Views.{is_in_view}
 use Rattle.view_store.proofs.Shares.{FitsShares-change, HasShares-next, HasShares-none}
 
@@ -32,25 +32,25 @@ kind-other false true differ = refl
 
 module _ (put : Bool) where
   facts-append : (changes more : List ViewChange) → facts_of_kind put (changes ++ more) ≡ facts_of_kind put changes ++ facts_of_kind put more
-  facts-append changes more = ap (flat_map facts_of) (filter-append (is_of_kind put) changes more) ∙ flat_map-append facts_of (filter (is_of_kind put) changes) (filter (is_of_kind put) more)
+  facts-append changes more = ap (flat_map change_facts) (filter-append (puts_as put) changes more) ∙ flat_map-append change_facts (filter (puts_as put) changes) (filter (puts_as put) more)
 
-  facts-one : (change : ViewChange) → facts_of_kind put (change ∷ []) ≡ (if is_of_kind put change then facts_of change else [])
-  facts-one change = by (is_of_kind put change)
+  facts-one : (change : ViewChange) → facts_of_kind put (change ∷ []) ≡ (if puts_as put change then change_facts change else [])
+  facts-one change = by (puts_as put change)
     where
-      by : (b : Bool) → flat_map facts_of (if b then change ∷ [] else []) ≡ (if b then facts_of change else [])
-      by true = flat_map-cons facts_of change [] ∙ append-nil (facts_of change)
+      by : (b : Bool) → flat_map change_facts (if b then change ∷ [] else []) ≡ (if b then change_facts change else [])
+      by true = flat_map-cons change_facts change [] ∙ append-nil (change_facts change)
       by false = refl
 
   module _ (changes : List ViewChange) (i : ℕ) (change : ViewChange) (within : i < length changes) (is : change ≡ get_or changes i change) where
-    facts-next : facts_of_kind put (take (i + 1) changes) ≡ facts_of_kind put (take i changes) ++ (if is_of_kind put change then facts_of change else [])
+    facts-next : facts_of_kind put (take (i + 1) changes) ≡ facts_of_kind put (take i changes) ++ (if puts_as put change then change_facts change else [])
     facts-next =
         ap (facts_of_kind put) (take_more changes i change within ∙ ap (λ x. take i changes ++ x ∷ []) (sym is))
         ∙ facts-append (take i changes) (change ∷ []) ∙ ap (λ fs. facts_of_kind put (take i changes) ++ fs) (facts-one change)
 
-    pub facts-next_of_kind : is_of_kind put change ≡ true → facts_of_kind put (take (i + 1) changes) ≡ facts_of_kind put (take i changes) ++ facts_of change
+    pub facts-next_of_kind : puts_as put change ≡ true → facts_of_kind put (take (i + 1) changes) ≡ facts_of_kind put (take i changes) ++ change_facts change
     facts-next_of_kind kind = rw kind at facts-next
 
-    pub facts-next_other : is_of_kind put change ≡ false → facts_of_kind put (take (i + 1) changes) ≡ facts_of_kind put (take i changes)
+    pub facts-next_other : puts_as put change ≡ false → facts_of_kind put (take (i + 1) changes) ≡ facts_of_kind put (take i changes)
     facts-next_other kind = rw kind at facts-next ∙ append-nil (facts_of_kind put (take i changes))
 
 -- The shares of facts were added to the drafts.
@@ -69,21 +69,21 @@ HasFacts-none dims depths columns entries now over = record {
 module _ (dims : List Dimension) (depths : List ℕ) (columns : ℕ) (entries : Places TermList) (put : Bool) (changes : List ViewChange) (old now : Places TermList)
     (i : ℕ) (change : ViewChange) (within : i < length changes) (is : change ≡ get_or changes i change) (before : HasFacts dims depths columns entries (facts_of_kind put (take i changes)) old now) where
   -- a change of another kind adds nothing
-  pub HasFacts-other : is_of_kind put change ≡ false → HasFacts dims depths columns entries (facts_of_kind put (take (i + 1) changes)) old now
+  pub HasFacts-other : puts_as put change ≡ false → HasFacts dims depths columns entries (facts_of_kind put (take (i + 1) changes)) old now
   HasFacts-other kind = rw (facts-next_other put changes i change within is kind) before
 
   pub is_change : All (IsChange dims columns) changes → IsChange dims columns change
   is_change all = subst (IsChange dims columns) (sym is) (All-get_or (IsChange dims columns) changes i change within all)
 
   -- the share of a change of the kind fits
-  pub change-fits : IsChange dims columns change → is_of_kind put change ≡ true
+  pub change-fits : IsChange dims columns change → puts_as put change ≡ true
       → ((code : ℕ) → is_in_view dims depths code ≡ true → FitsShares columns dims put changes code (draft_at columns entries old code))
       → (code : ℕ) → is_in_view dims depths code ≡ true → FitsChange columns dims change code (draft_at columns entries now code)
   change-fits one kind fits code in_view =
       FitsShares-change columns dims put changes i change code (draft_at columns entries old code) (draft_at columns entries now code) one (facts-next_of_kind put changes i change within is kind) (fits code in_view) (before.shares code in_view)
 
   -- and once it was added, the shares of one more were
-  pub HasFacts-next : (new : Places TermList) → IsChange dims columns change → is_of_kind put change ≡ true
+  pub HasFacts-next : (new : Places TermList) → IsChange dims columns change → puts_as put change ≡ true
       → ((code : ℕ) → is_in_view dims depths code ≡ true → AddsChange dims change code (draft_at columns entries now code) (draft_at columns entries new code))
       → KeepsToView dims depths now new → AreOver columns new → HasFacts dims depths columns entries (facts_of_kind put (take (i + 1) changes)) old new
   HasFacts-next new one kind adds keys over = record {

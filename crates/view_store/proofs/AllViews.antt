@@ -5,9 +5,9 @@ use Rattle.std.proofs.lemmas.List.Elements.{All-cons, All-nil, All-head, All-tai
 use Rattle.cube_model.specs.Tree.{Dimension}
 use Rattle.group_sum.specs.Terms.{TermList}
 use Rattle.region_algebra.specs.declared.view_def.ViewDef.{ViewDef}
-use Rattle.staged_map.specs.Staged.{Entries, entry_of, value_at}
+use Rattle.staged_map.specs.Staged.{Entries, staged_entry, value_at}
 use Rattle.view_store.specs.declared.change.ViewChange.{ViewChange}
-use Rattle.view_store.specs.Changes.{AreAfter, AreAllSet, AreSame, AreSet, IsAfter, IsMadeAnew, IsMadeFor, IsSameView, IsSet, IsStagedFor, given, shares, staged_at, taken}
+use Rattle.view_store.specs.Changes.{AreAfter, AreAllSet, AreSame, AreSet, AreStagedFor, IsAfter, IsMadeAnew, IsMadeFor, IsSameView, IsSet, facts_put, facts_taken_away, shares, staged_at}
 use Rattle.view_store.specs.Views.{AreOfColumns, ViewMap, ViewMaps, entry_at, no_terms, view_of, without_entries}
 
 -- views of definitions are over the columns
@@ -27,8 +27,8 @@ set-after dims changes old new entries made sets = record {
   columns = sets.columns;
   depths = sets.depths;
   made = λ code in_view.
-      let same : entry_at new code ≡ staged_at old entries code = ap (λ o. unwrap_or o (no_terms new.columns)) (sets.puts.values code) ∙ ap (λ n. unwrap_or (unwrap_or (entry_of entries code) (value_at old.entries code)) (no_terms n)) sets.columns in
-      subst (IsMadeAnew (entry_at old code) (shares old.columns dims (taken changes) code) (shares old.columns dims (given changes) code)) (sym same) (made.made code in_view);
+      let same : entry_at new code ≡ staged_at old entries code = ap (λ o. unwrap_or o (no_terms new.columns)) (sets.puts.values code) ∙ ap (λ n. unwrap_or (unwrap_or (staged_entry entries code) (value_at old.entries code)) (no_terms n)) sets.columns in
+      subst (IsMadeAnew (entry_at old code) (shares old.columns dims (facts_taken_away changes) code) (shares old.columns dims (facts_put changes) code)) (sym same) (made.made code in_view);
   kept = λ code outside. sets.puts.values code ∙ ap (λ o. unwrap_or o (value_at old.entries code)) (made.kept code outside);
 }
 
@@ -39,7 +39,7 @@ staged-there (x ∷ views) [] v view same at none = absurd (omega arith)
 staged-there (x ∷ views) (y ∷ stages) zero view same at none = absurd (grind arith)
 staged-there (x ∷ views) (y ∷ stages) (suc v) view same at none = staged-there views stages v view (omega (arith, same)) at none
 
-pub AreAfter-set : (dims : List Dimension) (changes : List ViewChange) (old new : ViewMaps) (stage : List (Entries TermList)) → AreSet old stage new → IsStagedFor dims changes old stage → AreAfter dims changes old new
+pub AreAfter-set : (dims : List Dimension) (changes : List ViewChange) (old new : ViewMaps) (stage : List (Entries TermList)) → AreSet old stage new → AreStagedFor dims changes old stage → AreAfter dims changes old new
 AreAfter-set dims changes old new stage sets staged = record {
   columns = sets.columns;
   count = sets.views.count;

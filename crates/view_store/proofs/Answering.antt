@@ -16,7 +16,7 @@ use Rattle.region_algebra.specs.Space.{IsRegion, region_total}
 use Rattle.region_algebra.proofs.Children.{count_by-cons}
 use Rattle.staged_map.specs.Staged.{value_at}
 use Rattle.view_store.specs.Facts.{IsViewOfFacts}
-use Rattle.view_store.specs.Rolling.{is_below, rolled_up, serves, terms_below}
+use Rattle.view_store.specs.Rolling.{is_below, rolled_up, serves, term_lists_below}
 use Rattle.view_store.specs.Views.{ViewMap, entry_at, is_in_view, no_terms, region_at}
 use Rattle.view_store.proofs.CutsOver.{code-over}
 use Rattle.view_store.proofs.LeafTuples.{is_among-inside}
@@ -102,7 +102,7 @@ module _ (dims : List Dimension) (facts : List ExtendedFact) (view : ViewMap) (r
   part_weight code e = weight_inside (part_cells dims view.depths region code) e.allocation
 
   abbrev rolled : List ℕ → List Term
-  rolled codes = merge_all (view.columns - 1) (terms_below view.columns dims region view.entries (filter (λ code. is_some (value_at view.entries code)) codes))
+  rolled codes = merge_all (view.columns - 1) (term_lists_below view.columns dims region view.entries (filter (λ code. is_some (value_at view.entries code)) codes))
 
   cells-are : (code : ℕ) (b : Bool) → is_part dims view.depths region code ≡ b → part_cells dims view.depths region code ≡ (if b then cells_of dims (region_at dims code) else [])
   cells-are code b is = ap (λ c. if c then cells_of dims (region_at dims code) else []) is

@@ -13,7 +13,7 @@ use Rattle.cube_model.specs.Allocation.{ExtendedFact}
 use Rattle.cube_model.specs.Answer.{count_at, over, sum_at, total_by, weight_inside}
 use Rattle.group_sum.proofs.Adding.{get_or-zeros}
 use Rattle.view_store.specs.declared.change.ViewChange.{ViewChange}
-use Rattle.view_store.specs.Changes.{fact_with, facts_of}
+use Rattle.view_store.specs.Changes.{change_fact, change_facts}
 
 -- items that are all the same pass a test together
 filter-replicate : {X : Type 0} (p : X → Bool) (b : Bool) (n : ℕ) (x : X) → p x ≡ b → filter p (replicate n x) ≡ (if b then replicate n x else [])
@@ -52,20 +52,20 @@ weight_in cells change = weight_inside cells (record { den = change.den; rows = 
 
 module _ (cells : List ℕ) (change : ViewChange) (d : ℕ) where
   -- all of them are over the denominator, or none is
-  over-all : (b : Bool) → (change.den == d) ≡ b → over d (facts_of change) ≡ (if b then facts_of change else [])
-  over-all true is = rw is (ap (λ fs. fact_with change change.cols ∷ fs) (filter-replicate (λ (f : ExtendedFact). f.allocation.den == d) true (change.facts - 1) (fact_with change (replicate (length change.cols) (pos 0))) is))
-  over-all false is = rw is (filter-replicate (λ (f : ExtendedFact). f.allocation.den == d) false (change.facts - 1) (fact_with change (replicate (length change.cols) (pos 0))) is)
+  over-all : (b : Bool) → (change.den == d) ≡ b → over d (change_facts change) ≡ (if b then change_facts change else [])
+  over-all true is = rw is (ap (λ fs. change_fact change change.cols ∷ fs) (filter-replicate (λ (f : ExtendedFact). f.allocation.den == d) true (change.facts - 1) (change_fact change (replicate (length change.cols) (pos 0))) is))
+  over-all false is = rw is (filter-replicate (λ (f : ExtendedFact). f.allocation.den == d) false (change.facts - 1) (change_fact change (replicate (length change.cols) (pos 0))) is)
 
-  weights : 1 ≤ change.facts → sum_by (λ (f : ExtendedFact). weight_inside cells f.allocation) (facts_of change) ≡ weight_in cells change * change.facts
+  weights : 1 ≤ change.facts → sum_by (λ (f : ExtendedFact). weight_inside cells f.allocation) (change_facts change) ≡ weight_in cells change * change.facts
   weights some =
       let part : ExtendedFact → ℕ = λ f. weight_inside cells f.allocation in
-      let others = sum_by-replicate part (change.facts - 1) (fact_with change (replicate (length change.cols) (pos 0))) in
-      sum_by-cons part (fact_with change change.cols) (replicate (change.facts - 1) (fact_with change (replicate (length change.cols) (pos 0)))) ∙ ap (λ n. weight_in cells change + n) others ∙ times (weight_in cells change) change.facts (change.facts - 1) (omega (arith, some))
+      let others = sum_by-replicate part (change.facts - 1) (change_fact change (replicate (length change.cols) (pos 0))) in
+      sum_by-cons part (change_fact change change.cols) (replicate (change.facts - 1) (change_fact change (replicate (length change.cols) (pos 0)))) ∙ ap (λ n. weight_in cells change + n) others ∙ times (weight_in cells change) change.facts (change.facts - 1) (omega (arith, some))
     where
       times : (w n m : ℕ) → n ≡ m + 1 → w + m * w ≡ w * n
       times w n m is = rw is (omega arith)
 
-  pub count_at-change : 1 ≤ change.facts → count_at cells (facts_of change) d ≡ (if d == change.den then weight_in cells change * change.facts else 0)
+  pub count_at-change : 1 ≤ change.facts → count_at cells (change_facts change) d ≡ (if d == change.den then weight_in cells change * change.facts else 0)
   count_at-change some = elim (cases_eq d change.den) [
     | inl same ↦
         let there : (change.den == d) ≡ true = grind (arith, nat_tests) in
@@ -77,14 +77,14 @@ module _ (cells : List ℕ) (change : ViewChange) (d : ℕ) where
         rw here (ap (sum_by (λ (f : ExtendedFact). weight_inside cells f.allocation)) (over-all false there))
   ]
 
-  totals : (k : ℕ) → total_by (λ (f : ExtendedFact). pos (weight_inside cells f.allocation) *ℤ slice_index_or f.values k (pos 0)) (facts_of change) ≡ pos (weight_in cells change) *ℤ slice_index_or change.cols k (pos 0)
+  totals : (k : ℕ) → total_by (λ (f : ExtendedFact). pos (weight_inside cells f.allocation) *ℤ slice_index_or f.values k (pos 0)) (change_facts change) ≡ pos (weight_in cells change) *ℤ slice_index_or change.cols k (pos 0)
   totals k =
       let part : ExtendedFact → ℤ = λ f. pos (weight_inside cells f.allocation) *ℤ slice_index_or f.values k (pos 0) in
       let zeros : List ℤ = replicate (length change.cols) (pos 0) in
       let none : pos (weight_in cells change) *ℤ slice_index_or zeros k (pos 0) ≡ pos 0 = ap (λ v. pos (weight_in cells change) *ℤ v) (get_or-zeros (length change.cols) k) ∙ no_value (weight_in cells change) in
-      omega (arith, ints, total_by-zeros part (change.facts - 1) (fact_with change zeros) none)
+      omega (arith, ints, total_by-zeros part (change.facts - 1) (change_fact change zeros) none)
 
-  pub sum_at-change : (k : ℕ) → sum_at cells (facts_of change) k d ≡ (if d == change.den then pos (weight_in cells change) *ℤ slice_index_or change.cols k (pos 0) else pos 0)
+  pub sum_at-change : (k : ℕ) → sum_at cells (change_facts change) k d ≡ (if d == change.den then pos (weight_in cells change) *ℤ slice_index_or change.cols k (pos 0) else pos 0)
   sum_at-change k =
       let part : ExtendedFact → ℤ = λ f. pos (weight_inside cells f.allocation) *ℤ slice_index_or f.values k (pos 0) in
       elim (cases_eq d change.den) [

@@ -21,7 +21,7 @@ use Rattle.group_sum.proofs.Ascending.{first_is}
 use Rattle.group_sum.proofs.MergeLaws.{merge_commutes, merge_nothing}
 use Rattle.staged_map.specs.Staged.{Places, Sets, value_at}
 use Rattle.view_store.specs.declared.change.ViewChange.{ViewChange}
-use Rattle.view_store.specs.Changes.{IsChange, IsWithin}
+use Rattle.view_store.specs.Changes.{IsChange, IsWithinWide}
 use Rattle.view_store.specs.Cuts.{HoldsCells, IsCodeOver}
 use Rattle.view_store.specs.Drafts.{AddsChange, AddsRow, AreOver, KeepsToView, draft_at, weight_at}
 use Rattle.view_store.specs.Views.{AreEntries, IsEntry, IsOver, held_at, is_in_view, no_terms, region_at}
@@ -62,7 +62,7 @@ terms_within-at columns least (term ∷ terms) d are =
           record { count = rw test rest.count; sums = λ k. rw test (rest.sums k); none = λ k zero. rw test (rest.none k (rw test at zero)) }
     ]
 
-pub terms_within : (list : TermList) → AreTerms list → IsWithin list.columns list.terms
+pub terms_within : (list : TermList) → AreTerms list → IsWithinWide list.columns list.terms
 terms_within list are = record {
   counts = λ d. (terms_within-at list.columns 1 list.terms d are.terms).count;
   sums = λ d k lt. (terms_within-at list.columns 1 list.terms d are.terms).sums k;
@@ -201,7 +201,7 @@ module _ (columns : ℕ) (entries : Places TermList) (code : ℕ) (old new : Pla
 module _ (dims : List Dimension) (depths : List ℕ) (columns : ℕ) (entries : Places TermList) (change : ViewChange) (rows : List (ℕ × ℕ)) (old now : Places TermList)
     (j code : ℕ) (within : j < length rows) (before : HasRows dims depths columns entries change (take j rows) old now) (over : IsCodeOver dims depths (get_or rows j (0, 0)).0 code) where
   -- the share of the next row fits where that of the change does
-  pub row-fits : length change.cols + 1 ≡ columns → IsWithin columns (draft_at columns entries old code).terms
+  pub row-fits : length change.cols + 1 ≡ columns → IsWithinWide columns (draft_at columns entries old code).terms
       → FitsUnits (draft_at columns entries old code).terms change.den (weight_of_rows (cells_of dims (region_at dims code)) rows * change.facts) (weight_of_rows (cells_of dims (region_at dims code)) rows) change.cols
       → FitsUnits (draft_at columns entries now code).terms change.den ((get_or rows j (0, 0)).1 * change.facts) (get_or rows j (0, 0)).1 change.cols
   row-fits width held fits =

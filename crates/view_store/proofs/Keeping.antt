@@ -7,13 +7,13 @@ use Rattle.std.proofs.lemmas.Bool.Decides.{nat_tests}
 use Rattle.std.proofs.lemmas.List.{map-append, take_more}
 use Rattle.group_sum.specs.Terms.{TermList}
 use Rattle.staged_map.specs.Staged.{AreKeys, Entries, Places, Removes, value_at}
-use Rattle.view_store.specs.Drafts.{kept, kept_of}
+use Rattle.view_store.specs.Drafts.{kept, kept_drafts}
 use Rattle.view_store.proofs.Ascending.{ascends-increasing, has, not_among-behind}
 
 -- What is staged for the codes before a place; the drafts of the others are there.
 pub record AreKept (drafts : Places TermList) (codes : List ℕ) (i : ℕ) (entries : Entries TermList) (now : Places TermList) : Type 0 where
   pub keys : AreKeys drafts codes
-  pub done : entries ≡ kept_of drafts (take i codes)
+  pub done : entries ≡ kept_drafts drafts (take i codes)
   pub ahead : (code : ℕ) → list_any (eqb code) (drop i codes) ≡ true → value_at now code ≡ value_at drafts code
 
 -- one code more
@@ -25,11 +25,11 @@ AreKept-next drafts codes i entries more now new terms within before found remov
     let front : drop i codes ≡ code ∷ drop (i + 1) codes = rw (add-one, drop-cons codes i 0) refl in
     let here : list_any (eqb code) (drop i codes) ≡ true = rw front (grind (arith, nat_tests)) in
     let draft : value_at drafts code ≡ Some terms = sym (before.ahead code here) ∙ found in
-    let next : kept_of drafts (take (i + 1) codes) ≡ kept_of drafts (take i codes) ++ (code, kept (value_at drafts code)) ∷ [] =
-    ap (kept_of drafts) (take_more codes i 0 within) ∙ map-append (λ (c : ℕ). (c, kept (value_at drafts c))) (take i codes) (code ∷ []) in
+    let next : kept_drafts drafts (take (i + 1) codes) ≡ kept_drafts drafts (take i codes) ++ (code, kept (value_at drafts code)) ∷ [] =
+    ap (kept_drafts drafts) (take_more codes i 0 within) ∙ map-append (λ (c : ℕ). (c, kept (value_at drafts c))) (take i codes) (code ∷ []) in
     record {
       keys = before.keys;
-      done = is ∙ ap (λ es. es ++ (code, kept (Some terms)) ∷ []) before.done ∙ ap (λ o. kept_of drafts (take i codes) ++ (code, kept o) ∷ []) (sym draft) ∙ sym next;
+      done = is ∙ ap (λ es. es ++ (code, kept (Some terms)) ∷ []) before.done ∙ ap (λ o. kept_drafts drafts (take i codes) ++ (code, kept o) ∷ []) (sym draft) ∙ sym next;
       ahead = λ k among. elim (cases_eq k code) [
         | inl same ↦
             let ascends = ascends-increasing 0 codes before.keys.ascending (λ some. omega arith) in

@@ -12,7 +12,7 @@ use Rattle.group_sum.proofs.MergeLaws.{den_bound_below, merge_is_below}
 use Rattle.staged_map.specs.Staged.{value_at}
 use Rattle.region_algebra.specs.declared.view_def.ViewDef.{ViewDef}
 use Rattle.view_store.specs.declared.change.ViewChange.{ViewChange}
-use Rattle.view_store.specs.Changes.{IsAfter, given, taken}
+use Rattle.view_store.specs.Changes.{IsAfter, facts_put, facts_taken_away}
 use Rattle.view_store.specs.Facts.{FollowBy, IsViewOfFacts}
 use Rattle.view_store.specs.Views.{ViewMap, entry_at, is_in_view, no_terms, region_at, view_of}
 use Rattle.view_store.proofs.Drafting.{AreRegular-terms}
@@ -83,7 +83,7 @@ view-of_none dims columns def = record {
   others = λ code outside. refl;
 }
 
-module _ (dims : List Dimension) (changes : List ViewChange) (old new : ViewMap) (before after : List ExtendedFact) (installed : IsAfter dims changes old new) (was : IsViewOfFacts dims before old) (follow : FollowBy before (taken changes) (given changes) after) where
+module _ (dims : List Dimension) (changes : List ViewChange) (old new : ViewMap) (before after : List ExtendedFact) (installed : IsAfter dims changes old new) (was : IsViewOfFacts dims before old) (follow : FollowBy before (facts_taken_away changes) (facts_put changes) after) where
   kept-entry : (code : ℕ) → is_in_view dims old.depths code ≡ false → entry_at new code ≡ entry_at old code
   kept-entry code outside = ap (λ o. unwrap_or o (no_terms new.columns)) (installed.kept code outside) ∙ ap (λ n. unwrap_or (value_at old.entries code) (no_terms n)) installed.columns
 
@@ -93,10 +93,10 @@ module _ (dims : List Dimension) (changes : List ViewChange) (old new : ViewMap)
       let cols = was.columns code in
       let region = region_at dims code in
       let rest_columns : made.rest.columns ≡ old.columns = made.taken_away.columns ∙ cols in
-      let less : merge (old.columns - 1) made.rest.terms (answer (old.columns - 1) dims (taken changes) region) ≡ answer (old.columns - 1) dims before region =
-      ap (λ n. merge (n - 1) made.rest.terms (answer (old.columns - 1) dims (taken changes) region)) (sym cols) ∙ made.taken_away.merges ∙ was.answers code in_view in
-      made.put ∙ ap (λ n. merge (n - 1) made.rest.terms (answer (old.columns - 1) dims (given changes) region)) rest_columns
-      ∙ answer-after (old.columns - 1) dims before (taken changes) (given changes) after region made.rest made.are_terms follow less
+      let less : merge (old.columns - 1) made.rest.terms (answer (old.columns - 1) dims (facts_taken_away changes) region) ≡ answer (old.columns - 1) dims before region =
+      ap (λ n. merge (n - 1) made.rest.terms (answer (old.columns - 1) dims (facts_taken_away changes) region)) (sym cols) ∙ made.taken_away.merges ∙ was.answers code in_view in
+      made.put ∙ ap (λ n. merge (n - 1) made.rest.terms (answer (old.columns - 1) dims (facts_put changes) region)) rest_columns
+      ∙ answer-after (old.columns - 1) dims before (facts_taken_away changes) (facts_put changes) after region made.rest made.are_terms follow less
 
   by-cuts : {P : Type 0} (code : ℕ) → (is_in_view dims old.depths code ≡ true → P) → (is_in_view dims old.depths code ≡ false → P) → P
   by-cuts {P} code inside outside = by (is_in_view dims old.depths code) refl

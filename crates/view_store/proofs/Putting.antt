@@ -14,13 +14,13 @@ use Rattle.group_sum.proofs.MergeLaws.{merge_nothing}
 use Rattle.region_algebra.specs.Space.{region_total}
 use Rattle.staged_map.specs.Staged.{Places, value_at}
 use Rattle.view_store.specs.declared.change.ViewChange.{ViewChange}
-use Rattle.view_store.specs.Changes.{FitsView, IsChange, facts_of, taken}
+use Rattle.view_store.specs.Changes.{FitsView, IsChange, change_facts, facts_taken_away}
 use Rattle.view_store.specs.Drafts.{AddsChange, AreLeftOver, AreOver, FitsChange, HasShares, KeepsToView, draft_at}
 use Rattle.view_store.specs.Facts.{AddsFacts, IsViewOfFacts}
 use Rattle.view_store.specs.Views.{AreEntries, IsEntry, IsOver, IsViewOf, ViewMap, held_at, is_in_view, no_terms, region_at}
 use Rattle.view_store.proofs.AllChanges.{facts-next_of_kind}
 use Rattle.view_store.proofs.Shares.{FitsShares-change, HasShares-answer, HasShares-next, HasShares-none, count_of-answer, numerator_of-answer}
-use Rattle.view_store.proofs.Staging.{IsOver-none, AreOver-entries, given-fits, held-over}
+use Rattle.view_store.proofs.Staging.{IsOver-none, AreOver-entries, facts_put-fits, held-over}
 
 module _ (dims : List Dimension) (depths : List ℕ) (columns : ℕ) (entries : Places TermList) (change : ViewChange) (are : AreEntries columns entries)
     (fits : FitsView dims (change ∷ []) (record { columns = columns; depths = depths; entries = entries })) (puts : change.put ≡ true) where
@@ -37,8 +37,8 @@ module _ (dims : List Dimension) (depths : List ℕ) (columns : ℕ) (entries : 
   entry-over code = held-over columns entries code none-over (AreOver-entries columns entries are)
 
   -- nothing is taken away
-  taken-none : taken one ≡ []
-  taken-none = rw puts refl
+  facts_taken_away-none : facts_taken_away one ≡ []
+  facts_taken_away-none = rw puts refl
 
   left-none : AreLeftOver dims one (record { columns = columns; depths = depths; entries = entries }) []
   unfolding answer
@@ -46,7 +46,7 @@ module _ (dims : List Dimension) (depths : List ℕ) (columns : ℕ) (entries : 
     left = λ code in_view.
         let old = held_at columns entries code in
         let over = entry-over code in
-        rw taken-none (record { columns = refl; merges = merge_nothing old.columns over.are_terms.some old.terms over.are_terms.terms });
+        rw facts_taken_away-none (record { columns = refl; merges = merge_nothing old.columns over.are_terms.some old.terms over.are_terms.terms });
     keys = λ code there. grind (arith, there);
     over = λ code. tt;
   }
@@ -56,7 +56,7 @@ module _ (dims : List Dimension) (depths : List ℕ) (columns : ℕ) (entries : 
   fits-one code in_view =
       let within : 0 < length one = omega arith in
       FitsShares-change columns dims true one 0 change code (held_at columns entries code) (held_at columns entries code) change-one (facts-next_of_kind true one 0 change within refl puts)
-      (given-fits dims depths columns entries one are fits [] left-none code in_view) (HasShares-none columns dims code (held_at columns entries code))
+      (facts_put-fits dims depths columns entries one are fits [] left-none code in_view) (HasShares-none columns dims code (held_at columns entries code))
 
   -- once its shares were added
   module _ (new : Places TermList) (adds : (code : ℕ) → is_in_view dims depths code ≡ true → AddsChange dims change code (held_at columns entries code) (held_at columns new code)) (keys : KeepsToView dims depths entries new) (over : AreOver columns new) where
@@ -73,9 +73,9 @@ module _ (dims : List Dimension) (depths : List ℕ) (columns : ℕ) (entries : 
           }
 
       -- the entries are the answers with its facts
-      answers-more : (code : ℕ) → is_in_view dims depths code ≡ true → (held_at columns new code).terms ≡ answer (columns - 1) dims (facts ++ facts_of change) (region_at dims code)
+      answers-more : (code : ℕ) → is_in_view dims depths code ≡ true → (held_at columns new code).terms ≡ answer (columns - 1) dims (facts ++ change_facts change) (region_at dims code)
       answers-more code in_view =
-          ap (λ (list : TermList). list.terms) (HasShares-answer columns dims (facts ++ facts_of change) code (held_at columns new code) (new-over code)
+          ap (λ (list : TermList). list.terms) (HasShares-answer columns dims (facts ++ change_facts change) code (held_at columns new code) (new-over code)
           (HasShares-next columns dims facts change code (no_terms columns) (held_at columns entries code) (held_at columns new code) change-one (has-facts code in_view) (adds code in_view)))
 
       -- and there are no others
@@ -92,7 +92,7 @@ module _ (dims : List Dimension) (depths : List ℕ) (columns : ℕ) (entries : 
               let there : is_some (value_at entries code) ≡ true = grind (arith, keys code (ap is_some is), outside) in
               absurd (was-none (value_at entries code) (are.each code) (was.others code outside) there)
 
-      facts-more : IsViewOfFacts dims (facts ++ facts_of change) (record { columns = columns; depths = depths; entries = new })
+      facts-more : IsViewOfFacts dims (facts ++ change_facts change) (record { columns = columns; depths = depths; entries = new })
       facts-more = record {
         columns = λ code. (new-over code).columns_are;
         answers = answers-more;

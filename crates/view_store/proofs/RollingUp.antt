@@ -10,7 +10,7 @@ use Rattle.group_sum.specs.Merge.{FitsMerge}
 use Rattle.group_sum.specs.Terms.{TermList}
 use Rattle.region_algebra.specs.Space.{region_total}
 use Rattle.staged_map.specs.Staged.{AreKeys, Places, value_at}
-use Rattle.view_store.specs.Rolling.{AreCodes, FitsBelow, is_below, rolled_up, terms_below}
+use Rattle.view_store.specs.Rolling.{AreCodes, FitsBelow, is_below, rolled_up, term_lists_below}
 use Rattle.view_store.specs.Views.{AreEntries, IsViewOf, ViewMap, codes_of, held_at, no_terms}
 use Rattle.view_store.proofs.Drafting.{AreRegular-terms}
 use Rattle.view_store.proofs.Listing.{key-below}
@@ -18,41 +18,41 @@ use Rattle.view_store.proofs.Merges.{AreRegular, count_of-merge, merge_all-push,
 use Rattle.view_store.proofs.Staging.{AreOver-entries, IsOver-none, held-over}
 
 module _ (columns : ℕ) (dims : List Dimension) (region : List ℕ) (entries : Places TermList) where
-  terms-append : (codes more : List ℕ) → terms_below columns dims region entries (codes ++ more) ≡ terms_below columns dims region entries codes ++ terms_below columns dims region entries more
+  terms-append : (codes more : List ℕ) → term_lists_below columns dims region entries (codes ++ more) ≡ term_lists_below columns dims region entries codes ++ term_lists_below columns dims region entries more
   terms-append codes more =
       ap (map (λ code. (held_at columns entries code).terms)) (filter-append (is_below dims region) codes more)
       ∙ map-append (λ (code : ℕ). (held_at columns entries code).terms) (filter (is_below dims region) codes) (filter (is_below dims region) more)
 
-  terms-one : (code : ℕ) → terms_below columns dims region entries (code ∷ []) ≡ (if is_below dims region code then (held_at columns entries code).terms ∷ [] else [])
+  terms-one : (code : ℕ) → term_lists_below columns dims region entries (code ∷ []) ≡ (if is_below dims region code then (held_at columns entries code).terms ∷ [] else [])
   terms-one code = by (is_below dims region code)
     where
       by : (b : Bool) → map (λ code. (held_at columns entries code).terms) (if b then code ∷ [] else []) ≡ (if b then (held_at columns entries code).terms ∷ [] else [])
       by true = refl
       by false = refl
 
-  terms-next : (codes : List ℕ) (i : ℕ) → i < length codes → terms_below columns dims region entries (take (i + 1) codes)
-      ≡ terms_below columns dims region entries (take i codes) ++ (if is_below dims region (get_or codes i 0) then (held_at columns entries (get_or codes i 0)).terms ∷ [] else [])
+  terms-next : (codes : List ℕ) (i : ℕ) → i < length codes → term_lists_below columns dims region entries (take (i + 1) codes)
+      ≡ term_lists_below columns dims region entries (take i codes) ++ (if is_below dims region (get_or codes i 0) then (held_at columns entries (get_or codes i 0)).terms ∷ [] else [])
   terms-next codes i within =
-      ap (terms_below columns dims region entries) (take_more codes i 0 within) ∙ terms-append (take i codes) (get_or codes i 0 ∷ [])
-      ∙ ap (λ ts. terms_below columns dims region entries (take i codes) ++ ts) (terms-one (get_or codes i 0))
+      ap (term_lists_below columns dims region entries) (take_more codes i 0 within) ∙ terms-append (take i codes) (get_or codes i 0 ∷ [])
+      ∙ ap (λ ts. term_lists_below columns dims region entries (take i codes) ++ ts) (terms-one (get_or codes i 0))
 
   -- the terms of the first codes are the first terms
-  first-terms : (codes : List ℕ) (i : ℕ) → take (length (terms_below columns dims region entries (take i codes))) (terms_below columns dims region entries codes) ≡ terms_below columns dims region entries (take i codes)
+  first-terms : (codes : List ℕ) (i : ℕ) → take (length (term_lists_below columns dims region entries (take i codes))) (term_lists_below columns dims region entries codes) ≡ term_lists_below columns dims region entries (take i codes)
   first-terms codes i =
-      let front = terms_below columns dims region entries (take i codes) in
-      let whole : terms_below columns dims region entries codes ≡ front ++ terms_below columns dims region entries (drop i codes) =
-      ap (terms_below columns dims region entries) (sym (take-append-drop i codes)) ∙ terms-append (take i codes) (drop i codes) in
-      ap (take (length front)) whole ∙ take-append_seam front (terms_below columns dims region entries (drop i codes))
+      let front = term_lists_below columns dims region entries (take i codes) in
+      let whole : term_lists_below columns dims region entries codes ≡ front ++ term_lists_below columns dims region entries (drop i codes) =
+      ap (term_lists_below columns dims region entries) (sym (take-append-drop i codes)) ∙ terms-append (take i codes) (drop i codes) in
+      ap (take (length front)) whole ∙ take-append_seam front (term_lists_below columns dims region entries (drop i codes))
 
   -- what is merged of some codes
   abbrev pub merged : List ℕ → TermList
-  merged codes = record { columns = columns; terms = merge_all (columns - 1) (terms_below columns dims region entries codes) }
+  merged codes = record { columns = columns; terms = merge_all (columns - 1) (term_lists_below columns dims region entries codes) }
 
   module _ (are : AreEntries columns entries) where
     regular : (code : ℕ) → AreRegular (columns - 1) (held_at columns entries code).terms
     regular code = AreRegular-terms (columns - 1) (held_at columns entries code) (held-over columns entries code (IsOver-none columns entries are) (AreOver-entries columns entries are)).are_terms
 
-    all-regular : (codes : List ℕ) → All (AreRegular (columns - 1)) (terms_below columns dims region entries codes)
+    all-regular : (codes : List ℕ) → All (AreRegular (columns - 1)) (term_lists_below columns dims region entries codes)
     all-regular codes = each (filter (is_below dims region) codes)
       where
         each : (cs : List ℕ) → All (AreRegular (columns - 1)) (map (λ code. (held_at columns entries code).terms) cs)
@@ -62,13 +62,13 @@ module _ (columns : ℕ) (dims : List Dimension) (region : List ℕ) (entries : 
     module _ (codes : List ℕ) (i : ℕ) (within : i < length codes) where
       merged-other : is_below dims region (get_or codes i 0) ≡ false → merged (take (i + 1) codes) ≡ merged (take i codes)
       merged-other outside =
-          ap (λ ts. record { columns = columns; terms = merge_all (columns - 1) ts }) (rw outside at (terms-next codes i within) ∙ append-nil (terms_below columns dims region entries (take i codes)))
+          ap (λ ts. record { columns = columns; terms = merge_all (columns - 1) ts }) (rw outside at (terms-next codes i within) ∙ append-nil (term_lists_below columns dims region entries (take i codes)))
 
       merged-more : is_below dims region (get_or codes i 0) ≡ true
           → merged (take (i + 1) codes) ≡ record { columns = columns; terms = merge (columns - 1) (merged (take i codes)).terms (held_at columns entries (get_or codes i 0)).terms }
       merged-more inside =
           let terms = rw inside at (terms-next codes i within) in
-          let push = (merge_all-push (columns - 1) (terms_below columns dims region entries (take i codes)) (held_at columns entries (get_or codes i 0)).terms (all-regular (take i codes)) (regular (get_or codes i 0))).0 in
+          let push = (merge_all-push (columns - 1) (term_lists_below columns dims region entries (take i codes)) (held_at columns entries (get_or codes i 0)).terms (all-regular (take i codes)) (regular (get_or codes i 0))).0 in
           ap (λ ts. record { columns = columns; terms = ts }) (ap (merge_all (columns - 1)) terms ∙ push)
 
       held-is : (entry : TermList) → value_at entries (get_or codes i 0) ≡ Some entry → held_at columns entries (get_or codes i 0) ≡ entry
@@ -79,10 +79,10 @@ module _ (columns : ℕ) (dims : List Dimension) (region : List ℕ) (entries : 
           → FitsMerge (merged (take i codes)) entry
       entry-fits fits inside entry is =
           let its = held-is entry is in
-          let bound = fits (length (terms_below columns dims region entries (take (i + 1) codes))) in
-          let whole : merge_all (columns - 1) (take (length (terms_below columns dims region entries (take (i + 1) codes))) (terms_below columns dims region entries codes)) ≡ merge (columns - 1) (merged (take i codes)).terms entry.terms =
+          let bound = fits (length (term_lists_below columns dims region entries (take (i + 1) codes))) in
+          let whole : merge_all (columns - 1) (take (length (term_lists_below columns dims region entries (take (i + 1) codes))) (term_lists_below columns dims region entries codes)) ≡ merge (columns - 1) (merged (take i codes)).terms entry.terms =
           ap (merge_all (columns - 1)) (first-terms codes (i + 1)) ∙ ap (λ (t : TermList). t.terms) (merged-more inside) ∙ ap (λ (t : TermList). merge (columns - 1) (merged (take i codes)).terms t.terms) its in
-          let front = (merge_all-push (columns - 1) (terms_below columns dims region entries (take i codes)) (held_at columns entries (get_or codes i 0)).terms (all-regular (take i codes)) (regular (get_or codes i 0))).1 in
+          let front = (merge_all-push (columns - 1) (term_lists_below columns dims region entries (take i codes)) (held_at columns entries (get_or codes i 0)).terms (all-regular (take i codes)) (regular (get_or codes i 0))).1 in
           let last : AreRegular (columns - 1) entry.terms = subst (λ (t : TermList). AreRegular (columns - 1) t.terms) its (regular (get_or codes i 0)) in
           record {
             counts = λ d. omega (arith, count_of-merge (columns - 1) (merged (take i codes)).terms entry.terms d, rw whole at (bound.counts d));

@@ -19,7 +19,7 @@ use Rattle.group_sum.proofs.Determined.{terms_determined}
 use Rattle.group_sum.proofs.Merged.{is_merge}
 use Rattle.group_sum.proofs.MergeLaws.{count_of_below, numerator_of_below}
 use Rattle.view_store.specs.declared.change.ViewChange.{ViewChange}
-use Rattle.view_store.specs.Changes.{IsChange, IsWithin, facts_of, shares}
+use Rattle.view_store.specs.Changes.{IsChange, IsWithinWide, change_facts, shares}
 use Rattle.view_store.specs.Drafts.{AddsChange, FitsChange, FitsShares, HasShares, facts_of_kind, weight_at}
 use Rattle.view_store.specs.Views.{IsOver, no_terms, region_at}
 use Rattle.view_store.proofs.ChangeFacts.{count_at-append, count_at-change, sum_at-append, sum_at-change}
@@ -78,21 +78,21 @@ HasShares-none columns dims code old = record { counts = λ d. omega arith; sums
 
 -- the facts of one change more
 module _ (dims : List Dimension) (facts : List ExtendedFact) (change : ViewChange) (code : ℕ) (some : 1 ≤ change.facts) where
-  counts-more : (d : ℕ) → count_at (cells_of dims (region_at dims code)) (facts ++ facts_of change) d
+  counts-more : (d : ℕ) → count_at (cells_of dims (region_at dims code)) (facts ++ change_facts change) d
       ≡ count_at (cells_of dims (region_at dims code)) facts d + (if d == change.den then weight_at dims change code * change.facts else 0)
   counts-more d =
       let cells = cells_of dims (region_at dims code) in
-      count_at-append cells facts (facts_of change) d ∙ ap (λ n. count_at cells facts d + n) (count_at-change cells change d some)
+      count_at-append cells facts (change_facts change) d ∙ ap (λ n. count_at cells facts d + n) (count_at-change cells change d some)
 
-  sums-more : (k d : ℕ) → sum_at (cells_of dims (region_at dims code)) (facts ++ facts_of change) k d
+  sums-more : (k d : ℕ) → sum_at (cells_of dims (region_at dims code)) (facts ++ change_facts change) k d
       ≡ sum_at (cells_of dims (region_at dims code)) facts k d +ℤ (if d == change.den then pos (weight_at dims change code) *ℤ slice_index_or change.cols k (pos 0) else pos 0)
   sums-more k d =
       let cells = cells_of dims (region_at dims code) in
-      sum_at-append cells facts (facts_of change) k d ∙ ap (λ n. sum_at cells facts k d +ℤ n) (sum_at-change cells change d k)
+      sum_at-append cells facts (change_facts change) k d ∙ ap (λ n. sum_at cells facts k d +ℤ n) (sum_at-change cells change d k)
 
 -- with the share of a change more
 pub HasShares-next : (columns : ℕ) (dims : List Dimension) (facts : List ExtendedFact) (change : ViewChange) (code : ℕ) (old now new : TermList) → IsChange dims columns change → HasShares columns dims facts code old now
-    → AddsChange dims change code now new → HasShares columns dims (facts ++ facts_of change) code old new
+    → AddsChange dims change code now new → HasShares columns dims (facts ++ change_facts change) code old new
 HasShares-next columns dims facts change code old now new is before adds = record {
   counts = λ d. omega (arith, before.counts d, adds.counts d, counts-more dims facts change code is.facts d);
   sums = λ d k lt. omega (arith, ints, before.sums d k lt, adds.sums d k (omega (arith, is.width)), sums-more dims facts change code is.facts k d);
@@ -138,7 +138,7 @@ within-part s (negsuc n) part whole limit le before after = omega (arith, ints, 
 
 -- where what all first changes make fits, the next change fits what those before it have made
 pub FitsShares-change : (columns : ℕ) (dims : List Dimension) (put : Bool) (changes : List ViewChange) (n : ℕ) (change : ViewChange) (code : ℕ) (old now : TermList) → IsChange dims columns change
-    → facts_of_kind put (take (n + 1) changes) ≡ facts_of_kind put (take n changes) ++ facts_of change → FitsShares columns dims put changes code old → HasShares columns dims (facts_of_kind put (take n changes)) code old now
+    → facts_of_kind put (take (n + 1) changes) ≡ facts_of_kind put (take n changes) ++ change_facts change → FitsShares columns dims put changes code old → HasShares columns dims (facts_of_kind put (take n changes)) code old now
     → FitsChange columns dims change code now
 FitsShares-change columns dims put changes n change code old now is next fits has =
     let den = change.den in
@@ -163,7 +163,7 @@ FitsShares-change columns dims put changes n change code old now is next fits ha
 -- of facts whose share is being added, row by row
 module _ (columns : ℕ) (den facts : ℕ) (values : List ℤ) (old now : TermList) where
   -- the share of a row fits, where that of all rows does
-  pub FitsUnits-part : (before weight whole : ℕ) → length values + 1 ≡ columns → before + weight ≤ whole → IsWithin columns old.terms → FitsUnits old.terms den (whole * facts) whole values
+  pub FitsUnits-part : (before weight whole : ℕ) → length values + 1 ≡ columns → before + weight ≤ whole → IsWithinWide columns old.terms → FitsUnits old.terms den (whole * facts) whole values
       → AddsUnits old now den (before * facts) before values → FitsUnits now.terms den (weight * facts) weight values
   FitsUnits-part before weight whole width le within fits adds =
       let same : (den == den) ≡ true = grind (arith, nat_tests) in

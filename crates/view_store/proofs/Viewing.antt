@@ -5,7 +5,7 @@ use Rattle.std.specs.Map.{keys_of}
 use Rattle.std.proofs.lemmas.List.Elements.{All-head, All-tail}
 use Rattle.cube_model.specs.Tree.{Dimension}
 use Rattle.group_sum.specs.Terms.{TermList}
-use Rattle.staged_map.specs.Staged.{AreOfDifferentKeys, Entries, Places, PutsAll, Reserves, entry_of, value_at}
+use Rattle.staged_map.specs.Staged.{AreOfDifferentKeys, Entries, Places, PutsAll, Reserves, staged_entry, value_at}
 use Rattle.staged_map.proofs.Entries.{have_places-reserved}
 use Rattle.view_store.specs.declared.change.ViewChange.{ViewChange}
 use Rattle.view_store.specs.Changes.{AreWhole, HasRoomFor, IsMadeFor}
@@ -16,14 +16,14 @@ pub AreEntries-same : (columns : ℕ) (old new : Places TermList) → AreEntries
 AreEntries-same columns old new are same = record { least = are.least; most = are.most; each = λ code. rw (same code) (are.each code) }
 
 -- what is staged for a code is whole
-staged-whole : (columns : ℕ) (entries : Entries TermList) (code : ℕ) → AreWhole columns entries → IfSome (entry_of entries code) (λ o. IfSome o (IsEntry columns))
+staged-whole : (columns : ℕ) (entries : Entries TermList) (code : ℕ) → AreWhole columns entries → IfSome (staged_entry entries code) (λ o. IfSome o (IsEntry columns))
 staged-whole columns [] code whole = tt
 staged-whole columns (entry ∷ entries) code whole = by (code == entry.0) (All-head P entry entries whole) (staged-whole columns entries code (All-tail P entry entries whole))
   where
     P : ℕ × Option TermList → Type 0
     P e = IfSome e.1 (IsEntry columns)
 
-    by : (b : Bool) → IfSome entry.1 (IsEntry columns) → IfSome (entry_of entries code) (λ o. IfSome o (IsEntry columns)) → IfSome (if b then Some entry.1 else entry_of entries code) (λ o. IfSome o (IsEntry columns))
+    by : (b : Bool) → IfSome entry.1 (IsEntry columns) → IfSome (staged_entry entries code) (λ o. IfSome o (IsEntry columns)) → IfSome (if b then Some entry.1 else staged_entry entries code) (λ o. IfSome o (IsEntry columns))
     by true first rest = first
     by false first rest = rest
 
@@ -32,7 +32,7 @@ pub AreEntries-put : (columns : ℕ) (old new : Places TermList) (entries : Entr
 AreEntries-put columns old new entries are whole puts = record {
   least = are.least;
   most = are.most;
-  each = λ code. rw (puts.values code) (by (entry_of entries code) (value_at old code) (staged-whole columns entries code whole) (are.each code));
+  each = λ code. rw (puts.values code) (by (staged_entry entries code) (value_at old code) (staged-whole columns entries code whole) (are.each code));
 }
   where
     by : (o : Option (Option TermList)) (old : Option TermList) → IfSome o (λ p. IfSome p (IsEntry columns)) → IfSome old (IsEntry columns) → IfSome (unwrap_or o old) (IsEntry columns)

@@ -10,25 +10,25 @@ use Rattle.cube_model.specs.Tree.{Dimension}
 use Rattle.group_sum.specs.Merge.{FitsDifference, HasDifference, IsDifference}
 use Rattle.group_sum.specs.Terms.{AreTerms, TermList}
 use Rattle.region_algebra.specs.Space.{IsRegion}
-use Rattle.staged_map.specs.Staged.{AreOfDifferentKeys, Entries, PutsAll, entry_of, has_place, have_places, value_at}
+use Rattle.staged_map.specs.Staged.{AreOfDifferentKeys, Entries, PutsAll, has_place, have_places, staged_entry, value_at}
 use Rattle.view_store.specs.declared.change.ViewChange.{ViewChange}
 use Rattle.view_store.specs.Views.{IsEntry, ViewMap, ViewMaps, entry_at, is_in_view, no_terms, region_at}
 
 -- a fact of an extended database with the rows of a change, and these values; its id, of which views take no notice, is 0
-abbrev pub fact_with : ViewChange → List ℤ → ExtendedFact
-fact_with change values = record { id = 0; values = values; allocation = record { den = change.den; rows = change.rows } }
+abbrev pub change_fact : ViewChange → List ℤ → ExtendedFact
+change_fact change values = record { id = 0; values = values; allocation = record { den = change.den; rows = change.rows } }
 
 -- The facts that a change puts or takes away: as many as it says, with its rows. Only the sums of their values are
 -- given, so the first of them has these, and the others have 0 in every column.
-abbrev pub facts_of : ViewChange → List ExtendedFact
-facts_of change = fact_with change change.cols ∷ replicate (change.facts - 1) (fact_with change (replicate (length change.cols) (pos 0)))
+abbrev pub change_facts : ViewChange → List ExtendedFact
+change_facts change = change_fact change change.cols ∷ replicate (change.facts - 1) (change_fact change (replicate (length change.cols) (pos 0)))
 
 -- the facts that are taken away, and those that are put, in order
-abbrev pub taken : List ViewChange → List ExtendedFact
-taken changes = flat_map facts_of (filter (λ change. not change.put) changes)
+abbrev pub facts_taken_away : List ViewChange → List ExtendedFact
+facts_taken_away changes = flat_map change_facts (filter (λ change. not change.put) changes)
 
-abbrev pub given : List ViewChange → List ExtendedFact
-given changes = flat_map facts_of (filter (λ change. change.put) changes)
+abbrev pub facts_put : List ViewChange → List ExtendedFact
+facts_put changes = flat_map change_facts (filter (λ change. change.put) changes)
 
 -- The shares of facts in a region, merged: what the facts add up to there, over columns of which one is the count.
 abbrev pub shares : ℕ → List Dimension → List ExtendedFact → ℕ → TermList
@@ -47,18 +47,18 @@ pub record IsMadeAnew (old less more new : TermList) : Type 0 where
   pub put : new.terms ≡ together rest more
 
 -- no numerator passes WIDE
-pub record IsWithin (columns : ℕ) (terms : List Term) : Type 0 where
+pub record IsWithinWide (columns : ℕ) (terms : List Term) : Type 0 where
   pub counts : (d : ℕ) → count_of terms d ≤ WIDE
   pub sums : (d k : ℕ) → k + 1 < columns → nat_abs (numerator_of terms d (k + 1)) ≤ WIDE
 
 -- What is taken away is there, and no numerator passes WIDE on the way: not of what the first changes, however many, take away,
 -- nor of what is left without all that is taken away, nor of that with what the first changes put.
 pub record CanChange (dims : List Dimension) (changes : List ViewChange) (old : TermList) (code : ℕ) : Type 0 where
-  pub taken_within : (n : ℕ) → IsWithin old.columns (shares old.columns dims (taken (take n changes)) code).terms
-  pub there : HasDifference old (shares old.columns dims (taken changes) code)
-  pub left_within : FitsDifference old (shares old.columns dims (taken changes) code)
-  pub put_within : (rest : TermList) → AreTerms rest → IsDifference old (shares old.columns dims (taken changes) code) rest
-      → (n : ℕ) → IsWithin old.columns (together rest (shares old.columns dims (given (take n changes)) code))
+  pub taken_within : (n : ℕ) → IsWithinWide old.columns (shares old.columns dims (facts_taken_away (take n changes)) code).terms
+  pub there : HasDifference old (shares old.columns dims (facts_taken_away changes) code)
+  pub left_within : FitsDifference old (shares old.columns dims (facts_taken_away changes) code)
+  pub put_within : (rest : TermList) → AreTerms rest → IsDifference old (shares old.columns dims (facts_taken_away changes) code) rest
+      → (n : ℕ) → IsWithinWide old.columns (together rest (shares old.columns dims (facts_put (take n changes)) code))
 
 -- a change over columns: at least one fact, a denominator of at least 1, a value for each column but the count's, and cells of
 -- the space, which are those of a region; the weights add up to the denominator
@@ -84,7 +84,7 @@ pub record IsAfter (dims : List Dimension) (changes : List ViewChange) (old new 
   pub columns : new.columns ≡ old.columns
   pub depths : new.depths ≡ old.depths
   pub made : (code : ℕ) → is_in_view dims old.depths code ≡ true
-      → IsMadeAnew (entry_at old code) (shares old.columns dims (taken changes) code) (shares old.columns dims (given changes) code) (entry_at new code)
+      → IsMadeAnew (entry_at old code) (shares old.columns dims (facts_taken_away changes) code) (shares old.columns dims (facts_put changes) code) (entry_at new code)
   pub kept : (code : ℕ) → is_in_view dims old.depths code ≡ false → value_at new.entries code ≡ value_at old.entries code
 
 -- so of all views
@@ -95,7 +95,7 @@ pub record AreAfter (dims : List Dimension) (changes : List ViewChange) (old new
 
 -- the entry of a code once what is staged for a view is put
 abbrev pub staged_at : ViewMap → Entries TermList → ℕ → TermList
-staged_at view entries code = unwrap_or (unwrap_or (entry_of entries code) (value_at view.entries code)) (no_terms view.columns)
+staged_at view entries code = unwrap_or (unwrap_or (staged_entry entries code) (value_at view.entries code)) (no_terms view.columns)
 
 -- each that shall be an entry has the columns and a term
 abbrev pub AreWhole : ℕ → Entries TermList → Type 0
@@ -110,8 +110,8 @@ pub record HasRoomFor (view : ViewMap) (entries : Entries TermList) : Type 0 whe
 -- and it is what the changes make of the entries in the product of the cuts
 pub record IsMadeFor (dims : List Dimension) (changes : List ViewChange) (view : ViewMap) (entries : Entries TermList) : Type 0 where
   pub made : (code : ℕ) → is_in_view dims view.depths code ≡ true
-      → IsMadeAnew (entry_at view code) (shares view.columns dims (taken changes) code) (shares view.columns dims (given changes) code) (staged_at view entries code)
-  pub kept : (code : ℕ) → is_in_view dims view.depths code ≡ false → entry_of entries code ≡ None
+      → IsMadeAnew (entry_at view code) (shares view.columns dims (facts_taken_away changes) code) (shares view.columns dims (facts_put changes) code) (staged_at view entries code)
+  pub kept : (code : ℕ) → is_in_view dims view.depths code ≡ false → staged_entry entries code ≡ None
 
 -- what is staged for all views: there is room for each
 pub record HaveRooms (views : List ViewMap) (stage : List (Entries TermList)) : Type 0 where
@@ -140,8 +140,8 @@ pub record AreStaged (dims : List Dimension) (changes : List ViewChange) (views 
   pub room : HaveRooms views stage
   pub each : (v : ℕ) → IfSome (slice_get views v) (λ view. IfSome (slice_get stage v) (IsMadeFor dims changes view))
 
-abbrev pub IsStagedFor : List Dimension → List ViewChange → ViewMaps → List (Entries TermList) → Type 0
-IsStagedFor dims changes content stage = AreStaged dims changes content.views stage
+abbrev pub AreStagedFor : List Dimension → List ViewChange → ViewMaps → List (Entries TermList) → Type 0
+AreStagedFor dims changes content stage = AreStaged dims changes content.views stage
 
 -- two maps of one view with the same content; keys that had places have them
 pub record IsSameView (old new : ViewMap) : Type 0 where
@@ -155,6 +155,6 @@ pub record AreSame (old new : List ViewMap) : Type 0 where
   pub count : length new ≡ length old
   pub each : (v : ℕ) → IfSome (slice_get old v) (λ before. IfSome (slice_get new v) (IsSameView before))
 
-pub record HaveSameContent (old new : ViewMaps) : Type 0 where
+pub record HaveSameViews (old new : ViewMaps) : Type 0 where
   pub columns : new.columns ≡ old.columns
   pub views : AreSame old.views new.views

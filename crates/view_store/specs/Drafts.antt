@@ -10,7 +10,7 @@ use Rattle.group_sum.specs.Merge.{FitsDifference, HasDifference, IsDifference}
 use Rattle.group_sum.specs.Terms.{AddsUnits, FitsUnits, TermList}
 use Rattle.staged_map.specs.Staged.{Entries, Places, value_at}
 use Rattle.view_store.specs.declared.change.ViewChange.{ViewChange}
-use Rattle.view_store.specs.Changes.{IsMadeAnew, IsWithin, facts_of, given, shares, taken}
+use Rattle.view_store.specs.Changes.{IsMadeAnew, IsWithinWide, change_facts, facts_put, facts_taken_away, shares}
 use Rattle.view_store.specs.Views.{IsOver, ViewMap, entry_at, held_at, is_in_view, region_at}
 
 -- the draft at a code: where there is none yet, it is the entry
@@ -27,7 +27,7 @@ weight_at dims change code = weight_inside (cells_of dims (region_at dims code))
 
 -- the draft at a code is within the limit, and stays there with the share of a change
 pub record FitsChange (columns : ℕ) (dims : List Dimension) (change : ViewChange) (code : ℕ) (draft : TermList) : Type 0 where
-  pub held : IsWithin columns draft.terms
+  pub held : IsWithinWide columns draft.terms
   pub share : FitsUnits draft.terms change.den (weight_at dims change code * change.facts) (weight_at dims change code) change.cols
 
 -- the share of a change was added to the draft of a code
@@ -35,7 +35,7 @@ abbrev pub AddsChange : List Dimension → ViewChange → ℕ → TermList → T
 AddsChange dims change code old new = AddsUnits old new change.den (weight_at dims change code * change.facts) (weight_at dims change code) change.cols
 
 -- a code has got a draft: these terms, with the share of a row of a change
-pub record Begins (columns : ℕ) (terms : TermList) (change : ViewChange) (code weight : ℕ) (old new : Places TermList) : Type 0 where
+pub record BeginsDraft (columns : ℕ) (terms : TermList) (change : ViewChange) (code weight : ℕ) (old new : Places TermList) : Type 0 where
   pub share : AddsUnits terms (held_at columns new code) change.den (weight * change.facts) weight change.cols
   pub there : IfSome (value_at new code) (IsOver columns)
   pub some : is_some (value_at new code) ≡ true
@@ -48,12 +48,12 @@ pub record AddsRow (columns : ℕ) (entries : Places TermList) (change : ViewCha
   pub over : AreOver columns new
 
 -- a change puts, or takes away
-abbrev pub is_of_kind : Bool → ViewChange → Bool
-is_of_kind put change = if put then change.put else not change.put
+abbrev pub puts_as : Bool → ViewChange → Bool
+puts_as put change = if put then change.put else not change.put
 
 -- the facts of the changes that put, or of those that take away
 abbrev pub facts_of_kind : Bool → List ViewChange → List ExtendedFact
-facts_of_kind put changes = flat_map facts_of (filter (is_of_kind put) changes)
+facts_of_kind put changes = flat_map change_facts (filter (puts_as put) changes)
 
 -- with what facts add up to in the region of a code, at every denominator
 pub record HasShares (columns : ℕ) (dims : List Dimension) (facts : List ExtendedFact) (code : ℕ) (old new : TermList) : Type 0 where
@@ -81,14 +81,14 @@ pub record AreWithout (columns : ℕ) (entries taken rests : Places TermList) : 
 
 -- of the entries of a view, what is left without the shares taken away
 pub record AreLeftOver (dims : List Dimension) (changes : List ViewChange) (view : ViewMap) (rests : Places TermList) : Type 0 where
-  pub left : (code : ℕ) → is_in_view dims view.depths code ≡ true → IsDifference (entry_at view code) (shares view.columns dims (taken changes) code) (draft_at view.columns view.entries rests code)
+  pub left : (code : ℕ) → is_in_view dims view.depths code ≡ true → IsDifference (entry_at view code) (shares view.columns dims (facts_taken_away changes) code) (draft_at view.columns view.entries rests code)
   pub keys : KeepsToView dims view.depths [] rests
   pub over : AreOver view.columns rests
 
 -- and what the changes make of them
 pub record AreRemade (dims : List Dimension) (changes : List ViewChange) (view : ViewMap) (drafts : Places TermList) : Type 0 where
   pub made : (code : ℕ) → is_in_view dims view.depths code ≡ true
-      → IsMadeAnew (entry_at view code) (shares view.columns dims (taken changes) code) (shares view.columns dims (given changes) code) (draft_at view.columns view.entries drafts code)
+      → IsMadeAnew (entry_at view code) (shares view.columns dims (facts_taken_away changes) code) (shares view.columns dims (facts_put changes) code) (draft_at view.columns view.entries drafts code)
   pub keys : KeepsToView dims view.depths [] drafts
   pub over : AreOver view.columns drafts
 
@@ -98,5 +98,5 @@ kept None = None
 kept (Some list) = if length list.terms == 0 then None else Some list
 
 -- so for each of these codes
-abbrev pub kept_of : Places TermList → List ℕ → Entries TermList
-kept_of drafts codes = map (λ code. (code, kept (value_at drafts code))) codes
+abbrev pub kept_drafts : Places TermList → List ℕ → Entries TermList
+kept_drafts drafts codes = map (λ code. (code, kept (value_at drafts code))) codes

@@ -4,7 +4,7 @@ use Rattle.cube_model.specs.Allocation.{ExtendedFact}
 use Rattle.cube_model.specs.Answer.{answer, count_at, sum_at}
 use Rattle.cube_model.specs.Tree.{Dimension}
 use Rattle.view_store.specs.declared.change.ViewChange.{ViewChange}
-use Rattle.view_store.specs.Changes.{facts_of}
+use Rattle.view_store.specs.Changes.{change_facts}
 use Rattle.view_store.specs.Views.{IsViewOf, ViewMap, entry_at, is_in_view, region_at}
 
 -- Each entry in the product of the cuts is the answer of the facts there, and there are no others. All are over the columns.
@@ -18,7 +18,7 @@ pub record AddsFacts (dims : List Dimension) (change : ViewChange) (old new : Vi
   pub columns : new.columns ≡ old.columns
   pub depths : new.depths ≡ old.depths
   pub over : IsViewOf dims new
-  pub facts : (facts : List ExtendedFact) → IsViewOfFacts dims facts old → IsViewOfFacts dims (facts ++ facts_of change) new
+  pub facts : (facts : List ExtendedFact) → IsViewOfFacts dims facts old → IsViewOfFacts dims (facts ++ change_facts change) new
 
 -- Facts are those before, less those taken away and with those given: inside any cells they add up to as much, at every denominator.
 pub record FollowBy (before taken given after : List ExtendedFact) : Type 0 where

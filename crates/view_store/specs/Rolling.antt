@@ -9,7 +9,7 @@ use Rattle.cube_model.specs.Tree.{Dimension, entry_of}
 use Rattle.group_sum.specs.Terms.{TermList}
 use Rattle.region_algebra.specs.Space.{region_total}
 use Rattle.staged_map.specs.Staged.{Places, value_at}
-use Rattle.view_store.specs.Changes.{IsWithin}
+use Rattle.view_store.specs.Changes.{IsWithinWide}
 use Rattle.view_store.specs.Views.{ViewMap, ViewMaps, codes_of, held_at, listed, region_at}
 
 -- a view serves a region where in every dimension the depth of the region's node is at most the view's
@@ -23,12 +23,12 @@ abbrev pub is_below : List Dimension → List ℕ → ℕ → Bool
 is_below dims region code = is_inside dims region (region_at dims code)
 
 -- the terms that are held at those of some codes whose regions lie under a region
-abbrev pub terms_below : ℕ → List Dimension → List ℕ → Places TermList → List ℕ → List (List Term)
-terms_below columns dims region entries codes = map (λ code. (held_at columns entries code).terms) (filter (is_below dims region) codes)
+abbrev pub term_lists_below : ℕ → List Dimension → List ℕ → Places TermList → List ℕ → List (List Term)
+term_lists_below columns dims region entries codes = map (λ code. (held_at columns entries code).terms) (filter (is_below dims region) codes)
 
 -- no numerator of any first of them merged passes WIDE
 abbrev pub FitsBelow : ℕ → List Dimension → List ℕ → Places TermList → List ℕ → Type 0
-FitsBelow columns dims region entries codes = (n : ℕ) → IsWithin columns (merge_all (columns - 1) (take n (terms_below columns dims region entries codes)))
+FitsBelow columns dims region entries codes = (n : ℕ) → IsWithinWide columns (merge_all (columns - 1) (take n (term_lists_below columns dims region entries codes)))
 
 -- codes are those of regions, and something is held at each
 abbrev pub AreCodes : List Dimension → Places TermList → List ℕ → Type 0
@@ -36,7 +36,7 @@ AreCodes dims entries codes = All (λ code. (code < region_total dims) × (is_so
 
 -- the terms of the entries under a region, ascending by code
 abbrev pub entries_under : List Dimension → ViewMap → List ℕ → List (List Term)
-entries_under dims view region = terms_below view.columns dims region view.entries (codes_of dims view)
+entries_under dims view region = term_lists_below view.columns dims region view.entries (codes_of dims view)
 
 -- merged
 abbrev pub rolled_up : List Dimension → ViewMap → List ℕ → List Term
@@ -48,7 +48,7 @@ serving dims content region = find (λ view. serves dims view.depths region) con
 
 -- no numerator of any first of these entries merged passes WIDE
 abbrev pub FitsUnder : List Dimension → List ℕ → ViewMap → Type 0
-FitsUnder dims region view = (n : ℕ) → IsWithin view.columns (merge_all (view.columns - 1) (take n (entries_under dims view region)))
+FitsUnder dims region view = (n : ℕ) → IsWithinWide view.columns (merge_all (view.columns - 1) (take n (entries_under dims view region)))
 
 -- those that a view lists whose regions lie under a region
 abbrev pub listed_under : List Dimension → ViewMap → List ℕ → List (List ℕ × TermList)

@@ -6,9 +6,9 @@ ghost use Rattle.cube_model.specs.Limits.{MAX_COLS};
 ghost use Rattle.group_sum.specs.Merge.{FitsDifference, HasDifference, IsDifference};
 ghost use Rattle.group_sum.specs.Terms.{AddsUnits, AreTerms, FitsUnits};
 ghost use Rattle.staged_map.specs.Staged.{AreKeys, AreOfDifferentKeys, Reserves, Sets, value_at};
-ghost use Rattle.view_store.specs.Changes.{AreWhole, FitsView, IsChange, IsMadeFor, taken};
+ghost use Rattle.view_store.specs.Changes.{AreWhole, FitsView, IsChange, IsMadeFor, facts_taken_away};
 ghost use Rattle.view_store.specs.Views.{AreEntries, held_at, is_in_view, IsOver, no_terms};
-ghost use Rattle.view_store.specs.Drafts.{AddsChange, AddsRow, AreLeftOver, AreOver, AreRemade, AreWithout, Begins, CanTake, FitsChange, FitsShares, HasShares, KeepsToView, draft_at, facts_of_kind, kept, kept_of};
+ghost use Rattle.view_store.specs.Drafts.{AddsChange, AddsRow, AreLeftOver, AreOver, AreRemade, AreWithout, BeginsDraft, CanTake, FitsChange, FitsShares, HasShares, KeepsToView, draft_at, facts_of_kind, kept, kept_drafts};
 
 use crate::ViewChange;
 use crate::cut::{code_over, cut_code};
@@ -73,7 +73,7 @@ fn begin(
     requires width { length change.now.cols + 1 ≡ columns }
     requires entries { AreOver columns entries.now }
     requires within { FitsUnits (held_at columns entries.now code).terms change.now.den (weight * change.now.facts) weight change.now.cols }
-    ensures begins { OnOk result (Begins columns (held_at columns entries.now code) change.now code weight drafts.old drafts.new) }
+    ensures begins { OnOk result (BeginsDraft columns (held_at columns entries.now code) change.now code weight drafts.old drafts.new) }
     ensures same { OnErr result ((k : ℕ) → value_at drafts.new k ≡ value_at drafts.old k) }
 {
     let mut terms = copy_or_none(alloc, columns, entries.get(code))?;
@@ -297,7 +297,7 @@ pub fn entries_of(
     codes: &[u64],
 ) -> Result<Vec<(u64, Option<Terms>)>, Memory>
     requires { AreKeys drafts codes.now }
-    ensures { IfOk result (λ entries. entries.items ≡ kept_of drafts codes.now) }
+    ensures { IfOk result (λ entries. entries.items ≡ kept_drafts drafts codes.now) }
 {
     let mut entries = Vec::with_capacity(alloc, codes.len())?;
     for code in codes {
@@ -320,7 +320,7 @@ fn taken_away(
     requires depths { length depths.now ≡ length space.now }
     requires changes { All (IsChange space.now columns) changes.now }
     requires within { (code : ℕ) → is_in_view space.now depths.now code ≡ true → FitsShares columns space.now false changes.now code (no_terms columns) }
-    ensures shares { IfOk result (λ parts. (code : ℕ) → is_in_view space.now depths.now code ≡ true → HasShares columns space.now (taken changes.now) code (no_terms columns) (held_at columns parts code)) }
+    ensures shares { IfOk result (λ parts. (code : ℕ) → is_in_view space.now depths.now code ≡ true → HasShares columns space.now (facts_taken_away changes.now) code (no_terms columns) (held_at columns parts code)) }
     ensures keys { IfOk result (KeepsToView space.now depths.now []) }
     ensures over { IfOk result (AreOver columns) }
 {

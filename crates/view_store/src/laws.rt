@@ -10,9 +10,9 @@ ghost use Rattle.region_algebra.specs.Examples.{small_space};
 ghost use Rattle.region_algebra.specs.Space.{IsRegion};
 ghost use Rattle.region_algebra.specs.declared.view_def.ViewDef.{ViewDef};
 ghost use Rattle.view_store.specs.declared.change.ViewChange.{ViewChange};
-ghost use Rattle.view_store.specs.Changes.{IsAfter, given, taken};
+ghost use Rattle.view_store.specs.Changes.{IsAfter, facts_put, facts_taken_away};
 ghost use Rattle.view_store.specs.Cuts.{cut_regions, entries_of, reaches_cuts};
-ghost use Rattle.view_store.specs.Examples.{entry, one_by_one, put_at, small_view, three_at_once};
+ghost use Rattle.view_store.specs.Examples.{one_by_one, put_at, small_entry, small_view, three_at_once};
 ghost use Rattle.view_store.specs.Facts.{FollowBy, IsViewOfFacts};
 ghost use Rattle.view_store.specs.Rolling.{rolled_up, serves};
 ghost use Rattle.view_store.specs.Views.{IsViewOf, ViewMap, is_in_view, listed, view_of};
@@ -22,7 +22,7 @@ ghost use Rattle.view_store.specs.Views.{IsViewOf, ViewMap, is_in_view, listed, 
 pub fn views_follow_their_facts()
     ensures none { (dims : List Dimension) (columns : ℕ) (def : ViewDef) → IsViewOfFacts dims [] (view_of columns def) }
     ensures kept { (dims : List Dimension) (changes : List ViewChange) (old new : ViewMap) (before after : List ExtendedFact)
-        → IsAfter dims changes old new → IsViewOfFacts dims before old → FollowBy before (taken changes) (given changes) after → IsViewOfFacts dims after new }
+        → IsAfter dims changes old new → IsViewOfFacts dims before old → FollowBy before (facts_taken_away changes) (facts_put changes) after → IsViewOfFacts dims after new }
 {}
 
 /// Where the entries of a view are the answers of facts, what the view makes of a region that it serves is the answer of the
@@ -52,7 +52,7 @@ pub fn worked_views()
     ensures met { cut_regions small_space (1 ∷ 0 ∷ []) ≡ (1 ∷ 0 ∷ []) ∷ (4 ∷ 0 ∷ []) ∷ (6 ∷ 0 ∷ []) ∷ [] }
     ensures served { serves small_space (1 ∷ 0 ∷ []) (0 ∷ 0 ∷ []) ≡ true }
     ensures too_deep { serves small_space (1 ∷ 0 ∷ []) (1 ∷ 1 ∷ []) ≡ false }
-    ensures listed { listed small_space small_view ≡ ((1 ∷ 0 ∷ []), entry 1 2 (pos 400)) ∷ ((6 ∷ 0 ∷ []), entry 3 1 (pos 200)) ∷ [] }
+    ensures listed { listed small_space small_view ≡ ((1 ∷ 0 ∷ []), small_entry 1 2 (pos 400)) ∷ ((6 ∷ 0 ∷ []), small_entry 3 1 (pos 200)) ∷ [] }
     ensures whole { rolled_up small_space small_view (0 ∷ 0 ∷ []) ≡ one_sum 1 2 (pos 400) ∷ one_sum 3 1 (pos 200) ∷ [] }
     ensures part { rolled_up small_space small_view (1 ∷ 0 ∷ []) ≡ one_sum 1 2 (pos 400) ∷ [] }
     ensures nothing { rolled_up small_space small_view (4 ∷ 0 ∷ []) ≡ [] }
@@ -62,8 +62,8 @@ pub fn worked_views()
 /// A change of three facts that was worked out by hand: two thirds of each lie in cell 0, and a third in cell 2. Put at once they
 /// add up to what they do one after another, in the regions of several cuts; they take nothing away.
 pub fn worked_changes()
-    ensures facts { length (given three_at_once) ≡ 3 }
-    ensures nothing_taken { taken three_at_once ≡ [] }
+    ensures facts { length (facts_put three_at_once) ≡ 3 }
+    ensures nothing_taken { facts_taken_away three_at_once ≡ [] }
     ensures at_once { map (put_at three_at_once) (3 ∷ 7 ∷ 10 ∷ 12 ∷ []) ≡ (one_sum 3 9 (pos 1830) ∷ []) ∷ (one_sum 3 6 (pos 1220) ∷ []) ∷ (one_sum 3 3 (pos 610) ∷ []) ∷ [] ∷ [] }
     ensures one_by_one { map (put_at one_by_one) (3 ∷ 7 ∷ 10 ∷ 12 ∷ []) ≡ map (put_at three_at_once) (3 ∷ 7 ∷ 10 ∷ 12 ∷ []) }
 {}

@@ -9,7 +9,7 @@ ghost use Rattle.region_algebra.specs.Space.{IsRegion, region_total};
 ghost use Rattle.staged_map.specs.Staged.{PutsAll, value_at};
 ghost use Rattle.view_store.specs.Changes.{FitsView, HasRoomFor, IsMadeFor, IsSameView};
 ghost use Rattle.view_store.specs.Facts.{AddsFacts};
-ghost use Rattle.view_store.specs.Rolling.{AreCodes, FitsBelow, FitsUnder, has_depths, is_below, listed_under, rolled_up, serves, terms_below};
+ghost use Rattle.view_store.specs.Rolling.{AreCodes, FitsBelow, FitsUnder, has_depths, is_below, listed_under, rolled_up, serves, term_lists_below};
 ghost use Rattle.view_store.specs.Views.{AreEntries, IsEntry, IsViewOf, listed, without_entries};
 
 use crate::ViewChange;
@@ -227,7 +227,7 @@ fn merge_below(
     requires entries { AreEntries columns entries.now }
     requires codes { AreCodes space.now entries.now codes.now }
     requires within { FitsBelow columns space.now r entries.now codes.now }
-    ensures { IfOk result (λ terms. terms ≡ record { columns = columns; terms = merge_all (columns - 1) (terms_below columns space.now r entries.now codes.now) }) }
+    ensures { IfOk result (λ terms. terms ≡ record { columns = columns; terms = merge_all (columns - 1) (term_lists_below columns space.now r entries.now codes.now) }) }
 {
     let mut all = Terms::empty(alloc, columns);
     for code in codes {

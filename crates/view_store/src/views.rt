@@ -6,7 +6,7 @@ ghost use Rattle.cube_model.specs.Tree.{Dimension};
 ghost use Rattle.region_algebra.specs.Space.{IsRegion, code_of};
 ghost use Rattle.staged_map.specs.Staged.{value_at};
 ghost use Rattle.view_store.specs.declared.change.ViewChange.{ViewChange};
-ghost use Rattle.view_store.specs.Changes.{AreAfter, AreAllSet, AreSame, AreSet, AreStaged, FitsView, FitsViews, HaveRooms, HaveRoomFor, HaveSameContent, IsStagedFor};
+ghost use Rattle.view_store.specs.Changes.{AreAfter, AreAllSet, AreSame, AreSet, AreStaged, FitsView, FitsViews, HaveRooms, HaveRoomFor, HaveSameViews, AreStagedFor};
 ghost use Rattle.view_store.specs.Rolling.{FitsUnder, listed_under, rolled_up, serving, view_with};
 ghost use Rattle.view_store.specs.Views.{AreViewsOf, IsEntry, IsViewOf, listed, view_of, without_entries};
 
@@ -121,8 +121,8 @@ impl Views {
     pub fn stage(&mut self, space: &Space, changes: &[ViewChange]) -> Result<ViewStage, Memory>
         requires views { AreViewsOf space.now self.old }
         requires changes { FitsViews space.now changes.now self.old }
-        ensures same { HaveSameContent self.old self.new }
-        ensures staged { IfOk result (IsStagedFor space.now changes.now self.new) }
+        ensures same { HaveSameViews self.old self.new }
+        ensures staged { IfOk result (AreStagedFor space.now changes.now self.new) }
     {
         let stages = stage_all(self.alloc, &mut self.views, space, changes)?;
         Ok(ViewStage::of_views(PlainList::from(stages)))
@@ -134,7 +134,7 @@ impl Views {
     pub fn install(&mut self, s: ViewStage)
         requires { HaveRoomFor self.old s }
         ensures sets { AreSet self.old s self.new }
-        ensures after { (dims : List Dimension) (changes : List ViewChange) → IsStagedFor dims changes self.old s → AreAfter dims changes self.old self.new }
+        ensures after { (dims : List Dimension) (changes : List ViewChange) → AreStagedFor dims changes self.old s → AreAfter dims changes self.old self.new }
     {
         install_all(&mut self.views, s.into_views());
     }

@@ -9,7 +9,7 @@ use Rattle.std.proofs.Math.Nat.{mul-le-mul_right, mul_comm}
 use Rattle.cube_model.specs.Limits.{MAX_VALUE}
 use Rattle.world_law.specs.declared.walk.Found.{Found}
 use Rattle.world_law.specs.Limits.{MAX_MASS}
-use Rattle.world_law.specs.Choices.{AddsWorlds, AreSmall, Choice, HasRoom, IsWithin, gain, heft, ways, whole, yield}
+use Rattle.world_law.specs.Choices.{AddsWorlds, AreSmall, Choice, HasRoom, IsBoundedByMass, gain, heft, ways, whole, yield}
 use Rattle.world_law.proofs.Products.{scaled-by_none, scaled-none, scaled-sum, scaled-twice, sum-scaled}
 use Rattle.world_law.proofs.Totals.{total_by-append}
 
@@ -70,7 +70,7 @@ some_right h zero some = absurd (omega arith)
 some_right h (suc m) some = omega arith
 
 -- room for the worlds of the others once a row is chosen
-pub room_next : (c : Choice) (cs : List Choice) (j w : ℕ) (s : ℤ) (old found : Found) (d : ℕ × ℤ) → HasRoom (c ∷ cs) w s old → AddsWorlds (take j c ∷ cs) w s old found → IsWithin found → j < length c
+pub room_next : (c : Choice) (cs : List Choice) (j w : ℕ) (s : ℤ) (old found : Found) (d : ℕ × ℤ) → HasRoom (c ∷ cs) w s old → AddsWorlds (take j c ∷ cs) w s old found → IsBoundedByMass found → j < length c
     → HasRoom cs (w * (get_or c j d).0) (s +ℤ (get_or c j d).1) found
 room_next c cs j w s old found d room adds within inside = record {
   worlds = omega (arith, room.worlds, adds.worlds, ap (λ n. n * ways cs) (length-take-le j c (omega arith)), mul-le-mul_right (ways cs) inside);

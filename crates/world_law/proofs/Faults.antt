@@ -8,7 +8,7 @@ use Rattle.region_algebra.specs.Space.{product}
 use Rattle.world_law.specs.declared.placed.Placed.{Placed}
 use Rattle.world_law.specs.Law.{IsShared}
 use Rattle.world_law.specs.Limits.{MAX_WORLDS}
-use Rattle.world_law.specs.Placed.{dens, facts_of, product_above, row_counts}
+use Rattle.world_law.specs.Placed.{dens, placed_facts, product_above, row_counts}
 use Rattle.world_law.specs.Worlds.{mass, world_count}
 use Rattle.world_law.proofs.Expectation.{mass-product, world_count-product}
 use Rattle.world_law.proofs.Judging.{product_some, product_within}
@@ -25,12 +25,12 @@ module _ (f : Placed → ℕ) where
       let not : nat_lt most (p * f x) ≡ false = grind (arith, nat_tests) in
       rw not (product_none most (p * f x) placed others (omega (arith, within)))
 
-pub few_worlds : (placed : List Placed) → All (λ p. 1 ≤ length p.rows) placed → (product_above MAX_WORLDS 1 (row_counts placed) ≡ None) ↔ (world_count (facts_of placed) ≤ MAX_WORLDS)
+pub few_worlds : (placed : List Placed) → All (λ p. 1 ≤ length p.rows) placed → (product_above MAX_WORLDS 1 (row_counts placed) ≡ None) ↔ (world_count (placed_facts placed) ≤ MAX_WORLDS)
 few_worlds placed some =
-    let count = world_count-product (facts_of placed) ∙ ap product (counts_same placed) in (
+    let count = world_count-product (placed_facts placed) ∙ ap product (counts_same placed) in (
       λ none. omega (arith, count, product_within MAX_WORLDS 1 (row_counts placed) (omega arith) none),
       λ few. product_none (λ p. length p.rows) MAX_WORLDS 1 placed some (omega (arith, count, few)),
     )
 
-pub mass_of_dens : (placed : List Placed) → All IsShared (facts_of placed) → product (dens placed) ≡ mass (facts_of placed)
-mass_of_dens placed are = sym (mass-product (facts_of placed) are ∙ ap product (dens_same placed))
+pub mass_of_dens : (placed : List Placed) → All IsShared (placed_facts placed) → product (dens placed) ≡ mass (placed_facts placed)
+mass_of_dens placed are = sym (mass-product (placed_facts placed) are ∙ ap product (dens_same placed))

@@ -4,13 +4,13 @@ use Rattle.cube_model.specs.Allocation.{ExtendedFact}
 use Rattle.cube_model.specs.Answer.{weight_inside}
 use Rattle.cube_model.specs.Cells.{cells_of}
 use Rattle.cube_model.specs.Tree.{Dimension}
-use Rattle.world_law.specs.Placed.{facts_of, placed_of}
+use Rattle.world_law.specs.Placed.{placed_facts, placed_of}
 use Rattle.world_law.specs.Worlds.{column_of, mass, total, world_count, worlds}
 use Rattle.world_law.proofs.Recurrences.{mass-cons, total-cons, weights, world_count-cons}
 
 -- facts without their ids
 abbrev pub nameless : List ExtendedFact → List ExtendedFact
-nameless facts = facts_of (map placed_of facts)
+nameless facts = placed_facts (map placed_of facts)
 
 pub world_count-nameless : (facts : List ExtendedFact) → world_count (nameless facts) ≡ world_count facts
 unfolding worlds

@@ -11,7 +11,7 @@ use Rattle.cube_model.specs.Answer.{total_by, weight_inside}
 use Rattle.cube_model.specs.Cells.{cells_of, is_among}
 use Rattle.cube_model.specs.Tree.{Dimension}
 use Rattle.world_law.specs.Choices.{own}
-use Rattle.world_law.specs.Worlds.{World, column_of, mass, sum_in, total, with_fact, world_count, worlds}
+use Rattle.world_law.specs.Worlds.{World, column_of, mass, total, with_fact, world_count, world_sum, worlds}
 use Rattle.world_law.proofs.Products.{scaled-by_none, scaled-none, scaled-sum, scaled-twice, sum-scaled}
 use Rattle.world_law.proofs.Totals.{sum_by-flat_map, total_by-either, total_by-flat_map}
 
@@ -59,7 +59,7 @@ mass-cons e rest = sum_by-flat_map (λ (w : World). w.weight) (λ row. map (with
 module _ (cells : List ℕ) (column : ℕ) where
   -- what a world adds to a total
   abbrev pub share : World → ℤ
-  share w = sum_in cells column w *ℤ pos w.weight
+  share w = world_sum cells column w *ℤ pos w.weight
 
   -- one world more
   stepped : (x s t : ℤ) (w m n : ℕ) → (x +ℤ s) *ℤ pos (w * n) +ℤ (x *ℤ pos m +ℤ t) *ℤ pos n ≡ (x *ℤ pos (w + m) +ℤ (s *ℤ pos w +ℤ t)) *ℤ pos n
@@ -74,8 +74,8 @@ module _ (cells : List ℕ) (column : ℕ) where
       let m = sum_by (λ (w : World). w.weight) ws in
       let t = total_by share ws in
       ap (λ z. z *ℤ pos (w.weight * row.1) +ℤ total_by share (map (with_fact e row) ws)) (total_by-either (is_among cells row.0) (λ s. column_of column s.0) (e, row.0) (filter (λ s. is_among cells s.1) w.standing))
-      ∙ ap (λ z. (own cells column e row.0 +ℤ sum_in cells column w) *ℤ pos (w.weight * row.1) +ℤ z) (one_total e row ws)
-      ∙ stepped (own cells column e row.0) (sum_in cells column w) t w.weight m row.1
+      ∙ ap (λ z. (own cells column e row.0 +ℤ world_sum cells column w) *ℤ pos (w.weight * row.1) +ℤ z) (one_total e row ws)
+      ∙ stepped (own cells column e row.0) (world_sum cells column w) t w.weight m row.1
       ∙ ap (λ k. (own cells column e row.0 *ℤ pos k +ℤ total_by share (w ∷ ws)) *ℤ pos row.1) (sym (sum_by-cons (λ (w : World). w.weight) w ws))
 
   -- a row more, which is inside or not

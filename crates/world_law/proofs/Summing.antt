@@ -6,16 +6,16 @@ use Rattle.std.proofs.lemmas.Bool.{cases_eq}
 use Rattle.std.proofs.lemmas.List.FromFn.{map-range_with_len_more}
 use Rattle.cube_model.specs.Tree.{Dimension}
 use Rattle.world_law.specs.declared.placed.Placed.{Placed}
-use Rattle.world_law.specs.Placed.{IsPlaced, facts_of}
+use Rattle.world_law.specs.Placed.{IsPlacedFact, placed_facts}
 use Rattle.world_law.specs.Worlds.{mass, total, world_count, worlds}
 use Rattle.world_law.proofs.Placing.{none_placed}
 
 -- The columns so far were walked through: each tells the number of worlds and their mass, and its own total.
 pub record SumsTo (dims : List Dimension) (region : List ℕ) (placed : List Placed) (column count weight : ℕ) (totals : List ℤ) : Type 0 where
   pub start : column ≡ 0 → (count ≡ 1) × (weight ≡ 1)
-  pub worlds_are : 1 ≤ column → count ≡ world_count (facts_of placed)
-  pub mass_is : 1 ≤ column → weight ≡ mass (facts_of placed)
-  pub totals_are : totals ≡ map (λ k. total dims region k (facts_of placed)) (range_with_len 0 column)
+  pub worlds_are : 1 ≤ column → count ≡ world_count (placed_facts placed)
+  pub mass_is : 1 ≤ column → weight ≡ mass (placed_facts placed)
+  pub totals_are : totals ≡ map (λ k. total dims region k (placed_facts placed)) (range_with_len 0 column)
 
 module _ (dims : List Dimension) (region : List ℕ) (placed : List Placed) where
   pub sums_none : (totals : List ℤ) → totals ≡ [] → SumsTo dims region placed 0 1 1 totals
@@ -27,10 +27,10 @@ module _ (dims : List Dimension) (region : List ℕ) (placed : List Placed) wher
   }
 
   -- one column more
-  pub sums_next : (column count weight c w : ℕ) (totals new : List ℤ) (t : ℤ) → SumsTo dims region placed column c w totals → count ≡ world_count (facts_of placed) → weight ≡ mass (facts_of placed)
-      → t ≡ total dims region column (facts_of placed) → new ≡ totals ++ t ∷ [] → SumsTo dims region placed (column + 1) count weight new
+  pub sums_next : (column count weight c w : ℕ) (totals new : List ℤ) (t : ℤ) → SumsTo dims region placed column c w totals → count ≡ world_count (placed_facts placed) → weight ≡ mass (placed_facts placed)
+      → t ≡ total dims region column (placed_facts placed) → new ≡ totals ++ t ∷ [] → SumsTo dims region placed (column + 1) count weight new
   sums_next column count weight c w totals new t before counted weighed summed pushed =
-      let total_at : ℕ → ℤ = λ k. total dims region k (facts_of placed) in
+      let total_at : ℕ → ℤ = λ k. total dims region k (placed_facts placed) in
       record {
         start = λ is. absurd (omega (arith, is));
         worlds_are = λ some. counted;
@@ -41,22 +41,22 @@ module _ (dims : List Dimension) (region : List ℕ) (placed : List Placed) wher
       }
 
   -- after all columns
-  module _ (columns column count weight : ℕ) (totals : List ℤ) (are : All (IsPlaced dims columns) placed) (sums : SumsTo dims region placed column count weight totals) (end : columns ≤ column) (within : column ≤ columns) where
-    pub sums_count : count ≡ world_count (facts_of placed)
+  module _ (columns column count weight : ℕ) (totals : List ℤ) (are : All (IsPlacedFact dims columns) placed) (sums : SumsTo dims region placed column count weight totals) (end : columns ≤ column) (within : column ≤ columns) where
+    pub sums_count : count ≡ world_count (placed_facts placed)
     unfolding worlds
     sums_count = elim (cases_eq column 0) [
-      | inl none ↦ (sums.start none).0 ∙ sym (ap (λ (ps : List Placed). world_count (facts_of ps)) (none_placed dims columns placed are (omega (arith, none, end))))
+      | inl none ↦ (sums.start none).0 ∙ sym (ap (λ (ps : List Placed). world_count (placed_facts ps)) (none_placed dims columns placed are (omega (arith, none, end))))
       | inr some ↦ sums.worlds_are (omega (arith, some))
     ]
 
-    pub sums_mass : weight ≡ mass (facts_of placed)
+    pub sums_mass : weight ≡ mass (placed_facts placed)
     unfolding worlds
     sums_mass = elim (cases_eq column 0) [
-      | inl none ↦ (sums.start none).1 ∙ sym (ap (λ (ps : List Placed). mass (facts_of ps)) (none_placed dims columns placed are (omega (arith, none, end))))
+      | inl none ↦ (sums.start none).1 ∙ sym (ap (λ (ps : List Placed). mass (placed_facts ps)) (none_placed dims columns placed are (omega (arith, none, end))))
       | inr some ↦ sums.mass_is (omega (arith, some))
     ]
 
-    pub sums_totals : totals ≡ map (λ k. total dims region k (facts_of placed)) (range_with_len 0 columns)
+    pub sums_totals : totals ≡ map (λ k. total dims region k (placed_facts placed)) (range_with_len 0 columns)
     sums_totals =
         let all : column ≡ columns = omega (arith, end, within) in
-        sums.totals_are ∙ ap (λ n. map (λ k. total dims region k (facts_of placed)) (range_with_len 0 n)) all
+        sums.totals_are ∙ ap (λ n. map (λ k. total dims region k (placed_facts placed)) (range_with_len 0 n)) all

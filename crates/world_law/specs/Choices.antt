@@ -61,8 +61,8 @@ abbrev pub AreSmall : Choice → Type 0
 AreSmall choice = All (λ row. nat_abs row.1 ≤ MAX_VALUE) choice
 
 -- the total is no larger than the mass times the largest sum of a world
-abbrev pub IsWithin : Found → Type 0
-IsWithin found = nat_abs found.total ≤ found.mass * MAX_MASS
+abbrev pub IsBoundedByMass : Found → Type 0
+IsBoundedByMass found = nat_abs found.total ≤ found.mass * MAX_MASS
 
 -- what is found has room for the worlds of choices
 pub record HasRoom (choices : List Choice) (weight : ℕ) (sum : ℤ) (found : Found) : Type 0 where
@@ -71,4 +71,4 @@ pub record HasRoom (choices : List Choice) (weight : ℕ) (sum : ℤ) (found : F
   pub some : 1 ≤ whole choices
   pub values : All AreSmall choices
   pub small : nat_abs sum + length choices * MAX_VALUE ≤ MAX_MASS
-  pub within : IsWithin found
+  pub within : IsBoundedByMass found

@@ -14,18 +14,18 @@ use Rattle.world_law.specs.declared.sum.WorldFault.{WorldFault}
 use Rattle.world_law.specs.declared.sum.WorldFault.TheVariants as world_fault
 
 -- a placed fact as one of an extended database; its id, of which worlds take no notice, is 0
-abbrev pub fact_of : Placed → ExtendedFact
-fact_of p = record { id = 0; values = p.cols; allocation = record { den = p.den; rows = p.rows } }
+abbrev pub placed_fact : Placed → ExtendedFact
+placed_fact p = record { id = 0; values = p.cols; allocation = record { den = p.den; rows = p.rows } }
 
-abbrev pub facts_of : List Placed → List ExtendedFact
-facts_of placed = map fact_of placed
+abbrev pub placed_facts : List Placed → List ExtendedFact
+placed_facts placed = map placed_fact placed
 
 -- what is left of a fact where its id is not known
 abbrev pub placed_of : ExtendedFact → Placed
 placed_of e = record { den = e.allocation.den; rows = e.allocation.rows; cols = e.values }
 
 -- a placed fact: its rows are an allocation over cells of the space, of not too many; it has one value less than there are columns, and none is large
-pub record IsPlaced (dims : List Dimension) (columns : ℕ) (p : Placed) : Type 0 where
+pub record IsPlacedFact (dims : List Dimension) (columns : ℕ) (p : Placed) : Type 0 where
   pub allocation : IsAllocation (record { den = p.den; rows = p.rows })
   pub cells : AreRows dims p.rows
   pub few : length p.rows ≤ MAX_CELLS
@@ -41,7 +41,7 @@ pub record IsPlacedFor (dims : List Dimension) (column : ℕ) (p : Placed) : Typ
 
 -- the choices of placed facts, for a region's column
 abbrev pub choices_of : List Dimension → List ℕ → ℕ → List Placed → List Choice
-choices_of dims region column placed = map (choice_of (cells_of dims region) column) (facts_of placed)
+choices_of dims region column placed = map (choice_of (cells_of dims region) column) (placed_facts placed)
 
 -- the first product of a number with the numbers in front, one more at a time, that is above a limit
 abbrev pub product_above : ℕ → ℕ → List ℕ → Option ℕ
@@ -62,7 +62,7 @@ fault_of placed =
     (if nat_lt MAX_MASS (product (dens placed)) then Some world_fault.Wide else None)
 
 -- out of memory is said only where there is no other fault, and any other fault where it is the one
-abbrev pub IsFaultOf : List Placed → WorldFault → Type 0
-IsFaultOf placed (world_fault.Many product) = fault_of placed ≡ Some (world_fault.Many product)
-IsFaultOf placed world_fault.Wide = fault_of placed ≡ Some world_fault.Wide
-IsFaultOf placed world_fault.Memory = fault_of placed ≡ None
+abbrev pub IsWorldFaultOf : List Placed → WorldFault → Type 0
+IsWorldFaultOf placed (world_fault.Many product) = fault_of placed ≡ Some (world_fault.Many product)
+IsWorldFaultOf placed world_fault.Wide = fault_of placed ≡ Some world_fault.Wide
+IsWorldFaultOf placed world_fault.Memory = fault_of placed ≡ None

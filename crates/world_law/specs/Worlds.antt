@@ -33,9 +33,9 @@ abbrev pub column_of : ℕ → ExtendedFact → ℤ
 column_of column e = slice_index_or (pos 1 ∷ e.values) column (pos 0)
 
 -- the sum of a column over the facts that stand in one of these cells
-abbrev pub sum_in : List ℕ → ℕ → World → ℤ
-sum_in cells column world = total_by (λ s. column_of column s.0) (filter (λ s. is_among cells s.1) world.standing)
+abbrev pub world_sum : List ℕ → ℕ → World → ℤ
+world_sum cells column world = total_by (λ s. column_of column s.0) (filter (λ s. is_among cells s.1) world.standing)
 
 -- a region's total of a column: the sum over all worlds of what stands in the region, times the world's weight
 abbrev pub total : List Dimension → List ℕ → ℕ → List ExtendedFact → ℤ
-total dims region column facts = total_by (λ world. sum_in (cells_of dims region) column world *ℤ pos world.weight) (worlds facts)
+total dims region column facts = total_by (λ world. world_sum (cells_of dims region) column world *ℤ pos world.weight) (worlds facts)

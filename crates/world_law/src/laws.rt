@@ -11,9 +11,9 @@ ghost use Rattle.world_law.specs.Additive.{AddUpOverChildren};
 ghost use Rattle.world_law.specs.Examples.{four_spread, spread_fact, two_over_three, world_of_two};
 ghost use Rattle.world_law.specs.Law.{IsLawful, IsShared, cleared, expected};
 ghost use Rattle.world_law.specs.Limits.{MAX_WORLDS};
-ghost use Rattle.world_law.specs.Placed.{dens, facts_of, placed_of, product_above, row_counts};
+ghost use Rattle.world_law.specs.Placed.{dens, placed_facts, placed_of, product_above, row_counts};
 ghost use Rattle.world_law.specs.declared.placed.Placed.{Placed};
-ghost use Rattle.world_law.specs.Worlds.{mass, sum_in, total, world_count, worlds};
+ghost use Rattle.world_law.specs.Worlds.{mass, total, world_count, world_sum, worlds};
 
 /// Where the weights of each fact add up to its denominator, the mass of the worlds is the product of the denominators, so
 /// each of these divides it. There are as many worlds as the product of the numbers of rows.
@@ -46,16 +46,16 @@ pub fn answers_add_up_over_children()
 /// the product of the denominators is the mass.
 pub fn refusals_are_exact()
     ensures many { (placed : List Placed) → All (λ p. 1 ≤ length p.rows) placed
-        → (product_above MAX_WORLDS 1 (row_counts placed) ≡ None) ↔ (world_count (facts_of placed) ≤ MAX_WORLDS) }
-    ensures wide { (placed : List Placed) → All IsShared (facts_of placed) → product (dens placed) ≡ mass (facts_of placed) }
+        → (product_above MAX_WORLDS 1 (row_counts placed) ≡ None) ↔ (world_count (placed_facts placed) ≤ MAX_WORLDS) }
+    ensures wide { (placed : List Placed) → All IsShared (placed_facts placed) → product (dens placed) ≡ mass (placed_facts placed) }
 {}
 
 /// Worlds take no notice of the ids of facts.
 pub fn ids_do_not_matter()
-    ensures count { (facts : List ExtendedFact) → world_count (facts_of (map placed_of facts)) ≡ world_count facts }
-    ensures mass { (facts : List ExtendedFact) → mass (facts_of (map placed_of facts)) ≡ mass facts }
+    ensures count { (facts : List ExtendedFact) → world_count (placed_facts (map placed_of facts)) ≡ world_count facts }
+    ensures mass { (facts : List ExtendedFact) → mass (placed_facts (map placed_of facts)) ≡ mass facts }
     ensures total { (dims : List Dimension) (region : List ℕ) (column : ℕ) (facts : List ExtendedFact)
-        → total dims region column (facts_of (map placed_of facts)) ≡ total dims region column facts }
+        → total dims region column (placed_facts (map placed_of facts)) ≡ total dims region column facts }
 {}
 
 /// Worlds that were listed by hand. One of four facts may stand in either of two cells. The world in which it stands
@@ -66,8 +66,8 @@ pub fn worked_worlds()
     ensures none { worlds [] ≡ record { weight = 1; standing = [] } ∷ [] }
     ensures count { world_count four_spread ≡ 2 }
     ensures weights { map (λ world. world.weight) (worlds four_spread) ≡ 2 ∷ 1 ∷ [] }
-    ensures counts { map (sum_in (cells_of two_dims (2 ∷ 2 ∷ [])) 0) (worlds four_spread) ≡ pos 3 ∷ pos 2 ∷ [] }
-    ensures sums { map (sum_in (cells_of two_dims (2 ∷ 2 ∷ [])) 1) (worlds four_spread) ≡ pos 1000 ∷ pos 400 ∷ [] }
+    ensures counts { map (world_sum (cells_of two_dims (2 ∷ 2 ∷ [])) 0) (worlds four_spread) ≡ pos 3 ∷ pos 2 ∷ [] }
+    ensures sums { map (world_sum (cells_of two_dims (2 ∷ 2 ∷ [])) 1) (worlds four_spread) ≡ pos 1000 ∷ pos 400 ∷ [] }
     ensures mass { mass four_spread ≡ 3 }
     ensures total_count { total two_dims (2 ∷ 2 ∷ []) 0 four_spread ≡ pos 8 }
     ensures total_sum { total two_dims (2 ∷ 2 ∷ []) 1 four_spread ≡ pos 2400 }
@@ -90,9 +90,9 @@ pub fn worked_worlds_of_three_cells()
         ∷ world_of_two 6 16 12 ∷ world_of_two 3 16 13 ∷ world_of_two 3 16 16 ∷ [] }
     ensures mass { mass two_over_three ≡ 24 }
     ensures cells { cells_of two_dims (5 ∷ 2 ∷ []) ≡ 12 ∷ 16 ∷ [] }
-    ensures counts { map (sum_in (12 ∷ 16 ∷ []) 0) (worlds two_over_three)
+    ensures counts { map (world_sum (12 ∷ 16 ∷ []) 0) (worlds two_over_three)
         ≡ pos 2 ∷ pos 1 ∷ pos 2 ∷ pos 1 ∷ pos 0 ∷ pos 1 ∷ pos 2 ∷ pos 1 ∷ pos 2 ∷ [] }
-    ensures sums { map (sum_in (12 ∷ 16 ∷ []) 1) (worlds two_over_three)
+    ensures sums { map (world_sum (12 ∷ 16 ∷ []) 1) (worlds two_over_three)
         ≡ pos 400 ∷ pos 100 ∷ pos 400 ∷ pos 300 ∷ pos 0 ∷ pos 300 ∷ pos 400 ∷ pos 100 ∷ pos 400 ∷ [] }
     ensures total_count { total two_dims (5 ∷ 2 ∷ []) 0 two_over_three ≡ pos 34 }
     ensures total_sum { total two_dims (5 ∷ 2 ∷ []) 1 two_over_three ≡ pos 7000 }

@@ -5,7 +5,7 @@ ghost use Rattle.cube_model.specs.Limits.{MAX_FACTS, MAX_VALUE};
 ghost use Rattle.region_algebra.specs.Space.{IsRegion};
 ghost use Rattle.world_law.specs.Choices.{AreSmall, IsLight, Settles, choice_of, own};
 ghost use Rattle.world_law.specs.Limits.{MAX_MASS};
-ghost use Rattle.world_law.specs.Placed.{IsPlacedFor, choices_of, fact_of, facts_of, fault_of};
+ghost use Rattle.world_law.specs.Placed.{IsPlacedFor, choices_of, fault_of, placed_fact, placed_facts};
 ghost use Rattle.world_law.specs.Worlds.{column_of, mass, total, world_count};
 
 use crate::Placed;
@@ -27,9 +27,9 @@ pub fn walk_column(
     requires few { length placed.now ≤ MAX_FACTS }
     requires region { IsRegion space.now r }
     requires accepted { fault_of placed.now ≡ None }
-    ensures worlds { IfOk result (λ found. found.worlds ≡ world_count (facts_of placed.now)) }
-    ensures mass { IfOk result (λ found. found.mass ≡ mass (facts_of placed.now)) }
-    ensures total { IfOk result (λ found. found.total ≡ total space.now r column (facts_of placed.now)) }
+    ensures worlds { IfOk result (λ found. found.worlds ≡ world_count (placed_facts placed.now)) }
+    ensures mass { IfOk result (λ found. found.mass ≡ mass (placed_facts placed.now)) }
+    ensures total { IfOk result (λ found. found.total ≡ total space.now r column (placed_facts placed.now)) }
 {
     let settled = settle(alloc, placed, space, r, column)?;
     let found = Found {
@@ -102,7 +102,7 @@ fn choose(
     requires cells { AreRows space.now item.now.rows }
     requires column { column ≤ length item.now.cols }
     requires region { IsRegion space.now r }
-    ensures { IfOk result (λ choice. choice ≡ choice_of (cells_of space.now r) column (fact_of item.now)) }
+    ensures { IfOk result (λ choice. choice ≡ choice_of (cells_of space.now r) column (placed_fact item.now)) }
 {
     let mut choice = Choice::new(alloc);
     for (cell, weight) in item.rows.as_slice() {
@@ -116,7 +116,7 @@ fn own(item: &Placed, space: &Space, r: Region, column: u32, cell: u64) -> i64
     requires cell { cell < length (all_cells space.now) }
     requires column { column ≤ length item.now.cols }
     requires region { IsRegion space.now r }
-    ensures { result ≡ own (cells_of space.now r) column (fact_of item.now) cell }
+    ensures { result ≡ own (cells_of space.now r) column (placed_fact item.now) cell }
 {
     if space.contains(r, cell) {
         column_of(item, column)
@@ -128,7 +128,7 @@ fn own(item: &Placed, space: &Space, r: Region, column: u32, cell: u64) -> i64
 // A column of a fact, the count being column 0.
 fn column_of(item: &Placed, column: u32) -> i64
     requires { column ≤ length item.now.cols }
-    ensures { result ≡ column_of column (fact_of item.now) }
+    ensures { result ≡ column_of column (placed_fact item.now) }
 {
     if column == 0 {
         1

@@ -3,7 +3,7 @@ ghost use Rattle.std.specs.Prelude.{◌≡◌, ◌≤◌, None, All, length, map
 ghost use Rattle.std.specs.List.{range_with_len};
 ghost use Rattle.cube_model.specs.Limits.{MAX_FACTS};
 ghost use Rattle.region_algebra.specs.Space.{IsRegion};
-ghost use Rattle.world_law.specs.Placed.{IsFaultOf, IsPlaced, facts_of, fault_of};
+ghost use Rattle.world_law.specs.Placed.{IsPlacedFact, IsWorldFaultOf, fault_of, placed_facts};
 ghost use Rattle.world_law.specs.Worlds.{mass, total, world_count};
 ghost use Rattle.world_law.specs.declared.sum.WorldFault.TheVariants as world_fault;
 
@@ -66,14 +66,14 @@ pub fn enumerate(
     r: Region,
     columns: u32,
 ) -> Result<WorldSum, WorldFault>
-    requires placed { All (IsPlaced space.now columns) placed.now }
+    requires placed { All (IsPlacedFact space.now columns) placed.now }
     requires few { length placed.now ≤ MAX_FACTS }
     requires region { IsRegion space.now r }
-    ensures worlds { IfOk result (λ sum. sum.worlds ≡ world_count (facts_of placed.now)) }
-    ensures mass { IfOk result (λ sum. sum.mass ≡ mass (facts_of placed.now)) }
-    ensures totals { IfOk result (λ sum. sum.totals ≡ map (λ column. total space.now r column (facts_of placed.now)) (range_with_len 0 columns)) }
+    ensures worlds { IfOk result (λ sum. sum.worlds ≡ world_count (placed_facts placed.now)) }
+    ensures mass { IfOk result (λ sum. sum.mass ≡ mass (placed_facts placed.now)) }
+    ensures totals { IfOk result (λ sum. sum.totals ≡ map (λ column. total space.now r column (placed_facts placed.now)) (range_with_len 0 columns)) }
     ensures accepted { OnOk result (fault_of placed.now ≡ None) }
-    ensures refused { IfErr result (IsFaultOf placed.now) }
+    ensures refused { IfErr result (IsWorldFaultOf placed.now) }
 {
     if let Some(fault) = judge(placed) {
         return Err(fault);
@@ -89,13 +89,13 @@ fn sum_of(
     r: Region,
     columns: u32,
 ) -> Result<WorldSum, Memory>
-    requires placed { All (IsPlaced space.now columns) placed.now }
+    requires placed { All (IsPlacedFact space.now columns) placed.now }
     requires few { length placed.now ≤ MAX_FACTS }
     requires region { IsRegion space.now r }
     requires accepted { fault_of placed.now ≡ None }
-    ensures worlds { IfOk result (λ sum. sum.worlds ≡ world_count (facts_of placed.now)) }
-    ensures mass { IfOk result (λ sum. sum.mass ≡ mass (facts_of placed.now)) }
-    ensures totals { IfOk result (λ sum. sum.totals ≡ map (λ column. total space.now r column (facts_of placed.now)) (range_with_len 0 columns)) }
+    ensures worlds { IfOk result (λ sum. sum.worlds ≡ world_count (placed_facts placed.now)) }
+    ensures mass { IfOk result (λ sum. sum.mass ≡ mass (placed_facts placed.now)) }
+    ensures totals { IfOk result (λ sum. sum.totals ≡ map (λ column. total space.now r column (placed_facts placed.now)) (range_with_len 0 columns)) }
 {
     let mut worlds = 1;
     let mut mass = 1;

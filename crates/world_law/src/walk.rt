@@ -1,6 +1,6 @@
 //! The walk through the worlds of choices.
 ghost use Rattle.std.specs.Prelude.{◌≡◌, ◌+◌, ◌*◌, ◌≤◌, [], ◌∷◌, ◌+ℤ◌, ◌*ℤ◌, nat_abs, pos};
-ghost use Rattle.world_law.specs.Choices.{AddsWorlds, HasRoom, IsWithin};
+ghost use Rattle.world_law.specs.Choices.{AddsWorlds, HasRoom, IsBoundedByMass};
 ghost use Rattle.world_law.specs.Limits.{MAX_MASS};
 
 use cube_base::PlainList;
@@ -25,7 +25,7 @@ pub struct Found {
 pub fn walk(choices: &[Choice], weight: u64, sum: i64, found: Found) -> Found
     requires { HasRoom choices.now weight sum found }
     ensures added { AddsWorlds choices.now weight sum found result }
-    ensures within { IsWithin result }
+    ensures within { IsBoundedByMass result }
 {
     let Some((first, rest)) = choices.split_first() else {
         return with_world(found, weight, sum);
@@ -41,7 +41,7 @@ pub fn walk(choices: &[Choice], weight: u64, sum: i64, found: Found) -> Found
 fn with_world(found: Found, weight: u64, sum: i64) -> Found
     requires { HasRoom [] weight sum found }
     ensures added { AddsWorlds [] weight sum found result }
-    ensures within { IsWithin result }
+    ensures within { IsBoundedByMass result }
 {
     Found {
         worlds: found.worlds + 1,

@@ -8,7 +8,7 @@ use Rattle.std.proofs.lemmas.List.Folds.{list_any_at}
 use Rattle.cube_model.specs.Allocation.{ExtendedFact}
 use Rattle.cube_model.specs.Cells.{is_among}
 use Rattle.world_law.specs.Choices.{own}
-use Rattle.world_law.specs.Worlds.{World, column_of, sum_in, with_fact, worlds}
+use Rattle.world_law.specs.Worlds.{World, column_of, with_fact, world_sum, worlds}
 use Rattle.world_law.proofs.Totals.{total_by-either}
 use Rattle.world_range.specs.declared.extreme.Extreme.{Extreme}
 use Rattle.world_range.specs.declared.extreme.Extreme.TheVariants.{Greatest, Least}
@@ -57,8 +57,8 @@ All-flat_map P f [] all = All-nil P
 All-flat_map P f (x ∷ xs) all = All-append P (f x) (flat_map f xs) (All-head (λ x. All P (f x)) x xs all) (All-flat_map P f xs (All-tail (λ x. All P (f x)) x xs all))
 
 -- what stands in cells once a fact stands at one
-pub sum_in-with_fact : (cells : List ℕ) (column : ℕ) (e : ExtendedFact) (row : ℕ × ℕ) (world : World) → sum_in cells column (with_fact e row world) ≡ own cells column e row.0 +ℤ sum_in cells column world
-sum_in-with_fact cells column e row world = total_by-either (is_among cells row.0) (λ s. column_of column s.0) (e, row.0) (filter (λ s. is_among cells s.1) world.standing)
+pub world_sum-with_fact : (cells : List ℕ) (column : ℕ) (e : ExtendedFact) (row : ℕ × ℕ) (world : World) → world_sum cells column (with_fact e row world) ≡ own cells column e row.0 +ℤ world_sum cells column world
+world_sum-with_fact cells column e row world = total_by-either (is_among cells row.0) (λ s. column_of column s.0) (e, row.0) (filter (λ s. is_among cells s.1) world.standing)
 
 module _ (extreme : Extreme) (cells : List ℕ) (column : ℕ) where
   -- what a fact adds at an end bounds what it adds at the cell of any of its rows
@@ -72,17 +72,17 @@ module _ (extreme : Extreme) (cells : List ℕ) (column : ℕ) where
       (side_bounds extreme (wants_inside extreme value) stands (sides_of cells rows).inside (sides_of cells rows).outside value (wanted_bounds extreme value) (unwanted_bounds extreme value)
       (λ is. list_any_at (λ row. is_among cells row.0) rows k d within is) (λ is. list_any_at (λ row. not (is_among cells row.0)) rows k d within (ap not is)))
 
-  pub world_bounds : (facts : List ExtendedFact) → All HasRows facts → All (λ world. Bounds extreme (end_of extreme cells column facts) (sum_in cells column world)) (worlds facts)
+  pub world_bounds : (facts : List ExtendedFact) → All HasRows facts → All (λ world. Bounds extreme (end_of extreme cells column facts) (world_sum cells column world)) (worlds facts)
   unfolding worlds
-  world_bounds [] some = All-cons (λ world. Bounds extreme (pos 0) (sum_in cells column world)) _ [] (bounds_itself extreme (pos 0)) (All-nil (λ world. Bounds extreme (pos 0) (sum_in cells column world)))
+  world_bounds [] some = All-cons (λ world. Bounds extreme (pos 0) (world_sum cells column world)) _ [] (bounds_itself extreme (pos 0)) (All-nil (λ world. Bounds extreme (pos 0) (world_sum cells column world)))
   world_bounds (e ∷ facts) some =
       let here = All-head HasRows e facts some in
       let others = world_bounds facts (All-tail HasRows e facts some) in
-      let P : World → Type 0 = λ world. Bounds extreme (end_of extreme cells column (e ∷ facts)) (sum_in cells column world) in
+      let P : World → Type 0 = λ world. Bounds extreme (end_of extreme cells column (e ∷ facts)) (world_sum cells column world) in
       let rows = e.allocation.rows in
       All-flat_map P (λ row. map (with_fact e row) (worlds facts)) rows
       (λ k d within. All-map P (with_fact e (get_or rows k d)) (worlds facts)
       (λ j world among.
       let Q : ℤ → Type 0 = λ z. Bounds extreme (end_of extreme cells column (e ∷ facts)) z in
-      subst Q (sym (sum_in-with_fact cells column e (get_or rows k d) (get_or (worlds facts) j world)))
+      subst Q (sym (world_sum-with_fact cells column e (get_or rows k d) (get_or (worlds facts) j world)))
       (bounds_sum extreme _ _ _ _ (row_bounds e here k d within) (others j world among))))

@@ -7,11 +7,11 @@ use Rattle.std.proofs.lemmas.List.Elements.{All-head, All-tail, Contains-append_
 use Rattle.cube_model.specs.Allocation.{ExtendedFact}
 use Rattle.cube_model.specs.Cells.{cells_of, is_among}
 use Rattle.cube_model.specs.Tree.{Dimension}
-use Rattle.world_law.specs.Worlds.{World, column_of, sum_in, with_fact, worlds}
+use Rattle.world_law.specs.Worlds.{World, column_of, with_fact, world_sum, worlds}
 use Rattle.world_law.proofs.Totals.{total_by-either}
 use Rattle.world_range.specs.declared.extreme.Extreme.{Extreme}
 use Rattle.world_range.specs.declared.extreme.Extreme.TheVariants.{Greatest, Least}
-use Rattle.world_range.specs.Ends.{AreEnds, HasRows, IsReached, IsWorld}
+use Rattle.world_range.specs.Ends.{AreEnds, HasRows, IsReachedEnd, IsWorld}
 use Rattle.world_range.specs.Picks.{end_of, is_wanted, part, pick, pick_among, picks}
 use Rattle.world_range.proofs.Bounds.{world_bounds}
 use Rattle.world_range.proofs.Parts.{cell_of}
@@ -55,7 +55,7 @@ picked_row extreme cells value [] some = absurd (omega arith)
 picked_row extreme cells value (first ∷ rows) some = picked_or_first _ first rows (contains_found (λ (row : ℕ × ℕ). is_wanted extreme value (is_among cells row.0)) (first ∷ rows))
 
 module _ (extreme : Extreme) (cells : List ℕ) (column : ℕ) where
-  picks_sum : (weight : ℕ) (facts : List ExtendedFact) → sum_in cells column (record { weight = weight; standing = zip facts (picks extreme cells column facts) }) ≡ end_of extreme cells column facts
+  picks_sum : (weight : ℕ) (facts : List ExtendedFact) → world_sum cells column (record { weight = weight; standing = zip facts (picks extreme cells column facts) }) ≡ end_of extreme cells column facts
   picks_sum weight [] = refl
   picks_sum weight (e ∷ facts) =
       total_by-either (is_among cells (pick extreme cells column e)) (λ s. column_of column s.0) (e, pick extreme cells column e) (filter (λ s. is_among cells s.1) (zip facts (picks extreme cells column facts)))
@@ -78,7 +78,7 @@ module _ (extreme : Extreme) (cells : List ℕ) (column : ℕ) where
             (contains_part (λ row. map (with_fact e row) (worlds facts)) e.allocation.rows here.row (with_fact e here.row rest) here.there (contains_made (with_fact e here.row) (worlds facts) rest others.there));
       }
 
-  reached : (facts : List ExtendedFact) → All HasRows facts → IsReached extreme cells column facts
+  reached : (facts : List ExtendedFact) → All HasRows facts → IsReachedEnd extreme cells column facts
   reached facts some = record { world = picks_world facts some; sum = λ weight. picks_sum weight facts }
 
 pub ends_reached : (dims : List Dimension) (region : List ℕ) (column : ℕ) (facts : List ExtendedFact) → All HasRows facts → AreEnds dims region column facts

@@ -4,7 +4,7 @@ use Rattle.std.specs.List.{Contains, zip}
 use Rattle.cube_model.specs.Allocation.{ExtendedFact}
 use Rattle.cube_model.specs.Cells.{cells_of}
 use Rattle.cube_model.specs.Tree.{Dimension}
-use Rattle.world_law.specs.Worlds.{sum_in, worlds}
+use Rattle.world_law.specs.Worlds.{world_sum, worlds}
 use Rattle.world_range.specs.declared.extreme.Extreme.{Extreme}
 use Rattle.world_range.specs.declared.extreme.Extreme.TheVariants.{Greatest, Least}
 use Rattle.world_range.specs.Picks.{end_of, picks}
@@ -19,13 +19,13 @@ pub record IsWorld (facts : List ExtendedFact) (picked : List ℕ) : Type 0 wher
   pub there : Contains (worlds facts) (record { weight = weight; standing = zip facts picked })
 
 -- one of the worlds of facts has the sum of the end
-pub record IsReached (extreme : Extreme) (cells : List ℕ) (column : ℕ) (facts : List ExtendedFact) : Type 0 where
+pub record IsReachedEnd (extreme : Extreme) (cells : List ℕ) (column : ℕ) (facts : List ExtendedFact) : Type 0 where
   pub world : IsWorld facts (picks extreme cells column facts)
-  pub sum : (weight : ℕ) → sum_in cells column (record { weight = weight; standing = zip facts (picks extreme cells column facts) }) ≡ end_of extreme cells column facts
+  pub sum : (weight : ℕ) → world_sum cells column (record { weight = weight; standing = zip facts (picks extreme cells column facts) }) ≡ end_of extreme cells column facts
 
 -- both ends of a region's sum of a column are reached, and the sum of no world is beyond them
 pub record AreEnds (dims : List Dimension) (region : List ℕ) (column : ℕ) (facts : List ExtendedFact) : Type 0 where
-  pub low : IsReached Least (cells_of dims region) column facts
-  pub high : IsReached Greatest (cells_of dims region) column facts
-  pub above : All (λ world. end_of Least (cells_of dims region) column facts ≤ℤ sum_in (cells_of dims region) column world) (worlds facts)
-  pub below : All (λ world. sum_in (cells_of dims region) column world ≤ℤ end_of Greatest (cells_of dims region) column facts) (worlds facts)
+  pub low : IsReachedEnd Least (cells_of dims region) column facts
+  pub high : IsReachedEnd Greatest (cells_of dims region) column facts
+  pub above : All (λ world. end_of Least (cells_of dims region) column facts ≤ℤ world_sum (cells_of dims region) column world) (worlds facts)
+  pub below : All (λ world. world_sum (cells_of dims region) column world ≤ℤ end_of Greatest (cells_of dims region) column facts) (worlds facts)

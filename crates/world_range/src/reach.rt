@@ -4,7 +4,7 @@ ghost use Rattle.cube_model.specs.Cells.{cells_of, is_among};
 ghost use Rattle.cube_model.specs.Limits.{MAX_FACTS, MAX_VALUE};
 ghost use Rattle.region_algebra.specs.Inside.{cells_inside};
 ghost use Rattle.region_algebra.specs.Space.{IsRegion};
-ghost use Rattle.world_law.specs.Placed.{IsPlacedFor, fact_of, facts_of};
+ghost use Rattle.world_law.specs.Placed.{IsPlacedFor, placed_fact, placed_facts};
 ghost use Rattle.world_law.specs.Worlds.{column_of};
 ghost use Rattle.world_range.specs.Ends.{AreEnds};
 ghost use Rattle.world_range.specs.Picks.{end_of, picks};
@@ -35,11 +35,11 @@ pub fn range(
     requires placed { All (IsPlacedFor space.now column) placed.now }
     requires few { length placed.now ≤ MAX_FACTS }
     requires region { IsRegion space.now r }
-    ensures least { IfOk result (λ range. range.least ≡ end_of Least (cells_of space.now r) column (facts_of placed.now)) }
-    ensures greatest { IfOk result (λ range. range.greatest ≡ end_of Greatest (cells_of space.now r) column (facts_of placed.now)) }
-    ensures low { IfOk result (λ range. range.low ≡ picks Least (cells_of space.now r) column (facts_of placed.now)) }
-    ensures high { IfOk result (λ range. range.high ≡ picks Greatest (cells_of space.now r) column (facts_of placed.now)) }
-    ensures law { AreEnds space.now r column (facts_of placed.now) }
+    ensures least { IfOk result (λ range. range.least ≡ end_of Least (cells_of space.now r) column (placed_facts placed.now)) }
+    ensures greatest { IfOk result (λ range. range.greatest ≡ end_of Greatest (cells_of space.now r) column (placed_facts placed.now)) }
+    ensures low { IfOk result (λ range. range.low ≡ picks Least (cells_of space.now r) column (placed_facts placed.now)) }
+    ensures high { IfOk result (λ range. range.high ≡ picks Greatest (cells_of space.now r) column (placed_facts placed.now)) }
+    ensures law { AreEnds space.now r column (placed_facts placed.now) }
 {
     let low = reach_end(alloc, placed, space, r, column, Extreme::Least)?;
     let high = reach_end(alloc, placed, space, r, column, Extreme::Greatest)?;
@@ -72,8 +72,8 @@ fn reach_end(
     requires placed { All (IsPlacedFor space.now column) placed.now }
     requires few { length placed.now ≤ MAX_FACTS }
     requires region { IsRegion space.now r }
-    ensures sum { IfOk result (λ end. end.sum ≡ end_of extreme (cells_of space.now r) column (facts_of placed.now)) }
-    ensures picked { IfOk result (λ end. end.picked ≡ picks extreme (cells_of space.now r) column (facts_of placed.now)) }
+    ensures sum { IfOk result (λ end. end.sum ≡ end_of extreme (cells_of space.now r) column (placed_facts placed.now)) }
+    ensures picked { IfOk result (λ end. end.picked ≡ picks extreme (cells_of space.now r) column (placed_facts placed.now)) }
 {
     let inside = space.inside(r);
     let mut sum = 0;
@@ -99,7 +99,7 @@ fn with_own(sum: i64, value: i64, cell: u64, inside: &Inside<'_>) -> i64
 // A column of a fact, the count being column 0.
 fn column_of(item: &Placed, column: u32) -> i64
     requires { column ≤ length item.now.cols }
-    ensures { result ≡ column_of column (fact_of item.now) }
+    ensures { result ≡ column_of column (placed_fact item.now) }
 {
     if column == 0 {
         1

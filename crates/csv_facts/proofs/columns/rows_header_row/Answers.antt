@@ -2,7 +2,7 @@
 use Rattle.std.proofs.Common.{◌∙◌, ◌∷◌, ◌++◌, [], ap, append_assoc, map, refl}
 use Rattle.std.specs.Prelude.{codes}
 use Rattle.fact_records.specs.Shape.{ShapeValue}
-use Rattle.csv_facts.proofs.FieldsLeft.{IsLonger-one, IsRow-longer}
+use Rattle.csv_facts.proofs.FieldsLeft.{IsLonger-one, IsRecordRow-longer}
 use Rattle.csv_facts.proofs.columns.rows_header_row.Goals as goal
 
 pub returns : goal.returns
@@ -11,10 +11,10 @@ returns c =
     let front = c.in_ok-row.ensures.row in
     let e = c.in_ok-push_field.ensures in
     let f = c.in_ok-push_field-2.ensures in
-    let weight = IsRow-longer _ _ _ _ front (IsLonger-one _ _ _ (codes "weight") front.whole e.fields e.partial refl) in
-    let of = IsRow-longer _ _ _ _ weight (IsLonger-one _ _ _ (codes "of") weight.whole f.fields f.partial refl) in
+    let weight = IsRecordRow-longer _ _ _ _ front (IsLonger-one _ _ _ (codes "weight") front.whole e.fields e.partial refl) in
+    let of = IsRecordRow-longer _ _ _ _ weight (IsLonger-one _ _ _ (codes "of") weight.whole f.fields f.partial refl) in
     let id = codes "id" ∷ names in
-    (IsRow-longer _ _ _ _ of c.in_ok-push_measures.ensures).fields_are
+    (IsRecordRow-longer _ _ _ _ of c.in_ok-push_measures.ensures).fields_are
     ∙ append_assoc (id ++ codes "weight" ∷ []) (codes "of" ∷ []) _
     ∙ append_assoc id (codes "weight" ∷ []) _
     ∙ ap (λ (shape : ShapeValue). id ++ codes "weight" ∷ codes "of" ∷ map (λ m. m.name) shape.measures) c.shape.ensures.shape

@@ -1,7 +1,7 @@
 use Rattle.std.proofs.Common.{◌≡◌, ◌+◌, ◌++◌, ℕ, length, ap, sym, subst, arith, ◌∙◌, Err}
 use Rattle.std.specs.Bool.{⊤}
 use Rattle.std.specs.Prelude.{IfOk}
-use Rattle.cube_core.specs.Cube.{rows_in}
+use Rattle.cube_core.specs.Cube.{cube_rows}
 use Rattle.csv_facts.specs.ExtendedRow.{part_text, text_before}
 use Rattle.csv_facts.proofs.ExtendedRows.{part-behind, rows-through}
 use Rattle.schema_text.specs.Schema.{weigh_of}
@@ -15,7 +15,7 @@ pub returns-in-Err : goal.returns-in-Err
 returns-in-Err g c = λ start before whole is on.
     let schema = c.args.cube.now.schema in
     let from = c.loop-from.from in
-    let same = whole_is (rows_in weigh_of c.args.cube.now) c.args.fact.now whole c.in-Some.spread.now is c.in-Some.ensures.rows in
+    let same = whole_is (cube_rows weigh_of c.args.cube.now) c.args.fact.now whole c.in-Some.spread.now is c.in-Some.ensures.rows in
     let count : length whole.allocation.rows ≡ length c.rows-count.result.now = ap (λ w. length w.allocation.rows) (sym same) ∙ sym (ap length c.rows-count.ensures.rows) in
     let made = text_before schema before whole from in
     let next = part_text schema whole from 1024 in
@@ -30,7 +30,7 @@ pub loop-from-preserved : goal.loop-from-preserved
 loop-from-preserved g c = λ start before whole is on.
     let schema = c.args.cube.now.schema in
     let from = c.loop-from.from in
-    let same = whole_is (rows_in weigh_of c.args.cube.now) c.args.fact.now whole c.in-Some.spread.now is c.in-Some.ensures.rows in
+    let same = whole_is (cube_rows weigh_of c.args.cube.now) c.args.fact.now whole c.in-Some.spread.now is c.in-Some.ensures.rows in
     let count : length whole.allocation.rows ≡ length c.rows-count.result.now = ap (λ w. length w.allocation.rows) (sym same) ∙ sym (ap length c.rows-count.ensures.rows) in
     let made = text_before schema before whole from in
     let next = part_text schema whole from 1024 in
@@ -41,7 +41,7 @@ loop-from-preserved g c = λ start before whole is on.
 
 pub returns : goal.returns
 returns g c = λ start before whole is on.
-    let same = whole_is (rows_in weigh_of c.args.cube.now) c.args.fact.now whole c.in-Some.spread.now is c.in-Some.ensures.rows in
+    let same = whole_is (cube_rows weigh_of c.args.cube.now) c.args.fact.now whole c.in-Some.spread.now is c.in-Some.ensures.rows in
     let count : length whole.allocation.rows ≡ length c.rows-count.result.now = ap (λ w. length w.allocation.rows) (sym same) ∙ sym (ap length c.rows-count.ensures.rows) in
     subst (λ text. OnItsWay text c.loop-from.text.items (since start (g.K.Sink.tells c.loop-from.out))) (rows-through c.args.cube.now.schema before whole c.loop-from.from (omega (arith, count, c.loop-from-test.false)))
     (c.loop-from.invariant start before whole is on)

@@ -4,7 +4,7 @@ use Rattle.std.proofs.lemmas.List.Sums.{sum_by_more}
 use Rattle.cube_model.specs.declared.edit.Fact.{Fact}
 use Rattle.cube_model.specs.Tree.{Dimension}
 use Rattle.cube_state.specs.State.{ids_with}
-use Rattle.edit_plan.specs.Refreshing.{ids_at, others_at, others_with}
+use Rattle.edit_plan.specs.Refreshing.{id_count_at, others_at, others_with}
 use Rattle.edit_plan.proofs.FlatLists.{flat-more}
 use Rattle.edit_plan.proofs.refreshing.others_at.Goals as goal
 
@@ -16,7 +16,7 @@ module _ (dims : List Dimension) (facts : List Fact) (codes : List ℕ) (i : ℕ
       ∙ ap (λ (xs : List ℕ). others_at dims facts id (take i codes) ++ others_with id (get_or codes i 0) xs) own
       ∙ sym (flat-more (λ code. others_with id code (ids_with dims facts code)) codes i 0 within)
 
-  steps-next : (start before now : ℕ) → before ≡ start + ids_at dims facts (take i codes) → now ≡ before + length ids → now ≡ start + ids_at dims facts (take (i + 1) codes)
+  steps-next : (start before now : ℕ) → before ≡ start + id_count_at dims facts (take i codes) → now ≡ before + length ids → now ≡ start + id_count_at dims facts (take (i + 1) codes)
   steps-next start before now was is = omega (arith, is, was, ap length own, sum_by_more (λ code. length (ids_with dims facts code)) codes i 0 within)
 
 pub loop-code-preserved : goal.loop-code-preserved

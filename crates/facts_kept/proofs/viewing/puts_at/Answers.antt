@@ -3,7 +3,7 @@ use Rattle.std.proofs.Common.{◌∙◌, ◌++◌, List, ap, get_or, subst, sym,
 use Rattle.std.specs.Option.{option_copied}
 use Rattle.std.proofs.lemmas.List.{take_more}
 use Rattle.view_store.specs.declared.change.ViewChange.{ViewChange}
-use Rattle.facts_kept.specs.ViewChanges.{IsOfRegion, changes_of, puts_at}
+use Rattle.facts_kept.specs.ViewChanges.{IsOfRegion, group_changes, puts_at}
 use Rattle.facts_kept.proofs.PutGroups.{puts-more}
 use Rattle.facts_kept.proofs.viewing.puts_at.Goals as goal
 
@@ -19,7 +19,7 @@ loop-code-preserved c =
     let done = take c.loop-code.code-index c.args.codes.now in
     let code = get_or c.args.codes.now c.loop-code.code-index 0 in
     c.in_ok-push_change.ensures
-    ∙ ap (λ (changes : List ViewChange). changes ++ changes_of true dims code (option_copied c.get.result)) c.loop-code.invariant
-    ∙ ap (λ o. puts_at dims groups done ++ changes_of true dims code o) c.get.ensures
+    ∙ ap (λ (changes : List ViewChange). changes ++ group_changes true dims code (option_copied c.get.result)) c.loop-code.invariant
+    ∙ ap (λ o. puts_at dims groups done ++ group_changes true dims code o) c.get.ensures
     ∙ sym (puts-more dims groups done code)
     ∙ ap (puts_at dims groups) (sym (take_more c.args.codes.now c.loop-code.code-index 0 c.loop-code-test.true))

@@ -5,7 +5,7 @@ use Rattle.cube_model.specs.Allocation.{extended}
 use Rattle.fact_groups.proofs.Ascending.{ascends-from_increasing}
 use Rattle.fact_records.specs.Shape.{policy_over, width_of_all}
 use Rattle.view_store.specs.declared.change.ViewChange.{ViewChange}
-use Rattle.view_store.specs.Changes.{FitsView, given, taken}
+use Rattle.view_store.specs.Changes.{FitsView, facts_put, facts_taken_away}
 use Rattle.view_store.specs.Facts.{FollowBy}
 use Rattle.facts_kept.specs.ViewChanges.{puts_at}
 use Rattle.facts_kept.proofs.EmptyViews.{answers-none, views-put}
@@ -31,8 +31,8 @@ pub returns : goal.returns
 returns g c =
     let puts : c.deref.result.now ≡ puts_at c.args.space.now c.args.groups.now c.in_ok-codes.codes = c.deref.ensures.value ∙ c.in_ok-changes.ensures ∙ ap (puts_at c.args.space.now c.args.groups.now) c.as_slice.ensures in
     let rows = extended (policy_over (g.P.WeightPolicy.weigh c.args.policy.now) c.args.shape.now) c.args.space.now c.args.facts.now.facts in
-    let follow : FollowBy [] (taken c.deref.result.now) (given c.deref.result.now) rows =
-    subst (λ (changes : List ViewChange). FollowBy [] (taken changes) (given changes) rows) (sym puts)
+    let follow : FollowBy [] (facts_taken_away c.deref.result.now) (facts_put c.deref.result.now) rows =
+    subst (λ (changes : List ViewChange). FollowBy [] (facts_taken_away changes) (facts_put changes) rows) (sym puts)
     (follow-puts (g.P.WeightPolicy.weigh c.args.policy.now) (g.met.P.WeightPolicy.bound c.args.policy.now) c.args.shape.now c.args.space.now c.args.facts.now.facts
     c.columns.ensures.shape c.dims.ensures.trees c.requires.valid c.args.groups.now c.requires.groups c.in_ok-codes.codes (ascends-from_increasing c.in_ok-codes.codes c.in_ok-codes.ensures.ascending) c.in_ok-codes.ensures) in
     views-put c.args.shape.now c.args.space.now c.args.views c.requires.empty c.stage.new.self c.install.new.self c.deref.result.now rows

@@ -1,6 +1,6 @@
 use Rattle.std.proofs.Common.{◌-◌, ◌<◌, None, ap, arith}
 use Rattle.std.specs.Option.{option_copied, option_map}
-use Rattle.group_sum.specs.Heads.{count_in}
+use Rattle.group_sum.specs.Heads.{head_count}
 use Rattle.group_sum.specs.Rows.{row_term}
 use Rattle.group_sum.specs.Terms.{TermList}
 use Rattle.group_sum.proofs.Leftover.{left_none, left_one, no_count, pushed_none, pushed_one}
@@ -18,7 +18,7 @@ returns-in_ok-push-in-Some-clause-is c =
     let mid = ap (λ (list : TermList). list.terms) c.in_ok-push-in-Some.ensures.ok in
     let only = rw c.len-at.ensures at (ap (λ (list : TermList). list.terms) c.take_part.ensures.only) in
     let whole = ap (λ o. option_map (row_term 0) (option_copied o)) c.in-Some.is in
-    let less : count_in (option_map (row_term 0) (option_copied c.args.part)) < (row_term 0 c.in-Some.row.now).count = omega (arith, ap count_in whole, c.requires.possible.less) in
+    let less : head_count (option_map (row_term 0) (option_copied c.args.part)) < (row_term 0 c.in-Some.row.now).count = omega (arith, ap head_count whole, c.requires.possible.less) in
     let columns = ap (λ (list : TermList). list.columns) c.in_ok-push-in-Some.ensures.ok in
     let left = rw (c.len-at.ensures, columns) at c.take_part.ensures.left in
     let of_row = left_one c.args.den (c.args.left.now.columns - 1) c.args.left.now.terms c.push.new.self.terms c.take_part.new.terms.terms c.in-Some.row.now (option_map (row_term 0) (option_copied c.args.part)) mid only less left in

@@ -4,7 +4,7 @@ use Rattle.iter_alloc.proofs.Beginning.{begin-all, begin-next, begin-region, beg
 use Rattle.cube_model.specs.Facts.{lies_at}
 use Rattle.iter_alloc.specs.Forest.{at}
 use Rattle.iter_alloc.specs.Places.{IsRaised}
-use Rattle.iter_alloc.specs.Rounds.{UNIT}
+use Rattle.iter_alloc.specs.Rounds.{WHOLE_FACT}
 use Rattle.std.specs.Prelude.{if◌then◌else◌}
 use Rattle.std.proofs.Common.{◌≡◌, ℕ, List, ◌∙◌, length, arith, ap, sym, subst}
 use Rattle.std.proofs.lemmas.List.{get_or-replicate, length-replicate, with_items_is}
@@ -26,7 +26,7 @@ pub loop-fact-preserved : goal.loop-fact-preserved
 loop-fact-preserved c =
     let dims = c.args.space.now in
     let keys = c.args.cells.now.keys in
-    let adds = subst (λ (ns : List ℕ). IsRaised (λ i. if lies_at dims (at keys i) c.in-Some.fact.now then UNIT else 0) ns c.add_precise.new.begun) c.deref_mut.ensures.value c.add_precise.ensures in
+    let adds = subst (λ (ns : List ℕ). IsRaised (λ i. if lies_at dims (at keys i) c.in-Some.fact.now then WHOLE_FACT else 0) ns c.add_precise.new.begun) c.deref_mut.ensures.value c.add_precise.ensures in
     let next = begin-next dims keys c.args.facts.now.facts c.loop-fact.fact-iterator c.loop-fact.begun.items c.loop-fact.invariant c.in-Some.fact.now c.next.new.self c.in-Some.ensures.steps c.add_precise.new.begun adds in
     let long : length c.add_precise.new.begun ≡ c.loop-fact.begun.len = omega (arith, adds.as_many, c.loop-fact.begun.ok.0) in
     subst (λ (ns : List ℕ). Beginning dims keys c.args.facts.now.facts c.next.new.self ns) (sym (with_items_is c.loop-fact.begun c.add_precise.new.begun long)) next

@@ -2,7 +2,7 @@
 use Rattle.iter_alloc.proofs.portions.fact_portions.Goals as goal
 use Rattle.iter_alloc.proofs.portions.fact_portions.Goals.{in-Some-spots, in-None-spots}
 use Rattle.iter_alloc.proofs.PortionSteps.{apportion-fits, apportion-next, apportion-within}
-use Rattle.iter_alloc.specs.Rounds.{UNIT}
+use Rattle.iter_alloc.specs.Rounds.{WHOLE_FACT}
 use Rattle.std.proofs.Common.{◌≡◌, ◌*◌, ◌<◌, ◌∙◌, get_or, length, ap, sym, arith, None, Some}
 use Rattle.std.proofs.lemmas.List.{get_or_default}
 
@@ -29,5 +29,5 @@ loop-fact-preserved c =
           next (Some w.in-Some-spots.spot) c.match-spots-i.portion c.push.new.self.items (sym is ∙ get_or_default spots i None (Some w.in-Some-spots.spot) within) w.portion-is c.in_ok-push.ensures.items
       | in-None-spots w ↦
           let is : get_or spots i None ≡ None = w.in-None-spots.is in
-          next None c.match-spots-i.portion c.push.new.self.items (sym is) (w.portion-is ∙ ap (λ n. UNIT * n) w.overlap_count.ensures) c.in_ok-push.ensures.items
+          next None c.match-spots-i.portion c.push.new.self.items (sym is) (w.portion-is ∙ ap (λ n. WHOLE_FACT * n) w.overlap_count.ensures) c.in_ok-push.ensures.items
     ]

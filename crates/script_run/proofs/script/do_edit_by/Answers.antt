@@ -1,6 +1,6 @@
 -- An edit that is not done is answered as its fault says.
 use Rattle.std.proofs.Common.{sym}
-use Rattle.cube_core.specs.Cube.{difference_in, judge_in}
+use Rattle.cube_core.specs.Cube.{cube_judgement, difference_in}
 use Rattle.cube_model.specs.Facts.{after}
 use Rattle.schema_text.specs.Schema.{weigh_of}
 use Rattle.script_run.specs.Run.{accepted, state_of}
@@ -15,7 +15,7 @@ returns g c =
     let said = c.in-Err.ensures in
     let same_kept = told_same g.Q.Keeper.tells keeper c.edit.new.keeper said.same_content said.same_journal in
     let answered = rw (sym c.reply_to.ensures) at
-    (not_done cube c.edit.new.self _ _ _ _ (judge_in weigh cube c.args.edit.now) (accepted (weigh cube.policy) cube.schema (state_of cube) (after c.args.edit.now cube.facts)) (difference_in weigh cube c.args.edit.now) c.in-Err.fault
+    (not_done cube c.edit.new.self _ _ _ _ (cube_judgement weigh cube c.args.edit.now) (accepted (weigh cube.policy) cube.schema (state_of cube) (after c.args.edit.now cube.facts)) (difference_in weigh cube c.args.edit.now) c.in-Err.fault
     (edit_judged weigh cube c.args.edit.now c.in-Err.fault said.fault) said.same same_kept said.count) in
     record {
       reply = answered.reply;

@@ -4,11 +4,11 @@ use Rattle.cube_model.specs.Cells.{all_cells, cells_of, is_inside}
 use Rattle.cube_model.specs.Tree.{is_leaf, is_under, leaves, parent, path}
 use Rattle.fact_records.specs.Examples.{one_number}
 use Rattle.region_algebra.specs.Examples.{small_space}
-use Rattle.stored_state.specs.Examples.{facts_of}
+use Rattle.stored_state.specs.Examples.{facts_of_ids}
 use Rattle.stored_state.specs.Sound.{fault_at}
 use Rattle.stored_state.proofs.laws.worked_facts.Goals as goal
 
-two-good : (place : ℕ) → place < 2 → fault_at one_number small_space (facts_of (1 ∷ 2 ∷ 2 ∷ [])) place ≡ None
+two-good : (place : ℕ) → place < 2 → fault_at one_number small_space (facts_of_ids (1 ∷ 2 ∷ 2 ∷ [])) place ≡ None
 unfolding all_cells cells_of is_inside is_leaf is_under leaves parent path
 two-good zero below = refl
 two-good (suc zero) below = refl

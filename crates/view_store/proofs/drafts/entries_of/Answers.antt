@@ -1,7 +1,7 @@
 -- A draft is taken out, and what is staged for it is appended.
 use Rattle.std.proofs.Common.{◌∙◌, ap, sym}
 use Rattle.std.proofs.lemmas.List.{take_all}
-use Rattle.view_store.specs.Drafts.{kept_of}
+use Rattle.view_store.specs.Drafts.{kept_drafts}
 use Rattle.view_store.proofs.Keeping.{AreKept-next}
 use Rattle.view_store.proofs.drafts.entries_of.Goals as goal
 
@@ -11,4 +11,4 @@ loop-code-preserved c =
     (sym c.remove.ensures.had ∙ c.unwrap-terms.ensures) c.remove.ensures.removes (rw c.entry_of.ensures at c.in_ok-push.ensures.items)
 
 pub returns : goal.returns
-returns c = c.loop-code.invariant.done ∙ ap (kept_of c.args.drafts) (take_all c.loop-code.code-index c.args.codes.now c.loop-code-test.false)
+returns c = c.loop-code.invariant.done ∙ ap (kept_drafts c.args.drafts) (take_all c.loop-code.code-index c.args.codes.now c.loop-code-test.false)

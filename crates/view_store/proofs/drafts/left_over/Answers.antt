@@ -1,9 +1,9 @@
 -- What is taken away can be, and what is left are the drafts.
-use Rattle.view_store.proofs.Staging.{can-take, left_over-from, taken-fits}
+use Rattle.view_store.proofs.Staging.{can-take, facts_taken_away-fits, left_over-from}
 use Rattle.view_store.proofs.drafts.left_over.Goals as goal
 
 pub taken_away-requires-clause-within : goal.taken_away-requires-clause-within
-taken_away-requires-clause-within c = taken-fits c.args.space.now c.args.depths.now c.args.columns c.args.entries.now c.args.changes.now c.requires.entries c.requires.changes
+taken_away-requires-clause-within c = facts_taken_away-fits c.args.space.now c.args.depths.now c.args.columns c.args.entries.now c.args.changes.now c.requires.entries c.requires.changes
 
 pub take_all_away-requires-clause-there : goal.take_all_away-requires-clause-there
 take_all_away-requires-clause-there c =

@@ -7,14 +7,14 @@ use Rattle.fact_keeper.specs.declared.content.Batch.{Batch}
 use Rattle.fact_keeper.specs.declared.content.Stored.{Stored}
 use Rattle.fact_keeper.specs.Batch.{apply_batch}
 use Rattle.fact_records.specs.Shape.{ShapeValue, policy_over}
-use Rattle.schema_text.specs.Schema.{SchemaValue, policy_in, shape_of}
+use Rattle.schema_text.specs.Schema.{SchemaValue, schema_policy, shape_of}
 use Rattle.stored_state.specs.Mending.{IsMendable, mended, mended_batch}
 use Rattle.stored_state.proofs.Mended.{mending-applied}
 use Rattle.cube_core.proofs.cube.Cube.mend_rows.Goals as goal
 
 applied-told : {M E : Type 0} (r : Result M E) (batch_of : M → Batch) (weigh : CellStat → ℕ) (schema : SchemaValue) (dims : List Dimension) (shape : ShapeValue) (content : Stored) → dims ≡ schema.dims → shape ≡ shape_of schema
     → IfOk r (λ m. batch_of m ≡ mended_batch (policy_over weigh shape) dims content) → OnOk r (IsMendable (policy_over weigh shape) shape dims content)
-    → IfOk r (λ m. apply_batch (batch_of m) content ≡ mended (policy_in weigh schema) schema.dims content)
+    → IfOk r (λ m. apply_batch (batch_of m) content ≡ mended (schema_policy weigh schema) schema.dims content)
 applied-told (Ok m) batch_of weigh schema dims shape content dims_are shape_is is may =
     ap (λ batch. apply_batch batch content) is
     ∙ mending-applied (policy_over weigh shape) shape dims content may

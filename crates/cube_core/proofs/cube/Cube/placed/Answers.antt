@@ -1,5 +1,5 @@
 use Rattle.std.proofs.Common.{◌∙◌}
-use Rattle.schema_text.specs.Schema.{policy_in}
+use Rattle.schema_text.specs.Schema.{schema_policy}
 use Rattle.cube_core.proofs.PlacedRows.{placed-all, placed-next, placed-none, placed-there}
 use Rattle.cube_core.proofs.cube.Cube.placed.Goals as goal
 
@@ -7,7 +7,7 @@ use Rattle.cube_core.proofs.cube.Cube.placed.Goals as goal
 pub loop-fact-init : goal.loop-fact-init
 loop-fact-init g c =
     let cube = c.args.self.now in
-    placed-none (policy_in (g.P.WeightPolicy.weigh cube.policy) cube.schema) cube.schema.dims cube.facts _ _ c.facts.ensures.valid.ascending c.new-placed.ensures
+    placed-none (schema_policy (g.P.WeightPolicy.weigh cube.policy) cube.schema) cube.schema.dims cube.facts _ _ c.facts.ensures.valid.ascending c.new-placed.ensures
     (c.into_iter-fact-iterator.ensures.into_iter_gives ∙ c.iter-fact-items.ensures ∙ c.facts.ensures.facts)
 
 -- each has an allocation

@@ -4,7 +4,7 @@ use Rattle.std.specs.Prelude.{All}
 use Rattle.cube_model.specs.Answer.{merge_all}
 use Rattle.exact_fraction.specs.Moderate.{IsModerate}
 use Rattle.fact_records.specs.Shape.{width_of_all}
-use Rattle.cube_core.specs.Cube.{answer_in}
+use Rattle.cube_core.specs.Cube.{cube_answer}
 use Rattle.cube_core.proofs.Tabled.{tabled-ok}
 use Rattle.cube_core.proofs.cube.Cube.table.Goals as goal
 
@@ -26,4 +26,4 @@ returns-clause-moderate g c =
 pub returns-clause-merged : goal.returns-clause-merged
 returns-clause-merged g c =
     tabled-ok g.P.WeightPolicy.weigh c.self.inside.schema c.self.inside.state c.self.invariant (g.met.P.WeightPolicy.bound c.self.inside.state.policy) c.space.ensures.schema c.facts.ensures.valid c.args.depths.now c.args.r
-    c.args.self.now c.self.view_is c.table.result c.table.ensures.entries c.table.ensures.regions c.table.ensures.merged (λ list. merge_all (width_of_all c.args.self.now.schema.measures) (map (λ entry. entry.1.terms) list) ≡ answer_in g.P.WeightPolicy.weigh c.args.self.now c.args.r) (λ list is. is.merged)
+    c.args.self.now c.self.view_is c.table.result c.table.ensures.entries c.table.ensures.regions c.table.ensures.merged (λ list. merge_all (width_of_all c.args.self.now.schema.measures) (map (λ entry. entry.1.terms) list) ≡ cube_answer g.P.WeightPolicy.weigh c.args.self.now c.args.r) (λ list is. is.merged)

@@ -1,6 +1,6 @@
 -- The group after an edit is that before it with the fact that the edit gives and without the one that it takes.
 use Rattle.std.proofs.Common.{ap, refl, ◌∙◌, arith}
-use Rattle.cube_state.specs.GroupAfter.{fact_at}
+use Rattle.cube_state.specs.GroupAfter.{fact_with_code}
 use Rattle.cube_state.proofs.GroupSeen.{enough-seen, few-cells-seen, few-seen, given-within, made-seen, none-seen, spread-seen, sums-seen, taken-placed, taken-within, there-seen}
 use Rattle.cube_state.proofs.state.State.group_after.Goals as goal
 
@@ -52,12 +52,12 @@ sums_after-sums-requires-clause-group g c =
 pub sums_after-sums-requires-clause-taken : goal.sums_after-sums-requires-clause-taken
 sums_after-sums-requires-clause-taken g c =
     taken-within g.P.WeightPolicy.weigh _ _ c.self.view_is c.self.invariant c.dims.ensures.trees c.args.moves.now c.requires c.args.code c.get-before.result c.get-before.ensures _ c.columns.ensures.columns c.columns.ensures.shape
-    _ (c.fact_at-taken.ensures ∙ ap (fact_at c.args.self.now.dims c.args.code) c.as_ref.ensures.value)
+    _ (c.fact_at-taken.ensures ∙ ap (fact_with_code c.args.self.now.dims c.args.code) c.as_ref.ensures.value)
 
 pub sums_after-sums-requires-clause-given : goal.sums_after-sums-requires-clause-given
 sums_after-sums-requires-clause-given g c =
     given-within g.P.WeightPolicy.weigh _ _ c.self.view_is c.self.invariant c.dims.ensures.trees c.args.moves.now c.requires c.args.code c.get-before.result c.get-before.ensures _ c.columns.ensures.columns c.columns.ensures.shape
-    _ (c.fact_at-given.ensures ∙ ap (fact_at c.args.self.now.dims c.args.code) c.as_ref-2.ensures.value)
+    _ (c.fact_at-given.ensures ∙ ap (fact_with_code c.args.self.now.dims c.args.code) c.as_ref-2.ensures.value)
 
 pub returns : goal.returns
 returns g c =

@@ -2,7 +2,7 @@
 use Rattle.std.proofs.Common.{◌≡◌, ◌∙◌, ap}
 use Rattle.std.proofs.lemmas.Result.{IfOk-weaker}
 use Rattle.staged_map.specs.Staged.{value_at}
-use Rattle.view_store.specs.Changes.{FitsViews, given, taken}
+use Rattle.view_store.specs.Changes.{FitsViews, facts_put, facts_taken_away}
 use Rattle.view_store.specs.Facts.{FollowBy}
 use Rattle.cube_state.specs.State.{rows_after, rows_in}
 use Rattle.cube_state.specs.ViewChanges.{changes_by}
@@ -22,7 +22,7 @@ changes_by-requires-clause-after g c =
 pub returns-clause-follow : goal.returns-clause-follow
 returns-clause-follow g c =
     IfOk-weaker c.changes_by.result (λ changes. changes.items ≡ changes_by c.self.inside.space (value_at c.self.inside.groups) c.as_slice.result.now)
-    (λ changes. FollowBy (rows_in g.P.WeightPolicy.weigh c.args.self.now) (taken changes.items) (given changes.items) (rows_after g.P.WeightPolicy.weigh c.args.self.now c.args.moves.now.edit))
+    (λ changes. FollowBy (rows_in g.P.WeightPolicy.weigh c.args.self.now) (facts_taken_away changes.items) (facts_put changes.items) (rows_after g.P.WeightPolicy.weigh c.args.self.now c.args.moves.now.edit))
     (λ changes are.
     follow-seen g.P.WeightPolicy.weigh _ _ c.self.view_is c.self.invariant (g.met.P.WeightPolicy.bound c.self.inside.policy) c.columns.ensures.shape c.dims.ensures.trees _ c.columns-2.ensures.columns c.columns-2.ensures.each
     c.args.moves.now c.requires.moves c.args.regrouped.now c.requires.regrouped changes.items (are ∙ ap (changes_by c.self.inside.space (value_at c.self.inside.groups)) c.as_slice.ensures))

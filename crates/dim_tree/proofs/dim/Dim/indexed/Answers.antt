@@ -1,4 +1,4 @@
-use Rattle.dim_tree.proofs.Building.{IsIndexed_of, entries_of-nodes_of, outline_few, outline_shallow}
+use Rattle.dim_tree.proofs.Building.{IsIndexed_of, outline_few, outline_nodes-nodes_of, outline_shallow}
 use Rattle.dim_tree.proofs.dim.Dim.indexed.Goals as goal
 
 pub leaves_of-requires : goal.leaves_of-requires
@@ -14,4 +14,4 @@ pub invariant_of-result : goal.invariant_of-result
 invariant_of-result c = IsIndexed_of _ _ _ c.requires.outline _ _ _ c.in_ok-nodes.ensures c.requires.places c.in_ok-leaves_before.ensures.leaves
 
 pub returns : goal.returns
-returns c = entries_of-nodes_of _ _ _ c.requires.outline _ c.in_ok-nodes.ensures
+returns c = outline_nodes-nodes_of _ _ _ c.requires.outline _ c.in_ok-nodes.ensures

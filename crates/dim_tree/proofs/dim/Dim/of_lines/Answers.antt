@@ -4,7 +4,7 @@ use Rattle.std.proofs.lemmas.List.{map-id}
 use Rattle.std.proofs.lemmas.Result.{err_from_is_err_and}
 use Rattle.cube_base.specs.Name.{is_name}
 use Rattle.cube_model.specs.Tree.{first_fault}
-use Rattle.dim_tree.specs.Fault.{IsCause}
+use Rattle.dim_tree.specs.Fault.{IsDimCause}
 use Rattle.dim_tree.proofs.Building.{IsOutline_lines, entries_of_lines}
 use Rattle.dim_tree.proofs.Outlines.{tree_fault_first}
 use Rattle.dim_tree.proofs.Placing.{ArePlaces_range}
@@ -13,7 +13,7 @@ use Rattle.dim_tree.proofs.dim.Dim.of_lines.Goals as goal
 pub returns-in_err-names-clause-refused : goal.returns-in_err-names-clause-refused
 returns-in_err-names-clause-refused c =
     let given = err_from_is_err_and c.from_residual.result c.from_residual.ensures.1 in
-    rw (given.1, given.2, tree_fault_first c.args.lines.now (omega arith) c.requires.few) (subst (λ ls. IsCause (first_fault [] 0 ls) c.in_err-names.field-0.0) (map-id c.args.lines.now) c.in_err-names.ensures.refused)
+    rw (given.1, given.2, tree_fault_first c.args.lines.now (omega arith) c.requires.few) (subst (λ ls. IsDimCause (first_fault [] 0 ls) c.in_err-names.field-0.0) (map-id c.args.lines.now) c.in_err-names.ensures.refused)
 
 pub indexed-requires-clause-outline : goal.indexed-requires-clause-outline
 indexed-requires-clause-outline c =

@@ -3,7 +3,7 @@ use Rattle.std.proofs.Common.{◌+◌, ◌∙◌, ap, arith, refl, sym}
 use Rattle.cube_model.specs.declared.edit.Edit.TheVariants.{Put}
 use Rattle.drill_run.specs.Doing.{blank_tally, edit_once}
 use Rattle.drill_run.specs.Edits.{fact_after}
-use Rattle.drill_run.specs.Numbers.{next_state, number_at}
+use Rattle.drill_run.specs.Numbers.{drawn_number, next_state}
 use Rattle.drill_run.specs.Space.{drill_schema}
 use Rattle.drill_run.proofs.Folding.{fact-next, put-more, state-more}
 use Rattle.drill_run.proofs.Lying.{drawn-placed}
@@ -12,7 +12,7 @@ use Rattle.drill_run.proofs.drill.Drill.put_all.Goals as goal
 pub edit-requires-clause-over : goal.edit-requires-clause-over
 edit-requires-clause-over c =
     let state = c.loop-earlier.draws in
-    drawn-placed (c.loop-earlier.earlier + 1) (number_at (next_state state)) (number_at (next_state (next_state state))) (number_at (next_state (next_state (next_state state)))) (number_at c.fact.new.self)
+    drawn-placed (c.loop-earlier.earlier + 1) (drawn_number (next_state state)) (drawn_number (next_state (next_state state))) (drawn_number (next_state (next_state (next_state state)))) (drawn_number c.fact.new.self)
     c.fact.result c.fact.ensures.fact (omega arith) (omega arith)
 
 pub loop-earlier-preserved : goal.loop-earlier-preserved

@@ -4,7 +4,7 @@ use Rattle.fact_keeper.specs.declared.content.KeptFact.{KeptFact}
 use Rattle.fact_keeper.specs.declared.content.KeptRows.{KeptRows}
 use Rattle.fact_keeper.specs.declared.content.Stored.{Stored}
 use Rattle.fact_keeper.specs.Batch.{fact_id, rows_id, updated}
-use Rattle.fact_keeper.specs.Order.{IsAscending, IsInOrder}
+use Rattle.fact_keeper.specs.Order.{AscendsBy, IsInOrder}
 use Rattle.fact_keeper.proofs.content.Stored.take_in.Goals.{in-Some, in_default}
 use Rattle.fact_keeper.proofs.content.Stored.take_in.Goals as goal
 
@@ -23,13 +23,13 @@ content_same schema schema' facts facts' rows rows' same_schema same_facts same_
 pub update-requires : goal.update-requires
 update-requires c = record {
   room = omega (arith, c.in_ok-old_facts.ensures.room, ap length c.as_slice.ensures, ap length c.into_vec.ensures);
-  order = λ is. subst (IsAscending fact_id) (sym c.in_ok-old_facts.ensures.taken) (c.requires is).facts;
+  order = λ is. subst (AscendsBy fact_id) (sym c.in_ok-old_facts.ensures.taken) (c.requires is).facts;
 }
 
 pub update-requires-in-Ok : goal.update-requires-in-Ok
 update-requires-in-Ok c = record {
   room = omega (arith, c.in-Ok.ensures.room, ap length c.as_slice-2.ensures, ap length c.into_vec-in-Ok.ensures);
-  order = λ is. subst (IsAscending rows_id) (sym c.in-Ok.ensures.taken) (c.requires is).rows;
+  order = λ is. subst (AscendsBy rows_id) (sym c.in-Ok.ensures.taken) (c.requires is).rows;
 }
 
 pub returns-after-schema-2-clause-ok : goal.returns-after-schema-2-clause-ok

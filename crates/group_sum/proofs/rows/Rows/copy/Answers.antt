@@ -2,7 +2,7 @@ use Rattle.std.proofs.Common.{◌≡◌, ◌+◌, ◌≤◌, List, set, ap, arit
 use Rattle.std.specs.List.{copy_within}
 use Rattle.cube_model.specs.declared.term.Term.{Term}
 use Rattle.group_sum.specs.Place.{term_at}
-use Rattle.group_sum.specs.Rows.{IsFlat, terms_in}
+use Rattle.group_sum.specs.Rows.{IsFlat, row_terms}
 use Rattle.group_sum.specs.Terms.{TermList}
 use Rattle.group_sum.proofs.Flat.{flat-copy, flat_in, den_read, row_fits, terms_are}
 use Rattle.group_sum.proofs.rows.Rows.copy.Goals as goal
@@ -22,7 +22,7 @@ pub copy_within-requires-clause-dest_in_bounds : goal.copy_within-requires-claus
 copy_within-requires-clause-dest_in_bounds c = let ends : c.start-dest.result + c.self.inside.columns ≤ vec_len c.self.inside.nums = omega arith in search rules
 
 -- the term is copied
-copied : (c : goal.After-copy_within) → IsFlat c.self.inside.columns (set (terms_in c.self.inside.columns c.self.inside.dens.items c.self.inside.nums.items) c.args.to (term_at (terms_in c.self.inside.columns c.self.inside.dens.items c.self.inside.nums.items) c.args.at))
+copied : (c : goal.After-copy_within) → IsFlat c.self.inside.columns (set (row_terms c.self.inside.columns c.self.inside.dens.items c.self.inside.nums.items) c.args.to (term_at (row_terms c.self.inside.columns c.self.inside.dens.items c.self.inside.nums.items) c.args.at))
     (set c.self.inside.dens.items c.args.to c.index.result.now) c.copy_within.new.self.items
 copied c =
     let from = rw (← c.self.view_is) at c.requires.at in

@@ -1,6 +1,6 @@
 use Rattle.std.proofs.Common.{◌≡◌, ◌+◌, ◌-◌, ◌*◌, ◌++◌, List, length, pos, replicate, take, ap, ◌∙◌, arith, rules, vec_len}
 use Rattle.cube_model.specs.declared.term.Term.{Term}
-use Rattle.group_sum.specs.Rows.{IsFlat, terms_in}
+use Rattle.group_sum.specs.Rows.{IsFlat, row_terms}
 use Rattle.group_sum.specs.Share.{bare_term}
 use Rattle.group_sum.specs.Terms.{TermList}
 use Rattle.group_sum.proofs.Flat.{flat-grow, flat_in, resized, rows_more, terms_are}
@@ -25,7 +25,7 @@ dens_grown c =
     items ∙ resized c.self.inside.dens.items (vec_len c.self.inside.dens) c.in_ok-dens.dens c.args.more 0 len dens
 
 -- the terms with the new ones behind them
-grown : (c : goal.Else-is_err) → IsFlat c.self.inside.columns (terms_in c.self.inside.columns c.self.inside.dens.items c.self.inside.nums.items ++ replicate c.args.more (bare_term 0 (c.self.inside.columns - 1))) c.resize.new.self.items c.resize-2.new.self.items
+grown : (c : goal.Else-is_err) → IsFlat c.self.inside.columns (row_terms c.self.inside.columns c.self.inside.dens.items c.self.inside.nums.items ++ replicate c.args.more (bare_term 0 (c.self.inside.columns - 1))) c.resize.new.self.items c.resize-2.new.self.items
 grown c = rw (dens_grown c, nums_grown c) (flat-grow _ _ _ _ c.self.invariant c.args.more)
 
 pub invariant_of-self-else-is_err : goal.invariant_of-self-else-is_err

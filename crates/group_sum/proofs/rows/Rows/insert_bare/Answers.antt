@@ -4,7 +4,7 @@ use Rattle.std.specs.Vec.{with_items}
 use Rattle.std.proofs.lemmas.List.{with_items_is, length-drop, length-replicate, take_rest}
 use borrow.Rule.Slice.PartMut.{put_mid}
 use Rattle.cube_model.specs.declared.term.Term.{Term}
-use Rattle.group_sum.specs.Rows.{IsFlat, terms_in}
+use Rattle.group_sum.specs.Rows.{IsFlat, row_terms}
 use Rattle.group_sum.specs.Share.{bare_term}
 use Rattle.group_sum.specs.Terms.{TermList}
 use Rattle.group_sum.proofs.Flat.{flat-insert, flat_in, gap_fits, resized, row_of-bare, terms_are, turned}
@@ -22,7 +22,7 @@ turn_right-requires c =
     rw (take_rest, length-drop) (omega arith)
 
 -- the term is put in between
-put_in : (c : goal.After-self-1) → IsFlat c.self.inside.columns (insert (terms_in c.self.inside.columns c.self.inside.dens.items c.self.inside.nums.items) c.args.at (bare_term c.args.den (c.self.inside.columns - 1)))
+put_in : (c : goal.After-self-1) → IsFlat c.self.inside.columns (insert (row_terms c.self.inside.columns c.self.inside.dens.items c.self.inside.nums.items) c.args.at (bare_term c.args.den (c.self.inside.columns - 1)))
     c.insert.new.self.items (with_items c.resize.new.self (put_mid c.start-from.result (length c.deref_mut.result.now - c.start-from.result) c.deref_mut.result.now c.turn_right.new.items)).items
 put_in c =
     let at = rw (← c.self.view_is) at c.requires in

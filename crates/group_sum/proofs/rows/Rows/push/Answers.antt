@@ -1,12 +1,12 @@
 use Rattle.std.proofs.Common.{◌≡◌, List, [], ◌∷◌, ◌++◌, length, ℤ, sym, ap, ◌∙◌, rules}
 use Rattle.cube_model.specs.declared.term.Term.{Term}
-use Rattle.group_sum.specs.Rows.{IsFlat, row_term, terms_in}
+use Rattle.group_sum.specs.Rows.{IsFlat, row_term, row_terms}
 use Rattle.group_sum.specs.Terms.{TermList}
 use Rattle.group_sum.proofs.Flat.{flat-push, flat_in, terms_are}
 use Rattle.group_sum.proofs.rows.Rows.push.Goals as goal
 
 -- the term is behind all
-pushed : (c : goal.Else-is_err) → IsFlat c.self.inside.columns (terms_in c.self.inside.columns c.self.inside.dens.items c.self.inside.nums.items ++ row_term c.args.den c.args.row.now ∷ []) c.push.new.self.items c.extend_from_slice.new.self.items
+pushed : (c : goal.Else-is_err) → IsFlat c.self.inside.columns (row_terms c.self.inside.columns c.self.inside.dens.items c.self.inside.nums.items ++ row_term c.args.den c.args.row.now ∷ []) c.push.new.self.items c.extend_from_slice.new.self.items
 pushed c =
     let columns = rw (← c.self.view_is) at c.requires.columns in
     let dens : c.push.new.self.items ≡ c.self.inside.dens.items ++ c.args.den ∷ [] = search rules in

@@ -3,7 +3,7 @@ use Rattle.std.specs.Vec.{with_items}
 use Rattle.std.proofs.lemmas.List.{with_items_is}
 use borrow.Rule.Slice.PartMut.{put_mid}
 use Rattle.cube_model.specs.declared.term.Term.{Term}
-use Rattle.group_sum.specs.Rows.{row_term, terms_in}
+use Rattle.group_sum.specs.Rows.{row_term, row_terms}
 use Rattle.group_sum.specs.Terms.{TermList}
 use Rattle.group_sum.specs.Rows.{IsRow}
 use Rattle.group_sum.specs.Share.{RaisesTerm, TermFits}
@@ -17,7 +17,7 @@ start-from-requires c =
     rw c.deref.ensures.value (row_fits _ _ _ _ c.self.invariant c.args.at place)
 
 -- it is lent
-lent : (c : goal.After-raise-arg-1) → IsLent c.self.inside.columns (terms_in c.self.inside.columns c.self.inside.dens.items c.self.inside.nums.items) c.self.inside.dens.items c.self.inside.nums.items c.args.at c.start-from.result c.deref_mut.result.now
+lent : (c : goal.After-raise-arg-1) → IsLent c.self.inside.columns (row_terms c.self.inside.columns c.self.inside.dens.items c.self.inside.nums.items) c.self.inside.dens.items c.self.inside.nums.items c.args.at c.start-from.result c.deref_mut.result.now
 lent c = record { flat = c.self.invariant; place = rw (← c.self.view_is) at c.requires.place; start_is = c.start-from.ensures.start; lent_is = c.deref_mut.ensures.value }
 
 pub raise-requires-clause-row : goal.raise-requires-clause-row
@@ -39,7 +39,7 @@ items c = (with_items c.self.inside.nums (put_mid c.start-from.result (c.start-f
 items_are : (c : goal.After-self-1) → items c ≡ put_mid c.start-from.result (c.start-from.result + c.self.inside.columns - c.start-from.result) c.deref_mut.result.now c.raise.new.row
 items_are c = with_items_is c.self.inside.nums _ (search rules)
 
-abbrev written : (c : goal.After-self-1) → IsWritten c.self.inside.columns (terms_in c.self.inside.columns c.self.inside.dens.items c.self.inside.nums.items) c.self.inside.dens.items c.self.inside.nums.items c.args.at c.raise.new.row (items c)
+abbrev written : (c : goal.After-self-1) → IsWritten c.self.inside.columns (row_terms c.self.inside.columns c.self.inside.dens.items c.self.inside.nums.items) c.self.inside.dens.items c.self.inside.nums.items c.args.at c.raise.new.row (items c)
 written c = record {
   start = c.start-from.result;
   lent = c.deref_mut.result.now;

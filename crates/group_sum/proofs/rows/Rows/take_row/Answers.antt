@@ -3,7 +3,7 @@ use Rattle.std.specs.Vec.{with_items}
 use Rattle.std.proofs.lemmas.List.{with_items_is}
 use borrow.Rule.Slice.PartMut.{put_mid}
 use Rattle.cube_model.specs.declared.term.Term.{Term}
-use Rattle.group_sum.specs.Rows.{row_term, terms_in}
+use Rattle.group_sum.specs.Rows.{row_term, row_terms}
 use Rattle.group_sum.specs.Terms.{TermList}
 use Rattle.group_sum.specs.Place.{term_at}
 use Rattle.group_sum.specs.Heads.{remainder_in}
@@ -18,7 +18,7 @@ start-from-requires c =
     rw c.deref.ensures.value (row_fits _ _ _ _ c.self.invariant c.args.at place)
 
 -- it is lent
-lent : (c : goal.After-take_away-arg-1) → IsLent c.self.inside.columns (terms_in c.self.inside.columns c.self.inside.dens.items c.self.inside.nums.items) c.self.inside.dens.items c.self.inside.nums.items c.args.at c.start-from.result c.deref_mut.result.now
+lent : (c : goal.After-take_away-arg-1) → IsLent c.self.inside.columns (row_terms c.self.inside.columns c.self.inside.dens.items c.self.inside.nums.items) c.self.inside.dens.items c.self.inside.nums.items c.args.at c.start-from.result c.deref_mut.result.now
 lent c = record { flat = c.self.invariant; place = rw (← c.self.view_is) at c.requires.place; start_is = c.start-from.ensures.start; lent_is = c.deref_mut.ensures.value }
 
 pub take_away-requires-clause-columns : goal.take_away-requires-clause-columns
@@ -30,7 +30,7 @@ take_away-requires-clause-within c =
     let count = rw (← c.self.view_is) at c.requires.count in
     let most = rw (← c.self.view_is) at c.requires.most in
     let sums = rw (← c.self.view_is) at c.requires.sums in
-    difference_fits_row _ (term_at (terms_in c.self.inside.columns c.self.inside.dens.items c.self.inside.nums.items) c.args.at) _ _ (record { of_term = row_lent _ _ _ _ _ _ _ (lent c); len = row_of_lent _ _ _ _ _ _ _ (lent c); is_row = c.requires.row }) count most sums
+    difference_fits_row _ (term_at (row_terms c.self.inside.columns c.self.inside.dens.items c.self.inside.nums.items) c.args.at) _ _ (record { of_term = row_lent _ _ _ _ _ _ _ (lent c); len = row_of_lent _ _ _ _ _ _ _ (lent c); is_row = c.requires.row }) count most sums
 
 -- it is written over
 len : (c : goal.After-self-1) → length c.take_away.new.row ≡ c.self.inside.columns
@@ -42,17 +42,17 @@ items c = (with_items c.self.inside.nums (put_mid c.start-from.result (c.start-f
 items_are : (c : goal.After-self-1) → items c ≡ put_mid c.start-from.result (c.start-from.result + c.self.inside.columns - c.start-from.result) c.deref_mut.result.now c.take_away.new.row
 items_are c = with_items_is c.self.inside.nums _ (search rules)
 
-is_lent : (c : goal.After-self-1) → IsLent c.self.inside.columns (terms_in c.self.inside.columns c.self.inside.dens.items c.self.inside.nums.items) c.self.inside.dens.items c.self.inside.nums.items c.args.at c.start-from.result c.deref_mut.result.now
+is_lent : (c : goal.After-self-1) → IsLent c.self.inside.columns (row_terms c.self.inside.columns c.self.inside.dens.items c.self.inside.nums.items) c.self.inside.dens.items c.self.inside.nums.items c.args.at c.start-from.result c.deref_mut.result.now
 is_lent c = record { flat = c.self.invariant; place = rw (← c.self.view_is) at c.requires.place; start_is = c.start-from.ensures.start; lent_is = c.deref_mut.ensures.value }
 
 abbrev here : (c : goal.After-self-1) → Term
-here c = term_at (terms_in c.self.inside.columns c.self.inside.dens.items c.self.inside.nums.items) c.args.at
+here c = term_at (row_terms c.self.inside.columns c.self.inside.dens.items c.self.inside.nums.items) c.args.at
 
 becomes : (c : goal.After-self-1) → IsRowOf (here c).den (c.self.inside.columns - 1) ((here c).count - (row_term 0 c.args.row.now).count) (remainder_in (Some (here c)) (Some (row_term 0 c.args.row.now))) c.take_away.new.row
 becomes c =
     difference_of_row _ _ _ _ (record { of_term = row_lent _ _ _ _ _ _ _ (is_lent c); len = row_of_lent _ _ _ _ _ _ _ (is_lent c); is_row = c.requires.row }) c.take_away.new.row (len c) (rw (← c.self.view_is) at c.requires.count) c.take_away.ensures
 
-abbrev written : (c : goal.After-self-1) → IsWritten c.self.inside.columns (terms_in c.self.inside.columns c.self.inside.dens.items c.self.inside.nums.items) c.self.inside.dens.items c.self.inside.nums.items c.args.at c.take_away.new.row (items c)
+abbrev written : (c : goal.After-self-1) → IsWritten c.self.inside.columns (row_terms c.self.inside.columns c.self.inside.dens.items c.self.inside.nums.items) c.self.inside.dens.items c.self.inside.nums.items c.args.at c.take_away.new.row (items c)
 written c = record {
   start = c.start-from.result;
   lent = c.deref_mut.result.now;

@@ -3,7 +3,7 @@ use Rattle.std.specs.Vec.{with_items}
 use Rattle.std.proofs.lemmas.List.{with_items_is}
 use borrow.Rule.Slice.PartMut.{put_mid}
 use Rattle.cube_model.specs.declared.term.Term.{Term}
-use Rattle.group_sum.specs.Rows.{IsFlat, row_of, row_term, terms_in}
+use Rattle.group_sum.specs.Rows.{IsFlat, row_of, row_term, row_terms}
 use Rattle.group_sum.specs.Terms.{TermList}
 use Rattle.group_sum.proofs.Flat.{flat-set, flat_in, row_fits, terms_are}
 use Rattle.group_sum.proofs.rows.Rows.write.Goals as goal
@@ -15,7 +15,7 @@ start-from-requires c =
     rw c.deref.ensures.value (row_fits _ _ _ _ c.self.invariant c.args.at place)
 
 -- the term is written over
-written : (c : goal.After-self-2-1) → IsFlat c.self.inside.columns (set (terms_in c.self.inside.columns c.self.inside.dens.items c.self.inside.nums.items) c.args.at (row_term c.args.den c.args.row.now))
+written : (c : goal.After-self-2-1) → IsFlat c.self.inside.columns (set (row_terms c.self.inside.columns c.self.inside.dens.items c.self.inside.nums.items) c.args.at (row_term c.args.den c.args.row.now))
     (set c.self.inside.dens.items c.args.at c.args.den) (with_items c.self.inside.nums (put_mid c.start-from.result (c.start-from.result + c.self.inside.columns - c.start-from.result) c.deref_mut.result.now c.copy_from_slice.new.self)).items
 written c =
     let place = rw (← c.self.view_is) at c.requires.place in
