@@ -6,10 +6,9 @@ ghost use Rattle.region_algebra.specs.Inside.{cells_inside};
 ghost use Rattle.region_algebra.specs.Space.{IsRegion};
 ghost use Rattle.alloc_rows.specs.Alloc.{IsAllocation};
 
-use cube_base::Memory;
+use cube_base::{Memory, SharedPairs};
 use cube_model::Region;
 use region_algebra::{Inside, Space};
-use shared_list::SharedPairs;
 use std::alloc::Global;
 use std::marker::Model;
 

@@ -16,7 +16,7 @@ use Rattle.fact_records.specs.Fields.{fact_given}
 use Rattle.fact_records.specs.Shape.{ShapeValue}
 use Rattle.fact_records.specs.Valid.{IsFactOf}
 use Rattle.schema_text.specs.Schema.{SchemaValue, shape_of}
-use Rattle.fact_sequence.specs.declared.fact_seq.FactSeq.{FactSeq}
+use Rattle.fact_records.specs.declared.fact_seq.FactSeq.{FactSeq}
 use Rattle.csv_facts.specs.FactFile.{facts_from, facts_in, header_of, is_header, record_given, seq_behind, seq_with}
 
 -- a record has as many fields as there are columns

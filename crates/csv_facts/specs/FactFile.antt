@@ -8,7 +8,7 @@ use Rattle.cube_base.specs.declared.code.Code.TheVariants as code
 use Rattle.cube_model.specs.declared.edit.Fact.{Fact}
 use Rattle.fact_records.specs.Fields.{fact_given}
 use Rattle.schema_text.specs.Schema.{SchemaValue, shape_of}
-use Rattle.fact_sequence.specs.declared.fact_seq.FactSeq.{FactSeq}
+use Rattle.fact_records.specs.declared.fact_seq.FactSeq.{FactSeq}
 use Rattle.fact_fields.specs.FactRow.{record_of}
 use Rattle.csv_facts.specs.RecordList.{records_text}
 

@@ -4,4 +4,5 @@ pub mod MemoryIo
 pub mod Name
 pub mod Outside
 pub mod Search
+pub mod SharedList
 pub mod StandardIo

@@ -4,7 +4,7 @@ use Rattle.std.specs.Prelude.{IfErr, IfOk, OnOk}
 use Rattle.std.specs.List.{concat}
 use Rattle.std.specs.Io.KnownBytes.{Appends}
 use Rattle.fact_keeper.specs.declared.content.Stored.{Stored}
-use Rattle.line_cutter.specs.Input.{INPUT_LIMIT, TakesAtMost}
+use Rattle.text_lines.specs.Input.{INPUT_LIMIT, TakesAtMost}
 use Rattle.script_run.specs.declared.break_off.BreakOff.{BreakOff}
 use Rattle.script_run.specs.declared.break_off.BreakOff.TheVariants as break_off
 use Rattle.script_run.specs.Kept.{Commits, KeptAt, is_keep}

@@ -4,10 +4,10 @@ use Rattle.cube_base.specs.declared.code.Code.{Code}
 use Rattle.cube_base.specs.declared.fault.SinkError.{SinkError}
 use Rattle.cube_base.specs.declared.fault.SinkError.TheVariants as sink_error
 use Rattle.fact_keeper.specs.declared.content.Stored.{Stored}
-use Rattle.fact_sequence.specs.declared.fact_seq.BadRecord.{BadRecord as RecordAt}
-use Rattle.line_cutter.specs.Input.{INPUT_LIMIT, StopsReading, TakesAtMost}
-use Rattle.line_cutter.specs.declared.input.InputStop.{InputStop}
-use Rattle.line_cutter.specs.declared.input.InputStop.TheVariants as input_stop
+use Rattle.fact_records.specs.declared.fact_seq.BadRecord.{BadRecord as RecordAt}
+use Rattle.text_lines.specs.Input.{INPUT_LIMIT, StopsReading, TakesAtMost}
+use Rattle.text_lines.specs.declared.input.InputStop.{InputStop}
+use Rattle.text_lines.specs.declared.input.InputStop.TheVariants as input_stop
 use Rattle.script_run.specs.Seen.{KeepFailed, NoKeepFault, NoReadFault, NoWriteFault, SeenAll}
 use Rattle.cube_cli.specs.declared.end.End.{End}
 use Rattle.cube_cli.specs.declared.end.End.TheVariants.{BadRecord, Finished, ImportRows, KeepFault, Memory, ReadFault, Schema, TooLong, WriteFault}

@@ -8,7 +8,7 @@ use Rattle.fact_keeper.specs.declared.content.Stored.{Stored}
 use Rattle.text_lines.specs.Text.{line_text}
 use Rattle.schema_text.specs.Schema.{SchemaValue, schema_policy, shape_of, weigh_of}
 use Rattle.schema_text.specs.declared.word.PolicyWord.{PolicyWord}
-use Rattle.stored_state.specs.Sound.{IsSound, facts_told}
+use Rattle.store_audit.specs.Sound.{IsSound, facts_told}
 use Rattle.cube_core.specs.Cube.{CubeValue}
 use Rattle.cube_cli.specs.Doing.{OneWork, text_work, with_schema}
 use Rattle.cube_cli.specs.Files.{text_told}

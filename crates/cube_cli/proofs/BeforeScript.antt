@@ -6,8 +6,8 @@ use Rattle.std.specs.Result.{result_ok}
 use Rattle.std.specs.List.{concat}
 use Rattle.std.specs.Io.KnownBytes.{Appends, Consumes, Keeps}
 use Rattle.std.proofs.KnownBytes.{Appends-nil, Consumes-nil, Keeps-refl}
-use Rattle.line_cutter.specs.Input.{INPUT_LIMIT}
-use Rattle.line_cutter.specs.Pieces.{lf_count}
+use Rattle.text_lines.specs.Input.{INPUT_LIMIT}
+use Rattle.text_lines.specs.Pieces.{lf_count}
 use Rattle.schema_text.specs.SchemaText.{BadLine, ReadSchema, schema_of}
 use Rattle.cube_base.specs.declared.code.Code.{Code}
 use Rattle.script_run.specs.Seen.{SeenAll, SinkSeen, SourceSeen, Wrote, WroteNothing}
@@ -24,7 +24,7 @@ use Rattle.cube_cli.specs.SchemaLines.{HasHeadCause, TookToEnd, has_end}
 use Rattle.cube_cli.specs.Trying.{replies_of, script_lines_in}
 use Rattle.cube_cli.specs.Seen.{IsUntouched, NoFault, Took, WasNotCalled}
 use Rattle.cube_cli.specs.declared.end.End.TheVariants.{Schema}
-use Rattle.line_cutter.specs.declared.input.InputStop.TheVariants as input_stop
+use Rattle.text_lines.specs.declared.input.InputStop.TheVariants as input_stop
 use Rattle.script_run.specs.Kept.{Commits}
 use Rattle.fact_keeper.specs.Batch.{empty_content}
 use Rattle.cube_cli.proofs.Keepers.{unkept}

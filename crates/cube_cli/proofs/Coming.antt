@@ -4,9 +4,9 @@ use Rattle.std.specs.Prelude.{◌⊎◌, IfSome}
 use Rattle.std.specs.Io.KnownBytes.{Consumes, IsAtEnd}
 use Rattle.std.proofs.lemmas.List.{take_at, take-append-drop, take-append-le}
 use Rattle.text_lines.specs.Text.{lines_of}
-use Rattle.line_cutter.specs.Pieces.{ended_lines, lf_count, line_end}
-use Rattle.line_cutter.specs.Reading.{PIECE_LIMIT}
-use Rattle.line_cutter.proofs.Ended.{ended_lines-length, line_end-behind, lines_of-ended}
+use Rattle.text_lines.specs.Pieces.{ended_lines, lf_count, line_end}
+use Rattle.text_lines.specs.Reading.{PIECE_LIMIT}
+use Rattle.text_lines.proofs.Ended.{ended_lines-length, line_end-behind, lines_of-ended}
 use Rattle.script_run.specs.declared.break_off.BreakOff.{BreakOff}
 use Rattle.script_run.specs.Kept.{KeptAt}
 use Rattle.script_run.specs.Progress.{BreaksOff}

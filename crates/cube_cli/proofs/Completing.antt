@@ -11,12 +11,12 @@ use Rattle.fact_keeper.specs.declared.content.Stored.{Stored}
 use Rattle.fact_records.specs.Shape.{ShapeValue}
 use Rattle.schema_text.specs.Schema.{SchemaValue, shape_of}
 use Rattle.schema_text.specs.SchemaText.{BadLine, schema_of}
-use Rattle.stored_state.specs.Mending.{IsMendable}
-use Rattle.stored_state.specs.Sound.{IsFinding, IsSound}
-use Rattle.stored_state.specs.declared.finding.Finding.{Finding}
-use Rattle.stored_state.specs.declared.finding.Finding.TheVariants as finding
+use Rattle.store_audit.specs.Mending.{IsMendable}
+use Rattle.store_audit.specs.Sound.{IsFinding, IsSound}
+use Rattle.store_audit.specs.declared.finding.Finding.{Finding}
+use Rattle.store_audit.specs.declared.finding.Finding.TheVariants as finding
 use Rattle.script_run.specs.Seen.{KeeperSeen, SeenAll, SourceSeen}
-use Rattle.line_cutter.specs.Input.{INPUT_LIMIT, GoesOn}
+use Rattle.text_lines.specs.Input.{INPUT_LIMIT, GoesOn}
 use Rattle.cube_cli.specs.declared.command.Command.{Command}
 use Rattle.cube_cli.specs.declared.command.Command.TheVariants.{Drill, Store, Try}
 use Rattle.cube_cli.specs.declared.command.StoreCommand.TheVariants.{Ask, Follow, Init, Input, Rebuild, Tell}

@@ -3,9 +3,9 @@ use Rattle.std.proofs.Common.{◌≡◌, ℕ, Bool, List, refl, inl}
 use Rattle.std.specs.Prelude.{◌≢◌}
 use Rattle.fact_keeper.specs.Batch.{empty_content}
 use Rattle.fact_keeper.specs.declared.content.Stored.{Stored}
-use Rattle.line_cutter.specs.Input.{INPUT_LIMIT, TakesAtMost}
+use Rattle.text_lines.specs.Input.{INPUT_LIMIT, TakesAtMost}
 use Rattle.script_run.specs.Seen.{NoWriteFault, SeenAll, WroteNothing}
-use Rattle.stored_state.specs.declared.finding.Finding.{Finding}
+use Rattle.store_audit.specs.declared.finding.Finding.{Finding}
 use Rattle.cube_cli.specs.declared.end.End.{End}
 use Rattle.cube_cli.specs.declared.end.End.TheVariants.{BadStore, HasCube, KeepFault, Memory, NoCube, Usage}
 use Rattle.cube_cli.specs.Doing.{AsNeeded, AtOnce, ByLines, Doing, Works}

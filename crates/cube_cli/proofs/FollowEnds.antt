@@ -12,12 +12,12 @@ use Rattle.fact_keeper.specs.declared.content.Stored.{Stored}
 use Rattle.fact_keeper.specs.Batch.{empty_content}
 use Rattle.schema_text.specs.Schema.{SchemaValue}
 use Rattle.schema_text.specs.SchemaText.{schema_of, schema_text}
-use Rattle.stored_state.specs.Sound.{facts_told}
+use Rattle.store_audit.specs.Sound.{facts_told}
 use Rattle.text_lines.specs.Text.{lines_of}
-use Rattle.line_cutter.specs.Input.{GoesOn, INPUT_LIMIT, TakesAtMost}
-use Rattle.line_cutter.specs.Pieces.{ended_lines, front, lf_count, line_end}
-use Rattle.line_cutter.specs.Reading.{PIECE_LIMIT}
-use Rattle.line_cutter.proofs.Ended.{ended_lines-length, line_end-behind, lines_of-ended}
+use Rattle.text_lines.specs.Input.{GoesOn, INPUT_LIMIT, TakesAtMost}
+use Rattle.text_lines.specs.Pieces.{ended_lines, front, lf_count, line_end}
+use Rattle.text_lines.specs.Reading.{PIECE_LIMIT}
+use Rattle.text_lines.proofs.Ended.{ended_lines-length, line_end-behind, lines_of-ended}
 use Rattle.script_run.specs.declared.break_off.BreakOff.{BreakOff}
 use Rattle.script_run.specs.declared.break_off.BreakOff.TheVariants as break_off
 use Rattle.script_run.specs.declared.streaming.StreamStop.{StreamStop}

@@ -5,7 +5,7 @@ use Rattle.std.specs.List.{list_any, position_or_len}
 use Rattle.std.proofs.lemmas.Bool.{lt-ltb}
 use Rattle.std.proofs.lemmas.List.{drop_at, take_at}
 use Rattle.std.proofs.lemmas.List.Folds.{list_any-append}
-use Rattle.line_cutter.specs.Pieces.{behind_line, rest_of, whole_lines}
+use Rattle.text_lines.specs.Pieces.{behind_line, rest_of, whole_lines}
 use Rattle.schema_text.specs.SchemaText.{is_end}
 use Rattle.cube_cli.specs.SchemaLines.{TookHeld, text_of_lines}
 use Rattle.cube_cli.proofs.SchemaTaking.{pieces-are}

@@ -15,8 +15,8 @@ use Rattle.fact_keeper.specs.Order.{AscendsBy}
 use Rattle.fact_keeper.proofs.Puts.{ascending_from_adjacent}
 use Rattle.fact_records.specs.FactList.{IsAscending}
 use Rattle.fact_records.specs.Shape.{ShapeValue}
-use Rattle.stored_state.specs.Sound.{AreGood, fact_fault, fact_told, id_before}
-use Rattle.stored_state.proofs.Judging.{IsGood, good-fact}
+use Rattle.store_audit.specs.Sound.{AreGood, fact_fault, fact_told, id_before}
+use Rattle.store_audit.proofs.Judging.{IsGood, good-fact}
 
 -- what is made of items in order is in order
 pub pairs-map : {X Y : Type 0} (f : X → Y) (key : Y → ℕ) (xs : List X) → AllPairs (λ a b. key (f a) < key (f b)) xs → AscendsBy key (map f xs)

@@ -5,7 +5,7 @@ use Rattle.std.specs.Io.KnownBytes.{Keeps}
 use Rattle.std.proofs.KnownBytes.{Consumes-whole}
 use Rattle.fact_keeper.specs.Batch.{empty_content}
 use Rattle.fact_keeper.specs.declared.content.Stored.{Stored}
-use Rattle.line_cutter.specs.Input.{INPUT_LIMIT, Taken, TakesAtMost}
+use Rattle.text_lines.specs.Input.{INPUT_LIMIT, Taken, TakesAtMost}
 use Rattle.script_run.specs.Seen.{KeeperSeen, SourceSeen}
 use Rattle.cube_cli.specs.Seen.{Holds, OfContent, OfInput, ReadNothing, ReadWhole}
 

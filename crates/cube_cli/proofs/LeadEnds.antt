@@ -10,10 +10,10 @@ use Rattle.cube_model.specs.declared.statistic.CellStat.{CellStat}
 use Rattle.fact_keeper.specs.declared.content.Stored.{Stored}
 use Rattle.schema_text.specs.Schema.{SchemaValue, weigh_of}
 use Rattle.text_lines.specs.Text.{lines_of}
-use Rattle.line_cutter.specs.Input.{GoesOn, INPUT_LIMIT, TakesAtMost}
-use Rattle.line_cutter.specs.Pieces.{ended_lines, lf_count, line_end}
-use Rattle.line_cutter.specs.Reading.{PIECE_LIMIT}
-use Rattle.line_cutter.proofs.Ended.{ended_lines-length}
+use Rattle.text_lines.specs.Input.{GoesOn, INPUT_LIMIT, TakesAtMost}
+use Rattle.text_lines.specs.Pieces.{ended_lines, lf_count, line_end}
+use Rattle.text_lines.specs.Reading.{PIECE_LIMIT}
+use Rattle.text_lines.proofs.Ended.{ended_lines-length}
 use Rattle.script_run.specs.declared.break_off.BreakOff.{BreakOff}
 use Rattle.script_run.specs.declared.break_off.BreakOff.TheVariants as break_off
 use Rattle.script_run.specs.declared.streaming.StreamStop.{StreamStop}

@@ -7,8 +7,8 @@ use Rattle.fact_keeper.specs.Batch.{empty_content}
 use Rattle.fact_keeper.specs.Keeper.{CountsKeepFault}
 use Rattle.fact_keeper.specs.declared.keeper.KeepError.{KeepError}
 use Rattle.fact_keeper.specs.declared.keeper.KeepError.TheVariants as keep_error
-use Rattle.line_cutter.specs.Input.{INPUT_LIMIT, StopsReading, Taken}
-use Rattle.line_cutter.specs.declared.input.InputStop.{InputStop}
+use Rattle.text_lines.specs.Input.{INPUT_LIMIT, StopsReading, Taken}
+use Rattle.text_lines.specs.declared.input.InputStop.{InputStop}
 use Rattle.schema_text.specs.Schema.{SchemaValue}
 use Rattle.schema_text.specs.declared.schema.SchemaFault.{SchemaFault}
 use Rattle.schema_text.specs.declared.schema.SchemaFault.TheVariants as schema_fault

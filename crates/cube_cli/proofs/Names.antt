@@ -8,7 +8,7 @@ use Rattle.fact_keeper.specs.declared.keeper.KeepError.TheVariants as keep_error
 use Rattle.script_run.specs.Seen.{SeenAll}
 use Rattle.schema_text.specs.declared.schema.SchemaFault.{SchemaFault}
 use Rattle.schema_text.specs.declared.schema.SchemaFault.TheVariants as schema_fault
-use Rattle.stored_state.specs.declared.finding.LoadFault.TheVariants as load_fault
+use Rattle.store_audit.specs.declared.finding.LoadFault.TheVariants as load_fault
 use Rattle.cube_cli.specs.declared.end.End.{End}
 use Rattle.cube_cli.specs.declared.end.End.TheVariants.{KeepFault, Memory}
 use Rattle.cube_cli.specs.declared.store.OpenStop.{OpenStop}

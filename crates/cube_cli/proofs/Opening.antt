@@ -5,14 +5,14 @@ use Rattle.fact_keeper.specs.declared.content.Stored.{Stored}
 use Rattle.fact_keeper.specs.Batch.{empty_content}
 use Rattle.schema_text.specs.Schema.{SchemaValue, schema_policy, shape_of, weigh_of}
 use Rattle.schema_text.specs.declared.word.PolicyWord.{PolicyWord}
-use Rattle.stored_state.specs.Mending.{IsMendFault, IsMendFinding}
-use Rattle.stored_state.specs.Sound.{IsFinding, IsLoadFault}
+use Rattle.store_audit.specs.Mending.{IsMendFault, IsMendFinding}
+use Rattle.store_audit.specs.Sound.{IsFinding, IsLoadFault}
 use Rattle.schema_text.specs.declared.schema.SchemaFault.{SchemaFault}
 use Rattle.schema_text.specs.declared.schema.SchemaFault.TheVariants as schema_fault
-use Rattle.stored_state.specs.declared.finding.Finding.{Finding}
-use Rattle.stored_state.specs.declared.finding.Finding.TheVariants as finding
-use Rattle.stored_state.specs.declared.finding.LoadFault.{LoadFault}
-use Rattle.stored_state.specs.declared.finding.LoadFault.TheVariants as load_fault
+use Rattle.store_audit.specs.declared.finding.Finding.{Finding}
+use Rattle.store_audit.specs.declared.finding.Finding.TheVariants as finding
+use Rattle.store_audit.specs.declared.finding.LoadFault.{LoadFault}
+use Rattle.store_audit.specs.declared.finding.LoadFault.TheVariants as load_fault
 use Rattle.script_run.specs.Seen.{KeeperSeen, NoKeepFault, SeenAll}
 use Rattle.cube_cli.specs.declared.command.Command.TheVariants.{Store}
 use Rattle.cube_cli.specs.declared.command.StoreCommand.{StoreCommand}

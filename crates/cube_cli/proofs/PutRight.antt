@@ -9,15 +9,15 @@ use Rattle.fact_keeper.specs.declared.content.Stored.{Stored}
 use Rattle.fact_keeper.specs.declared.keeper.KeepError.{KeepError}
 use Rattle.fact_keeper.specs.declared.keeper.KeepError.TheVariants as keep_error
 use Rattle.fact_keeper.specs.Keeper.{CountsKeepFault}
-use Rattle.line_cutter.specs.Input.{INPUT_LIMIT, TakesAtMost}
+use Rattle.text_lines.specs.Input.{INPUT_LIMIT, TakesAtMost}
 use Rattle.schema_text.specs.Schema.{SchemaValue, schema_policy, shape_of, weigh_of}
 use Rattle.schema_text.specs.declared.word.PolicyWord.{PolicyWord}
 use Rattle.script_run.specs.Kept.{Commits}
 use Rattle.script_run.specs.Seen.{NoKeepFault, SeenAll}
 use Rattle.text_lines.specs.Text.{line_text}
-use Rattle.stored_state.specs.Mending.{IsMendable, changed_by, mended_batch}
-use Rattle.stored_state.specs.Sound.{rows_counted}
-use Rattle.stored_state.specs.declared.mending.Mending.{Mending}
+use Rattle.store_audit.specs.Mending.{IsMendable, changed_by, mended_batch}
+use Rattle.store_audit.specs.Sound.{rows_counted}
+use Rattle.store_audit.specs.declared.mending.Mending.{Mending}
 use Rattle.cube_cli.specs.declared.command.Command.TheVariants.{Store}
 use Rattle.cube_cli.specs.declared.command.StoreCommand.TheVariants.{Rebuild}
 use Rattle.cube_cli.specs.declared.end.End.{End}

@@ -9,13 +9,13 @@ use Rattle.cube_core.specs.declared.fault.ImportFault.TheVariants as import_faul
 use Rattle.cube_model.specs.Allocation.{Policy, row_count}
 use Rattle.cube_model.specs.Limits.{MAX_ROWS}
 use Rattle.fact_keeper.specs.declared.content.Stored.{Stored}
-use Rattle.fact_sequence.specs.declared.fact_seq.BadRecord.{BadRecord as RecordAt}
-use Rattle.fact_sequence.specs.declared.fact_seq.FactSeq.{FactSeq}
-use Rattle.line_cutter.specs.Input.{INPUT_LIMIT, StopsReading, Taken}
-use Rattle.line_cutter.specs.declared.input.InputStop.{InputStop}
+use Rattle.fact_records.specs.declared.fact_seq.BadRecord.{BadRecord as RecordAt}
+use Rattle.fact_records.specs.declared.fact_seq.FactSeq.{FactSeq}
+use Rattle.text_lines.specs.Input.{INPUT_LIMIT, StopsReading, Taken}
+use Rattle.text_lines.specs.declared.input.InputStop.{InputStop}
 use Rattle.schema_text.specs.Schema.{SchemaValue, schema_policy, weigh_of}
 use Rattle.schema_text.specs.declared.word.PolicyWord.{PolicyWord}
-use Rattle.stored_state.specs.Sound.{facts_told}
+use Rattle.store_audit.specs.Sound.{facts_told}
 use Rattle.script_run.specs.Kept.{Commits}
 use Rattle.script_run.specs.Seen.{NoKeepFault, NoReadFault, NoWriteFault, SeenAll}
 use Rattle.cube_cli.specs.declared.command.Command.TheVariants.{Store}

@@ -9,9 +9,9 @@ use Rattle.fact_keeper.specs.declared.content.Stored.{Stored}
 use Rattle.schema_text.specs.Schema.{SchemaValue, weigh_of}
 use Rattle.schema_text.specs.declared.word.PolicyWord.{PolicyWord}
 use Rattle.text_lines.specs.Text.{lines_of}
-use Rattle.line_cutter.specs.Input.{GoesOn, INPUT_LIMIT, TakesAtMost}
-use Rattle.line_cutter.specs.Pieces.{line_end}
-use Rattle.line_cutter.specs.Reading.{PIECE_LIMIT}
+use Rattle.text_lines.specs.Input.{GoesOn, INPUT_LIMIT, TakesAtMost}
+use Rattle.text_lines.specs.Pieces.{line_end}
+use Rattle.text_lines.specs.Reading.{PIECE_LIMIT}
 use Rattle.cube_core.specs.Cube.{CubeValue}
 use Rattle.script_run.specs.declared.break_off.BreakOff.{BreakOff}
 use Rattle.script_run.specs.declared.break_off.BreakOff.TheVariants as break_off

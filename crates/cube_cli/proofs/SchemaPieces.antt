@@ -5,12 +5,12 @@ use Rattle.std.specs.Io.KnownBytes.{Consumes, IsAtEnd}
 use Rattle.std.proofs.KnownBytes.{Consumes-kept, Consumes-nil, Consumes-trans}
 use Rattle.std.proofs.lemmas.List.{drop_all, length-map}
 use Rattle.std.proofs.lemmas.List.Folds.{list_any-append}
-use Rattle.line_cutter.specs.Input.{INPUT_LIMIT, TakesAtMost}
-use Rattle.line_cutter.specs.Pieces.{ended_lines, front, last_line, lf_count, line_end, pieces_of, rest_of, whole_lines}
-use Rattle.line_cutter.specs.Reading.{Feeds, Reading, StopsFeeding}
-use Rattle.line_cutter.specs.declared.input.InputStop.{InputStop}
-use Rattle.line_cutter.specs.declared.input.InputStop.TheVariants as input_stop
-use Rattle.line_cutter.proofs.Ended.{ended_lines-length, line_end-behind, rest_of-more, whole_lines-ended, whole_lines-more}
+use Rattle.text_lines.specs.Input.{INPUT_LIMIT, TakesAtMost}
+use Rattle.text_lines.specs.Pieces.{ended_lines, front, last_line, lf_count, line_end, pieces_of, rest_of, whole_lines}
+use Rattle.text_lines.specs.Reading.{Feeds, Reading, StopsFeeding}
+use Rattle.text_lines.specs.declared.input.InputStop.{InputStop}
+use Rattle.text_lines.specs.declared.input.InputStop.TheVariants as input_stop
+use Rattle.text_lines.proofs.Ended.{ended_lines-length, line_end-behind, rest_of-more, whole_lines-ended, whole_lines-more}
 use Rattle.schema_text.specs.SchemaText.{is_end}
 use Rattle.script_run.specs.Seen.{SourceSeen}
 use Rattle.cube_cli.specs.SchemaLines.{HasSchemaLines, StopsBeforeEnd, TookHeld, TookLines, has_end, text_of_lines}

@@ -7,9 +7,9 @@ use Rattle.std.proofs.lemmas.List.{drop-append-le, drop_all, length-map, take-ap
 use Rattle.std.proofs.lemmas.List.Folds.{list_any_at}
 use Rattle.std.proofs.lemmas.List.Quantifiers.{position-Some}
 use Rattle.text_lines.specs.Text.{after_lines, lines_of}
-use Rattle.line_cutter.specs.Pieces.{ended_lines, front, last_line, lf_count, line_end, pieces_of, rest_of, whole_lines}
-use Rattle.line_cutter.proofs.Ended.{ended_lines-length, lines_of-after, lines_of-ended, lines_of-last, whole_lines-ended}
-use Rattle.line_cutter.proofs.Fronts.{pieces_of-some}
+use Rattle.text_lines.specs.Pieces.{ended_lines, front, last_line, lf_count, line_end, pieces_of, rest_of, whole_lines}
+use Rattle.text_lines.proofs.Ended.{ended_lines-length, lines_of-after, lines_of-ended, lines_of-last, whole_lines-ended}
+use Rattle.text_lines.proofs.Fronts.{pieces_of-some}
 use Rattle.schema_text.specs.SchemaText.{is_end}
 use Rattle.cube_cli.specs.SchemaLines.{HasSchemaLines, has_end, schema_lines, text_of_lines}
 use Rattle.cube_cli.proofs.SchemaTexts.{is_end-front, schema_lines-is, to_end, to_end-is}

@@ -11,8 +11,8 @@ use Rattle.cube_base.specs.declared.code.Code.{Code}
 use Rattle.text_lines.specs.LineText.{LINE_FRONT, is_skipped, without_cr}
 use Rattle.text_lines.specs.Text.{after_lines, lines_of}
 use Rattle.text_lines.proofs.LineTexts.{IsAsItsFront-long}
-use Rattle.line_cutter.specs.Pieces.{ended_lines, front, lf_count, line_end}
-use Rattle.line_cutter.proofs.Ended.{ended_lines-length, line_end-behind, lines_of-ended}
+use Rattle.text_lines.specs.Pieces.{ended_lines, front, lf_count, line_end}
+use Rattle.text_lines.proofs.Ended.{ended_lines-length, line_end-behind, lines_of-ended}
 use Rattle.schema_text.specs.SchemaText.{BadLine, Draft, ReadLines, ReadSchema, blank_draft, draft_line_fault, is_end, read_from, schema_of, sized, with_line}
 use Rattle.schema_text.proofs.Ends.{length-without_cr}
 use Rattle.cube_cli.specs.SchemaLines.{HasSchemaLines, has_end, schema_bytes, schema_lines}

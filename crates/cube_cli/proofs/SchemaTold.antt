@@ -2,7 +2,7 @@
 use Rattle.std.proofs.Common.{◌≡◌, ℕ, ◌⊎◌, List, ◌++◌, length, ap, sym, subst, ◌∙◌, append-nil, arith, inl, inr, length-append, Option, Some, None, Ok, Err}
 use Rattle.std.specs.Prelude.{IfSome}
 use Rattle.std.specs.Io.KnownBytes.{Consumes, IsAtEnd}
-use Rattle.line_cutter.specs.Input.{INPUT_LIMIT, TakesAtMost}
+use Rattle.text_lines.specs.Input.{INPUT_LIMIT, TakesAtMost}
 use Rattle.schema_text.specs.SchemaText.{BadLine, ReadSchema, schema_of}
 use Rattle.script_run.specs.Seen.{SourceSeen}
 use Rattle.cube_cli.specs.SchemaLines.{BeginsWith, HasSchemaLines, HoldsSchemaLines, TookLines, TookSchema, TookToEnd}

@@ -6,7 +6,7 @@ use Rattle.std.specs.Result.{result_ok}
 use Rattle.std.specs.Io.KnownBytes.{Consumes, IsAtEnd}
 use Rattle.std.proofs.lemmas.List.{drop-append-le}
 use Rattle.text_lines.specs.Text.{lines_of}
-use Rattle.line_cutter.specs.Pieces.{lf_count, line_end}
+use Rattle.text_lines.specs.Pieces.{lf_count, line_end}
 use Rattle.schema_text.specs.Schema.{SchemaValue}
 use Rattle.schema_text.specs.SchemaText.{ReadSchema, schema_of}
 use Rattle.script_run.specs.Run.{Outcome, run_of}

@@ -10,10 +10,10 @@ use Rattle.std.proofs.lemmas.List.Splits.{length-slice_split}
 use Rattle.std.proofs.lemmas.List.Sums.{count_by-le-length}
 use Rattle.fact_keeper.specs.Batch.{empty_content}
 use Rattle.text_lines.specs.Text.{lines_of}
-use Rattle.line_cutter.specs.Input.{GoesOn, INPUT_LIMIT, TakesAtMost}
-use Rattle.line_cutter.specs.Pieces.{ended_lines, front, is_lf, lf_count, line_end, pieces_of}
-use Rattle.line_cutter.specs.Reading.{PIECE_LIMIT}
-use Rattle.line_cutter.proofs.Ended.{line_end-behind}
+use Rattle.text_lines.specs.Input.{GoesOn, INPUT_LIMIT, TakesAtMost}
+use Rattle.text_lines.specs.Pieces.{ended_lines, front, is_lf, lf_count, line_end, pieces_of}
+use Rattle.text_lines.specs.Reading.{PIECE_LIMIT}
+use Rattle.text_lines.proofs.Ended.{line_end-behind}
 use Rattle.schema_text.specs.Schema.{SchemaValue, weigh_of}
 use Rattle.schema_text.specs.SchemaText.{schema_of}
 use Rattle.script_run.specs.declared.break_off.BreakOff.{BreakOff}

@@ -48,7 +48,7 @@ use Rattle.cube_core.proofs.Tabled.{tables-merged}
 use Rattle.fact_groups.specs.Edits.{given}
 use Rattle.fact_groups.proofs.Ascending.{ascends-from_pairs}
 use Rattle.fact_groups.proofs.Edits.{All-after, pairs-after}
-use Rattle.stored_state.specs.Sound.{AreGood, fact_fault, fact_told, has_wrong_id, id_before}
+use Rattle.store_audit.specs.Sound.{AreGood, fact_fault, fact_told, has_wrong_id, id_before}
 use Rattle.script_run.specs.Run.{State, accepted, edit_step, empty_state, growth, growth_step, replied, rows_at, run, schema_at, step, step_from, step_of}
 use Rattle.cube_cli.specs.Trying.{script_of}
 use Rattle.cube_cli.specs.Expectations.{AddsUpAfterEachLine, AddsUpOverStore, AfterEachLine, AfterEachLineOver, AtEachRegion, ComponentsAfterEachLine, ComponentsOverStore, ExpectsAfterEachLine, ExpectsOverStore, HasComponents, HasEnds, HasTables, HoldsAroundLine, RangesAfterEachLine, RangesOverStore, Saying, StateSaying, TablesAfterEachLine, TablesOverStore, state_after, state_over_after}

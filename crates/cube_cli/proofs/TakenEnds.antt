@@ -1,6 +1,6 @@
 -- How often a source answered that it had ended.
 use Rattle.std.proofs.Common.{◌≡◌, ℕ, Bool, true, false, sym, ◌∙◌, subst, inl, inr}
-use Rattle.line_cutter.specs.Input.{EndsOnce, ends_if}
+use Rattle.text_lines.specs.Input.{EndsOnce, ends_if}
 use Rattle.script_run.specs.Stream.{EndsFrom}
 
 -- never where the input had not ended

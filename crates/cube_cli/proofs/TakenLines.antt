@@ -6,8 +6,8 @@ use Rattle.std.proofs.lemmas.List.{drop_at}
 use Rattle.std.proofs.lemmas.List.Concat.{flat_map-append}
 use Rattle.std.proofs.lemmas.List.Sums.{sum_by-cons}
 use Rattle.text_lines.specs.Text.{after_line, after_lines, lines_of}
-use Rattle.line_cutter.specs.Pieces.{front, is_lf, last_line, lf_count, line_end, pieces_of, rest_of, whole_lines}
-use Rattle.line_cutter.proofs.Fronts.{NoLf, NoLf-front, some_piece}
+use Rattle.text_lines.specs.Pieces.{front, is_lf, last_line, lf_count, line_end, pieces_of, rest_of, whole_lines}
+use Rattle.text_lines.proofs.Fronts.{NoLf, NoLf-front, some_piece}
 use Rattle.cube_cli.specs.SchemaLines.{text_of_lines}
 
 -- none of these lines has an LF

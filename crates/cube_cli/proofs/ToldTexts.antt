@@ -8,7 +8,7 @@ use Rattle.fact_keeper.specs.Batch.{empty_content}
 use Rattle.fact_keeper.specs.declared.content.Stored.{Stored}
 use Rattle.schema_text.specs.Schema.{schema_policy, weigh_of}
 use Rattle.schema_text.specs.declared.word.PolicyWord.{PolicyWord}
-use Rattle.stored_state.specs.Sound.{facts_told}
+use Rattle.store_audit.specs.Sound.{facts_told}
 use Rattle.script_run.specs.Kept.{Commits}
 use Rattle.script_run.specs.Seen.{NoWriteFault, SeenAll, WroteNothing}
 use Rattle.cube_cli.specs.declared.command.Command.TheVariants.{Drill, Store}

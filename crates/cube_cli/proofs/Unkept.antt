@@ -5,7 +5,7 @@ use Rattle.std.proofs.KnownBytes.{Consumes-nil}
 use Rattle.cube_base.specs.Outside.{Rose}
 use Rattle.cube_core.specs.Cube.{CubeValue}
 use Rattle.cube_model.specs.declared.statistic.CellStat.{CellStat}
-use Rattle.line_cutter.specs.Pieces.{ended_lines}
+use Rattle.text_lines.specs.Pieces.{ended_lines}
 use Rattle.schema_text.specs.Schema.{SchemaValue}
 use Rattle.script_run.specs.declared.break_off.BreakOff.TheVariants as break_off
 use Rattle.script_run.specs.declared.streaming.StreamStop.{StreamStop}

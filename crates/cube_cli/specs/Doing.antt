@@ -11,10 +11,10 @@ use Rattle.fact_keeper.specs.declared.content.Batch.{Batch}
 use Rattle.fact_keeper.specs.declared.content.Stored.{Stored}
 use Rattle.feed_run.specs.Following.{Base as FeedBase, Followed, applied_at, applied_texts, followed, kept_parts, parts_at, refusal_of}
 use Rattle.feed_run.specs.Leading.{leading_texts}
-use Rattle.line_cutter.specs.Pieces.{front, lf_count, line_end}
+use Rattle.text_lines.specs.Pieces.{front, lf_count, line_end}
 use Rattle.schema_text.specs.Schema.{SchemaValue, weigh_of}
 use Rattle.schema_text.specs.SchemaText.{BadLine, schema_of, schema_text}
-use Rattle.stored_state.specs.Sound.{facts_told}
+use Rattle.store_audit.specs.Sound.{facts_told}
 use Rattle.text_lines.specs.Text.{line_text, lines_of}
 use Rattle.cube_cli.specs.declared.command.Command.{Command}
 use Rattle.cube_cli.specs.declared.command.Command.TheVariants.{Drill, Store, Try}

@@ -5,8 +5,8 @@ use Rattle.std.specs.Io.KnownBytes.{Appends}
 use Rattle.cube_base.specs.Outside.{TakesPart}
 use Rattle.fact_keeper.specs.Batch.{empty_content}
 use Rattle.fact_keeper.specs.declared.content.Stored.{Stored}
-use Rattle.line_cutter.specs.Input.{INPUT_LIMIT, GoesOn, TakesAtMost}
-use Rattle.line_cutter.specs.Reading.{PIECE_LIMIT}
+use Rattle.text_lines.specs.Input.{INPUT_LIMIT, GoesOn, TakesAtMost}
+use Rattle.text_lines.specs.Reading.{PIECE_LIMIT}
 use Rattle.script_run.specs.Kept.{Commits}
 use Rattle.script_run.specs.Seen.{KeepFailed, ReadFailed, SeenAll, SourceSeen, WriteFailed, Wrote, WroteNothing}
 use Rattle.script_run.specs.Written.{Answered, Broken, Stopped}

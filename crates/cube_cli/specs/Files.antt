@@ -10,14 +10,14 @@ use Rattle.cube_model.specs.Tree.{Dimension}
 use Rattle.fact_keeper.specs.declared.content.Batch.{Batch}
 use Rattle.fact_keeper.specs.declared.content.Stored.{Stored}
 use Rattle.fact_records.specs.New.{put_all}
-use Rattle.fact_sequence.specs.declared.fact_seq.BadRecord.{BadRecord as RecordAt}
-use Rattle.fact_sequence.specs.declared.fact_seq.FactSeq.{FactSeq}
-use Rattle.fact_sequence.specs.Refused.{refused_in}
+use Rattle.fact_records.specs.declared.fact_seq.BadRecord.{BadRecord as RecordAt}
+use Rattle.fact_records.specs.declared.fact_seq.FactSeq.{FactSeq}
+use Rattle.fact_records.specs.RefusedRecord.{refused_in}
 use Rattle.edit_plan.specs.Whole.{difference_with}
 use Rattle.schema_text.specs.Schema.{SchemaValue, shape_of}
 use Rattle.schema_text.specs.SchemaText.{schema_text}
-use Rattle.stored_state.specs.Mending.{changed_by, mended_batch}
-use Rattle.stored_state.specs.Sound.{rows_counted}
+use Rattle.store_audit.specs.Mending.{changed_by, mended_batch}
+use Rattle.store_audit.specs.Sound.{rows_counted}
 use Rattle.csv_facts.specs.FactFile.{facts_in, file_text}
 use Rattle.csv_facts.specs.ExtendedRow.{extended_text}
 use Rattle.csv_facts.specs.RecordList.{records_of}

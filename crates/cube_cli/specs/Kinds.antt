@@ -3,8 +3,8 @@ use Rattle.std.specs.Prelude.{Bool, true, false, not, IsTrue, List}
 use Rattle.std.specs.List.{list_any}
 use Rattle.cube_cli.specs.declared.end.End.{End}
 use Rattle.cube_cli.specs.declared.end.End.TheVariants as ends
-use Rattle.stored_state.specs.declared.finding.Finding.{Finding}
-use Rattle.stored_state.specs.declared.finding.Finding.TheVariants as finding
+use Rattle.store_audit.specs.declared.finding.Finding.{Finding}
+use Rattle.store_audit.specs.declared.finding.Finding.TheVariants as finding
 
 -- The kinds of ends. A content is bad in its schema or its facts where that is found first, and not in its rows alone.
 pub data EndKind : Type 0 where

@@ -3,8 +3,8 @@ use Rattle.std.specs.Prelude.{◌≡◌, ℕ, Bool, true, false, List, [], ◌�
 use Rattle.cube_base.specs.Outside.{next_count}
 use Rattle.fact_keeper.specs.Keeper.{KeeperTold}
 use Rattle.script_run.specs.Seen.{SeenAll}
-use Rattle.stored_state.specs.declared.finding.LoadFault.{LoadFault}
-use Rattle.stored_state.specs.declared.finding.LoadFault.TheVariants as load_fault
+use Rattle.store_audit.specs.declared.finding.LoadFault.{LoadFault}
+use Rattle.store_audit.specs.declared.finding.LoadFault.TheVariants as load_fault
 use Rattle.cube_cli.specs.declared.end.End.{End}
 use Rattle.cube_cli.specs.declared.end.End.TheVariants.{KeepFault, Memory}
 use Rattle.cube_cli.specs.declared.store.OpenStop.{OpenStop}

@@ -22,11 +22,11 @@ use Rattle.cube_cli.specs.declared.schema_lines.HeadStop.{HeadStop}
 use Rattle.cube_cli.specs.declared.schema_lines.HeadStop.TheVariants as head_stop
 use Rattle.cube_cli.specs.declared.store.OpenStop.{OpenStop}
 use Rattle.cube_cli.specs.declared.store.OpenStop.TheVariants as open_stop
-use Rattle.line_cutter.specs.declared.input.InputStop.{InputStop}
-use Rattle.line_cutter.specs.declared.input.InputStop.TheVariants as input_stop
-use Rattle.stored_state.specs.declared.finding.Finding.TheVariants as finding
-use Rattle.stored_state.specs.declared.finding.LoadFault.{LoadFault}
-use Rattle.stored_state.specs.declared.finding.LoadFault.TheVariants as load_fault
+use Rattle.text_lines.specs.declared.input.InputStop.{InputStop}
+use Rattle.text_lines.specs.declared.input.InputStop.TheVariants as input_stop
+use Rattle.store_audit.specs.declared.finding.Finding.TheVariants as finding
+use Rattle.store_audit.specs.declared.finding.LoadFault.{LoadFault}
+use Rattle.store_audit.specs.declared.finding.LoadFault.TheVariants as load_fault
 use Rattle.cube_cli.specs.declared.end.End.TheVariants.{BadFeed, BadRecord, BadStore, Base, Differs, Finished, ImportRows, Order, ReadFault, TooLong, WriteFault, KeepFault, Memory, NoCube, Schema, Usage}
 
 -- the end where a script broke off

@@ -4,11 +4,11 @@ use Rattle.std.specs.Option.{option_map_or}
 use Rattle.std.specs.List.{flat_map, list_any}
 use Rattle.std.specs.Io.KnownBytes.{Consumes, IsAtEnd}
 use Rattle.text_lines.specs.Text.{lines_of}
-use Rattle.line_cutter.specs.Input.{INPUT_LIMIT, TakesAtMost}
-use Rattle.line_cutter.specs.Pieces.{ended_lines, front, line_end, pieces_of}
-use Rattle.line_cutter.specs.Reading.{PIECE_LIMIT}
-use Rattle.line_cutter.specs.declared.input.InputStop.{InputStop}
-use Rattle.line_cutter.specs.declared.input.InputStop.TheVariants as input_stop
+use Rattle.text_lines.specs.Input.{INPUT_LIMIT, TakesAtMost}
+use Rattle.text_lines.specs.Pieces.{ended_lines, front, line_end, pieces_of}
+use Rattle.text_lines.specs.Reading.{PIECE_LIMIT}
+use Rattle.text_lines.specs.declared.input.InputStop.{InputStop}
+use Rattle.text_lines.specs.declared.input.InputStop.TheVariants as input_stop
 use Rattle.schema_text.specs.Schema.{SchemaValue}
 use Rattle.schema_text.specs.SchemaText.{is_end, schema_of}
 use Rattle.script_run.specs.Seen.{NoReadFault, ReadFailed, SourceSeen}

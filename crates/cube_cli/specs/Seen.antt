@@ -4,7 +4,7 @@ use Rattle.std.specs.Io.KnownBytes.{Consumes, IsAtEnd, Keeps}
 use Rattle.fact_keeper.specs.Batch.{empty_content}
 use Rattle.fact_keeper.specs.declared.content.Stored.{Stored}
 use Rattle.script_run.specs.Seen.{KeepFailed, KeeperSeen, NoKeepFault, NoReadFault, NoWriteFault, ReadFailed, SeenAll, SourceSeen, WriteFailed, WroteNothing}
-use Rattle.line_cutter.specs.Input.{INPUT_LIMIT}
+use Rattle.text_lines.specs.Input.{INPUT_LIMIT}
 
 -- no fault of the outside was met
 pub record NoFault (seen : SeenAll) : Type 0 where

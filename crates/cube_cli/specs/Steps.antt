@@ -9,10 +9,10 @@ use Rattle.fact_keeper.specs.declared.content.Stored.{Stored}
 use Rattle.fact_keeper.specs.Batch.{empty_content}
 use Rattle.schema_text.specs.Schema.{SchemaValue}
 use Rattle.schema_text.specs.declared.word.PolicyWord.{PolicyWord}
-use Rattle.stored_state.specs.declared.finding.LoadFault.TheVariants as load_fault
-use Rattle.stored_state.specs.declared.mending.Mending.{Mending}
-use Rattle.stored_state.specs.Mending.{mended_batch}
-use Rattle.stored_state.specs.Sound.{facts_told, rows_counted}
+use Rattle.store_audit.specs.declared.finding.LoadFault.TheVariants as load_fault
+use Rattle.store_audit.specs.declared.mending.Mending.{Mending}
+use Rattle.store_audit.specs.Mending.{mended_batch}
+use Rattle.store_audit.specs.Sound.{facts_told, rows_counted}
 use Rattle.script_run.specs.Seen.{KeepFailed, KeeperSeen, NoKeepFault, NoWriteFault, SinkSeen, WriteFailed, WroteNothing}
 use Rattle.cube_cli.specs.SchemaAlone.{schema_alone}
 use Rattle.cube_cli.specs.Kinds.{is_of_rows}

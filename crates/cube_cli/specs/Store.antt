@@ -8,10 +8,10 @@ use Rattle.fact_keeper.specs.declared.content.Stored.{Stored}
 use Rattle.fact_keeper.specs.Batch.{empty_content}
 use Rattle.schema_text.specs.Schema.{SchemaValue, schema_policy, shape_of, weigh_of}
 use Rattle.schema_text.specs.SchemaText.{BadLine, schema_text}
-use Rattle.stored_state.specs.declared.finding.Finding.{Finding}
-use Rattle.stored_state.specs.declared.finding.Finding.TheVariants as finding
-use Rattle.stored_state.specs.Mending.{IsMendable}
-use Rattle.stored_state.specs.Sound.{IsFinding, IsSound, facts_told}
+use Rattle.store_audit.specs.declared.finding.Finding.{Finding}
+use Rattle.store_audit.specs.declared.finding.Finding.TheVariants as finding
+use Rattle.store_audit.specs.Mending.{IsMendable}
+use Rattle.store_audit.specs.Sound.{IsFinding, IsSound, facts_told}
 use Rattle.script_run.specs.Kept.{batches}
 use Rattle.script_run.specs.Run.{Outcome, State, run}
 use Rattle.cube_cli.specs.SchemaAlone.{schema_alone}

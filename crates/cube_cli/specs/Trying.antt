@@ -3,7 +3,7 @@ use Rattle.std.specs.Prelude.{ℕ, ◌+◌, List, [], drop, false, Option, Resul
 use Rattle.std.specs.Option.{option_map, option_map_or}
 use Rattle.std.specs.Result.{result_ok}
 use Rattle.cube_model.specs.declared.statistic.CellStat.{CellStat}
-use Rattle.line_cutter.specs.Pieces.{lf_count, line_end}
+use Rattle.text_lines.specs.Pieces.{lf_count, line_end}
 use Rattle.schema_text.specs.Schema.{SchemaValue}
 use Rattle.schema_text.specs.SchemaText.{ReadSchema, schema_of}
 use Rattle.script_run.specs.declared.streaming.StreamStop.{StreamStop}

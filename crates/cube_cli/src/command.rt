@@ -1,6 +1,6 @@
 //! The commands, and the top call.
 ghost use Rattle.std.specs.Prelude.{◌≡◌, drop, map, string_bytes, IfSome};
-ghost use Rattle.line_cutter.specs.Input.{EndsOnce};
+ghost use Rattle.text_lines.specs.Input.{EndsOnce};
 ghost use Rattle.script_run.specs.Seen.{seen_of};
 ghost use Rattle.cube_cli.specs.Command.{ask_named, asked_line, command_of, drill_named, store_command, store_named};
 ghost use Rattle.cube_cli.specs.End.{IsComplete, Says, doing_by};

@@ -4,7 +4,7 @@ ghost use Rattle.cube_cli.specs.Status.{status_of};
 
 use cube_base::Code;
 use cube_core::Finding;
-use fact_sequence::BadRecord;
+use fact_records::BadRecord;
 use std::fmt;
 
 /// The last status of a run that was done to its end.

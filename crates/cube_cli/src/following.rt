@@ -2,10 +2,10 @@
 ghost use Rattle.std.specs.Prelude.{◌≡◌, IfOk, IsTrue, Some};
 ghost use Rattle.fact_keeper.specs.Keeper.{StaysOpen};
 ghost use Rattle.fact_keeper.specs.declared.content.Stored.{Stored};
-ghost use Rattle.line_cutter.specs.Input.{EndsOnce};
+ghost use Rattle.text_lines.specs.Input.{EndsOnce};
 ghost use Rattle.schema_text.specs.SchemaText.{schema_text};
 ghost use Rattle.script_run.specs.Seen.{keeper_seen, seen_of};
-ghost use Rattle.stored_state.specs.Sound.{facts_told};
+ghost use Rattle.store_audit.specs.Sound.{facts_told};
 ghost use Rattle.cube_cli.specs.declared.command.Command.TheVariants as command;
 ghost use Rattle.cube_cli.specs.declared.command.StoreCommand.TheVariants as store_command;
 ghost use Rattle.cube_cli.specs.Doing.{base_in};
@@ -22,9 +22,9 @@ use cube_base::{Memory, Sink, Source};
 use cube_core::Cube;
 use fact_keeper::{Keeper, Stored};
 use feed_run::{Base, follow_stream};
-use line_cutter::LineInput;
 use schema_text::{PolicyWord, Schema, write_schema};
 use std::alloc::Global;
+use text_lines::LineInput;
 
 /// Follows the feed that the input is, over the store of a name.
 pub fn follow<S: Source, K: Sink, Q: Keeper>(

@@ -2,7 +2,7 @@
 ghost use Rattle.std.specs.Prelude.{◌≡◌, IfOk, IsTrue, Some, length, codes};
 ghost use Rattle.fact_keeper.specs.Keeper.{StaysOpen};
 ghost use Rattle.fact_keeper.specs.declared.content.Stored.{Stored};
-ghost use Rattle.line_cutter.specs.Input.{INPUT_LIMIT, Taken};
+ghost use Rattle.text_lines.specs.Input.{INPUT_LIMIT, Taken};
 ghost use Rattle.script_run.specs.Seen.{NoReadFault, SourceSeen, keeper_seen, sink_seen};
 ghost use Rattle.cube_cli.specs.declared.command.Command.TheVariants as command;
 ghost use Rattle.cube_cli.specs.declared.command.StoreCommand.TheVariants as store_command;
@@ -19,7 +19,7 @@ use csv_facts::read_facts;
 use cube_base::{Bytes, Memory, Sink};
 use cube_core::{Cube, Receipt};
 use fact_keeper::Keeper;
-use fact_sequence::FactSeq;
+use fact_records::FactSeq;
 use schema_text::PolicyWord;
 use std::alloc::Global;
 

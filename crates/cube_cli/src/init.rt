@@ -2,7 +2,7 @@
 ghost use Rattle.std.specs.Prelude.{◌≡◌, ◌∷◌, [], IfOk, IsTrue, List, ℕ, Ok, OnErr, OnOk, Some};
 ghost use Rattle.fact_keeper.specs.Batch.{empty_content};
 ghost use Rattle.fact_keeper.specs.Keeper.{CountsKeepFault, StaysOpen};
-ghost use Rattle.line_cutter.specs.Input.{EndsOnce, INPUT_LIMIT, Taken};
+ghost use Rattle.text_lines.specs.Input.{EndsOnce, INPUT_LIMIT, Taken};
 ghost use Rattle.script_run.specs.Kept.{Commits};
 ghost use Rattle.script_run.specs.Seen.{NoReadFault, SourceSeen, keeper_seen, seen_of, sink_seen, told_of};
 ghost use Rattle.cube_cli.specs.declared.command.Command.TheVariants as command;
@@ -19,9 +19,9 @@ use crate::saying::write_line;
 use crate::schema_alone::read_schema_alone;
 use cube_base::{Ids, Memory, Sink, Source};
 use fact_keeper::{Batch, KeepError, Keeper, KeptFacts, KeptRowsList};
-use line_cutter::{MAX_INPUT, take_input};
 use schema_text::{Schema, write_schema};
 use std::alloc::Global;
+use text_lines::{MAX_INPUT, take_input};
 
 /// The reply: the schema refreshes no fact.
 const LINE: &[u8] = b"ok\t0\n";

@@ -2,7 +2,7 @@
 ghost use Rattle.std.specs.Prelude.{◌≡◌, IsTrue, Some};
 ghost use Rattle.fact_keeper.specs.Keeper.{StaysOpen};
 ghost use Rattle.fact_keeper.specs.declared.content.Stored.{Stored};
-ghost use Rattle.line_cutter.specs.Input.{EndsOnce};
+ghost use Rattle.text_lines.specs.Input.{EndsOnce};
 ghost use Rattle.script_run.specs.Seen.{keeper_seen, seen_of};
 ghost use Rattle.cube_cli.specs.declared.command.Command.TheVariants as command;
 ghost use Rattle.cube_cli.specs.declared.command.StoreCommand.TheVariants as store_command;
@@ -17,9 +17,9 @@ use cube_base::{Sink, Source};
 use cube_core::Cube;
 use fact_keeper::Keeper;
 use feed_run::lead_stream;
-use line_cutter::LineInput;
 use schema_text::PolicyWord;
 use std::alloc::Global;
+use text_lines::LineInput;
 
 /// Writes what the feed of a cube begins with, whose content an open store holds. Then it does the lines of a script as its input comes, and
 /// writes the batches of these.

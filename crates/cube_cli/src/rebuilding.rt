@@ -7,7 +7,7 @@ ghost use Rattle.fact_keeper.specs.declared.content.Stored.{Stored};
 ghost use Rattle.schema_text.specs.Schema.{SchemaValue};
 ghost use Rattle.script_run.specs.Kept.{Commits};
 ghost use Rattle.script_run.specs.Seen.{SourceSeen, keeper_seen, sink_seen, told_of};
-ghost use Rattle.stored_state.specs.Mending.{changed_by};
+ghost use Rattle.store_audit.specs.Mending.{changed_by};
 ghost use Rattle.cube_cli.specs.declared.command.Command.TheVariants as command;
 ghost use Rattle.cube_cli.specs.declared.command.StoreCommand.TheVariants as store_command;
 ghost use Rattle.cube_cli.specs.End.{SaysOf};

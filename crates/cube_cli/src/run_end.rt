@@ -10,9 +10,9 @@ use cube_base::SinkError;
 use cube_core::{ImportFault, LoadFault};
 use fact_keeper::KeepError;
 use feed_run::{FeedStop, FollowStop};
-use line_cutter::InputStop;
 use schema_text::SchemaFault;
 use script_run::{BreakOff, StreamStop};
+use text_lines::InputStop;
 
 /// The end of the program whose script refused so many lines or stopped.
 pub fn end_of_run(run: Result<u64, StreamStop>) -> End

@@ -1,17 +1,16 @@
 //! Taking the schema with which an input begins, which goes on after it.
 ghost use Rattle.std.specs.Prelude.{◌≡◌, ◌∷◌, ◌++◌, [], false, true, IfErr, IfOk, OnErr, OnOk};
 ghost use Rattle.std.specs.Io.KnownBytes.{IsAtEnd};
-ghost use Rattle.line_cutter.specs.Input.{EndsOnce, INPUT_LIMIT, ends_if};
-ghost use Rattle.line_cutter.specs.Pieces.{rest_of, whole_lines};
+ghost use Rattle.text_lines.specs.Input.{EndsOnce, INPUT_LIMIT, ends_if};
+ghost use Rattle.text_lines.specs.Pieces.{rest_of, whole_lines};
 ghost use Rattle.schema_text.specs.SchemaText.{is_end};
 ghost use Rattle.script_run.specs.Seen.{source_seen};
 ghost use Rattle.cube_cli.specs.SchemaLines.{HasHeadCause, StopsBeforeEnd, TookHeld, TookLines, TookSchema};
 
 use cube_base::{Code, Source};
-use line_cutter::{InputStop, LineCutter, LineInput};
 use schema_text::{Schema, SchemaFault, read_schema};
 use std::alloc::{AllocError, Global};
-use text_lines::{is_text, without_cr};
+use text_lines::{InputStop, LineCutter, LineInput, is_text, without_cr};
 
 /// Why the schema with which an input begins is not taken.
 #[derive(Debug, Drop)]

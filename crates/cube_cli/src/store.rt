@@ -3,7 +3,7 @@ ghost use Rattle.std.specs.Prelude.{◌≡◌, IfErr, IfOk, IsTrue, MatchResult,
 ghost use Rattle.cube_base.specs.Outside.{next_count};
 ghost use Rattle.fact_keeper.specs.Keeper.{StaysOpen};
 ghost use Rattle.fact_keeper.specs.declared.content.Stored.{Stored};
-ghost use Rattle.line_cutter.specs.Input.{EndsOnce};
+ghost use Rattle.text_lines.specs.Input.{EndsOnce};
 ghost use Rattle.script_run.specs.Seen.{keeper_seen, seen_of};
 ghost use Rattle.cube_cli.specs.declared.command.Command.TheVariants as command;
 ghost use Rattle.cube_cli.specs.declared.command.StoreCommand.TheVariants as store_command;
@@ -23,10 +23,10 @@ use crate::schema_alone::read_schema_alone;
 use cube_base::{Sink, Source};
 use cube_core::{Cube, Finding, LoadFault};
 use fact_keeper::{KeepError, Keeper, Stored};
-use line_cutter::{LineInput, MAX_INPUT, take_input};
 use schema_text::{PolicyWord, Schema, SchemaFault};
 use script_run::run_stream;
 use std::alloc::Global;
+use text_lines::{LineInput, MAX_INPUT, take_input};
 
 /// What is done with an input over the cube of a store.
 #[derive(Clone, Copy, Debug, PartialEq, Eq)]

@@ -1,8 +1,8 @@
 //! The command that does a script on a cube without a store.
 ghost use Rattle.std.specs.Prelude.{◌≡◌, ◌+◌, ◌<◌, ◌^◌, ℕ, List, false, true, length, IfErr, Some};
 ghost use Rattle.std.specs.Io.KnownBytes.{IsAtEnd};
-ghost use Rattle.line_cutter.specs.Input.{EndsOnce};
-ghost use Rattle.line_cutter.specs.Pieces.{pieces_of};
+ghost use Rattle.text_lines.specs.Input.{EndsOnce};
+ghost use Rattle.text_lines.specs.Pieces.{pieces_of};
 ghost use Rattle.schema_text.specs.Schema.{weigh_of};
 ghost use Rattle.script_run.specs.Run.{empty_state};
 ghost use Rattle.script_run.specs.Seen.{KeeperSeen, sink_seen, source_seen};
@@ -18,10 +18,10 @@ use crate::schema_lines::take_schema;
 use cube_base::{Sink, Source};
 use cube_core::Cube;
 use fact_keeper::NoKeeper;
-use line_cutter::LineInput;
 use schema_text::Schema;
 use script_run::{BreakOff, StreamStop, run_stream};
 use std::alloc::Global;
+use text_lines::LineInput;
 
 /// Takes a schema, and does the script after it as its input comes. No keeper is called.
 pub fn try_input<S: Source, K: Sink>(alloc: Global, source: &mut S, out: &mut K) -> End

@@ -25,8 +25,8 @@ use Rattle.fact_records.specs.Accepted.{cols_refusal}
 use Rattle.fact_records.specs.Shape.{IsShape, ShapeValue, policy_over, width_of_all}
 use Rattle.fact_records.specs.Valid.{AreValid}
 use Rattle.fact_records.proofs.SmallValues.{count-accepted, small-accepted}
-use Rattle.facts_kept.proofs.Modest.{inside-le}
-use Rattle.facts_kept.proofs.SmallGroups.{spread-allocates}
+use Rattle.fact_indexes.proofs.Modest.{inside-le}
+use Rattle.fact_indexes.proofs.SmallGroups.{spread-allocates}
 use Rattle.cube_core.specs.Cube.{IsBounded}
 use Rattle.cube_core.proofs.Rows.{extended-among, few_cells}
 use Rattle.cube_core.proofs.TermsBelow.{length-answer, terms_below-each}

@@ -21,7 +21,7 @@ use Rattle.cube_state.specs.State.{StateValue, policy_in}
 use Rattle.edit_plan.proofs.AllRefreshed.{gathered-all, gathered-next, gathered-none, left-first}
 use Rattle.fact_groups.specs.Groups.{Group, group_at}
 use Rattle.fact_groups.proofs.Groups.{first-holds, total_by-map}
-use Rattle.facts_kept.proofs.ValidFacts.{valid-regions}
+use Rattle.fact_indexes.proofs.ValidFacts.{valid-regions}
 use Rattle.fact_records.proofs.SmallValues.{count-accepted}
 use Rattle.fact_records.specs.Shape.{ShapeValue, width_of_all}
 use Rattle.fact_records.specs.Valid.{AreValid}

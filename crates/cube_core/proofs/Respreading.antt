@@ -16,7 +16,7 @@ use Rattle.fact_records.specs.Accepted.{region_refusal}
 use Rattle.fact_records.specs.New.{AreNew, IsNew, put_all}
 use Rattle.fact_records.specs.Shape.{ShapeValue}
 use Rattle.fact_records.specs.Valid.{IsValid}
-use Rattle.stored_state.proofs.Reading.{put-last}
+use Rattle.store_audit.proofs.Reading.{put-last}
 use Rattle.cube_core.specs.Growth.{has_large_region}
 
 -- of facts in order, those before one have smaller ids

@@ -13,9 +13,9 @@ use Rattle.fact_keeper.specs.declared.content.Batch.{Batch}
 use Rattle.fact_keeper.specs.declared.keeper.KeepError.{KeepError}
 use Rattle.fact_keeper.specs.declared.keeper.KeepError.TheVariants as keep_error
 use Rattle.fact_records.specs.New.{put_all}
-use Rattle.fact_sequence.specs.declared.fact_seq.BadRecord.{BadRecord}
-use Rattle.fact_sequence.specs.declared.fact_seq.FactSeq.{FactSeq}
-use Rattle.fact_sequence.specs.Refused.{refused_in}
+use Rattle.fact_records.specs.declared.fact_seq.BadRecord.{BadRecord}
+use Rattle.fact_records.specs.declared.fact_seq.FactSeq.{FactSeq}
+use Rattle.fact_records.specs.RefusedRecord.{refused_in}
 use Rattle.schema_text.specs.Schema.{schema_policy, shape_of}
 use Rattle.cube_core.specs.Cube.{CubeValue, cube_rows}
 use Rattle.cube_core.specs.declared.fault.ImportFault.{ImportFault}

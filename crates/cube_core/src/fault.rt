@@ -2,7 +2,7 @@
 use cube_base::{Code, Memory};
 use edit_plan::{PlanAllFault, PlanFault};
 use fact_keeper::KeepError;
-use fact_sequence::BadRecord;
+use fact_records::BadRecord;
 use region_algebra::GrowFault;
 use thiserror::Error;
 

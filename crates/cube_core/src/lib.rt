@@ -18,7 +18,7 @@ pub use fault::{EditFault, ImportFault};
 pub use laws::{worked_cube, worked_sums};
 pub use place::PlacedList;
 pub use ranging::Picks;
-pub use stored_state::{Finding, LoadFault, Mending};
+pub use store_audit::{Finding, LoadFault, Mending};
 pub use tabling::tables_merge;
 pub use view_store::ViewList;
 pub use world_law::{Placed, WorldFault, WorldSum};

@@ -2,15 +2,15 @@
 ghost use Rattle.std.specs.Prelude.{◌≡◌, IfErr, IfOk, OnOk, length};
 ghost use Rattle.fact_keeper.specs.Batch.{apply_batch};
 ghost use Rattle.schema_text.specs.Schema.{schema_policy, shape_of};
-ghost use Rattle.stored_state.specs.Mending.{IsMendFault, IsMendable, mended, mended_batch};
-ghost use Rattle.stored_state.specs.Sound.{IsSound, rows_counted};
+ghost use Rattle.store_audit.specs.Mending.{IsMendFault, IsMendable, mended, mended_batch};
+ghost use Rattle.store_audit.specs.Sound.{IsSound, rows_counted};
 
 use crate::Cube;
 use cell_weight::WeightPolicy;
 use fact_keeper::Stored;
 use schema_text::Schema;
 use std::alloc::Global;
-use stored_state::{LoadFault, Mending, mend_rows};
+use store_audit::{LoadFault, Mending, mend_rows};
 
 impl<P: WeightPolicy + Drop> Cube<P> {
     /// What puts the rows of a stored content right, which weighs cells by this policy. After its batch the content is

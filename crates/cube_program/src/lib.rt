@@ -2,7 +2,7 @@
 #![tactic(auto)]
 
 ghost use Rattle.std.specs.Prelude.{◌≡◌, map, string_bytes, IfSome};
-ghost use Rattle.line_cutter.specs.Input.{EndsOnce};
+ghost use Rattle.text_lines.specs.Input.{EndsOnce};
 ghost use Rattle.script_run.specs.Seen.{seen_of};
 ghost use Rattle.cube_cli.specs.Expectations.{AddsUpAfterEachLine, ComponentsAfterEachLine, ExpectsAfterEachLine, RangesAfterEachLine, TablesAfterEachLine};
 ghost use Rattle.cube_cli.specs.Status.{status_of};

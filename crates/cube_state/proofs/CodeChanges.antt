@@ -7,8 +7,8 @@ use Rattle.cube_model.specs.Tree.{Dimension}
 use Rattle.fact_groups.specs.Groups.{Group}
 use Rattle.view_store.specs.declared.change.ViewChange.{ViewChange}
 use Rattle.view_store.specs.Views.{region_at}
-use Rattle.facts_kept.specs.ViewChanges.{group_changes}
-use Rattle.facts_kept.proofs.ChangeGroups.{each-of, facts_put-of, facts_taken_away-of, group_of, groups_that, puts, takes_away}
+use Rattle.fact_indexes.specs.ViewChanges.{group_changes}
+use Rattle.fact_indexes.proofs.ChangeGroups.{each-of, facts_put-of, facts_taken_away-of, group_of, groups_that, puts, takes_away}
 use Rattle.cube_state.specs.ViewChanges.{changes_at, changes_by}
 
 -- the changes of codes with groups before and after

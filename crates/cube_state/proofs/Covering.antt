@@ -25,7 +25,7 @@ use Rattle.fact_records.specs.Valid.{AreValid, IsEditOver}
 use Rattle.region_index.specs.Content.{AreAscending}
 use Rattle.region_index.specs.Indexed.{covers}
 use Rattle.region_index.specs.Over.{codes_over}
-use Rattle.cube_state.specs.declared.moves.Moves.{Moves}
+use Rattle.cube_state.specs.declared.edit_moves.Moves.{Moves}
 use Rattle.cube_state.specs.Covering.{covers_one, is_over_one, probes_over}
 use Rattle.cube_state.specs.Moves.{AreMoves}
 use Rattle.cube_state.specs.Regrouped.{HoldChanged}
@@ -33,7 +33,7 @@ use Rattle.touched_cells.specs.Touched.{reweighing, touched}
 use Rattle.fact_records.proofs.SmallValues.{none_of}
 use Rattle.fact_groups.proofs.Elsewhere.{group_at-uncovered}
 use Rattle.cube_state.proofs.Below.{reweighing-below}
-use Rattle.facts_kept.proofs.ValidFacts.{valid-regions}
+use Rattle.fact_indexes.proofs.ValidFacts.{valid-regions}
 use Rattle.cube_state.proofs.Spreading.{holds-reweighing}
 
 -- one of two tests

@@ -20,7 +20,7 @@ use Rattle.fact_groups.proofs.Groups.{sum_by-filter_map}
 use Rattle.fact_records.specs.Shape.{ShapeValue, width_of_all}
 use Rattle.cube_state.specs.GroupAfter.{group_row_count}
 use Rattle.cube_state.specs.Regrouped.{HoldChanged, group_is_respread, groups_after, is_edited_at, spread_anew}
-use Rattle.facts_kept.proofs.ValidFacts.{few-rows, valid-regions}
+use Rattle.fact_indexes.proofs.ValidFacts.{few-rows, valid-regions}
 use Rattle.cube_state.proofs.OneGroup.{IsMove, valid-later}
 use Rattle.cube_state.proofs.RowBounds.{rows-le, rows_at-le}
 

@@ -17,7 +17,7 @@ use Rattle.fact_groups.proofs.Partition.{total_by-nothing}
 use Rattle.fact_records.specs.Shape.{IsShape, ShapeValue, width_of_all}
 use Rattle.fact_records.specs.Valid.{AreValid, IsValid}
 use Rattle.fact_records.proofs.SmallValues.{small-accepted}
-use Rattle.facts_kept.proofs.ValidFacts.{valid-regions}
+use Rattle.fact_indexes.proofs.ValidFacts.{valid-regions}
 use Rattle.world_range.specs.declared.extreme.Extreme.{Extreme}
 use Rattle.world_range.specs.declared.extreme.Extreme.TheVariants.{Greatest, Least}
 use Rattle.world_range.specs.declared.sides.Sides.{Sides}

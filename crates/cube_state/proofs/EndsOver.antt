@@ -21,9 +21,9 @@ use Rattle.staged_map.specs.Staged.{held}
 use Rattle.fact_groups.specs.Groups.{AreGrouped, facts_with, has_code}
 use Rattle.fact_groups.proofs.Groups.{total_by-map}
 use Rattle.fact_groups.proofs.Partition.{total_by-append, total_by-nothing, totals_over_keys}
-use Rattle.facts_kept.specs.Kept.{IsState}
-use Rattle.facts_kept.proofs.HeldGroups.{grouped-held}
-use Rattle.facts_kept.proofs.ValidFacts.{valid-regions}
+use Rattle.fact_indexes.specs.Kept.{IsState}
+use Rattle.fact_indexes.proofs.HeldGroups.{grouped-held}
+use Rattle.fact_indexes.proofs.ValidFacts.{valid-regions}
 use Rattle.fact_records.specs.Shape.{width_of_all}
 use Rattle.world_law.proofs.Shares.{shared-extended}
 use Rattle.world_range.specs.declared.extreme.Extreme.{Extreme}

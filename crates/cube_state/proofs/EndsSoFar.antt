@@ -13,9 +13,9 @@ use Rattle.cube_model.specs.Limits.{MAX_FACTS, MAX_VALUE}
 use Rattle.fact_groups.specs.Groups.{Group, column_sums, facts_with, group_at, has_code}
 use Rattle.fact_groups.proofs.Partition.{total_by-append}
 use Rattle.fact_records.specs.Shape.{width_of_all}
-use Rattle.facts_kept.specs.Kept.{IsState}
-use Rattle.facts_kept.proofs.GroupsSoFar.{filter-never}
-use Rattle.facts_kept.proofs.HeldGroups.{held-group}
+use Rattle.fact_indexes.specs.Kept.{IsState}
+use Rattle.fact_indexes.proofs.GroupsSoFar.{filter-never}
+use Rattle.fact_indexes.proofs.HeldGroups.{held-group}
 use Rattle.staged_map.specs.Staged.{Places, held, held_copied, held_of, value_at}
 use Rattle.world_range.specs.declared.extreme.Extreme.{Extreme}
 use Rattle.world_range.specs.declared.extreme.Extreme.TheVariants.{Greatest, Least}

@@ -8,10 +8,10 @@ use Rattle.cube_model.specs.Limits.{MAX_ROWS}
 use Rattle.cube_model.specs.Tree.{Dimension}
 use Rattle.region_algebra.specs.declared.view_def.ViewDef.{ViewDef}
 use Rattle.fact_records.specs.Shape.{ShapeValue, width_of_all}
-use Rattle.facts_kept.specs.Anew.{AreEmpty, cuts_of, kept_of}
-use Rattle.facts_kept.specs.Kept.{IsState, Kept}
-use Rattle.facts_kept.specs.declared.kept.FactsKept.{FactsKept}
-use Rattle.facts_kept.proofs.ViewsKept.{AreViewsOfFacts-none, depths-of_defs}
+use Rattle.fact_indexes.specs.Anew.{AreEmpty, cuts_of, kept_of}
+use Rattle.fact_indexes.specs.Kept.{IsState, Kept}
+use Rattle.fact_indexes.specs.declared.kept.FactsKept.{FactsKept}
+use Rattle.fact_indexes.proofs.ViewsKept.{AreViewsOfFacts-none, depths-of_defs}
 use Rattle.view_store.specs.Views.{ViewMap, ViewMaps, view_of}
 use Rattle.cube_state.proofs.Installing.{replaced}
 

@@ -25,14 +25,14 @@ use Rattle.region_index.specs.Touching.{codes_touching}
 use Rattle.staged_map.specs.Staged.{Places, held, value_at}
 use Rattle.view_store.proofs.Shares.{over-beyond}
 use Rattle.cube_state.specs.Answering.{groups_found, groups_held, shares_of}
-use Rattle.facts_kept.specs.Kept.{IsState}
+use Rattle.fact_indexes.specs.Kept.{IsState}
 use Rattle.cube_state.specs.State.{StateValue, policy_in, rows_in, terms_in}
 use Rattle.cube_state.proofs.GroupShares.{products-are, shares-are, shares-fit, units-are}
-use Rattle.facts_kept.proofs.HeldGroups.{grouped-held, groups-held}
-use Rattle.facts_kept.proofs.ValidFacts.{valid-regions}
-use Rattle.facts_kept.proofs.Modest.{IsModest, members}
-use Rattle.facts_kept.proofs.SmallGroups.{groups-modest}
-use Rattle.facts_kept.proofs.SplitGroups.{members-grouped}
+use Rattle.fact_indexes.proofs.HeldGroups.{grouped-held, groups-held}
+use Rattle.fact_indexes.proofs.ValidFacts.{valid-regions}
+use Rattle.fact_indexes.proofs.Modest.{IsModest, members}
+use Rattle.fact_indexes.proofs.SmallGroups.{groups-modest}
+use Rattle.fact_indexes.proofs.SplitGroups.{members-grouped}
 use Rattle.cube_state.proofs.TouchingShares.{all_codes, grouped-all, shares-all}
 
 -- terms with the numerators of facts are their answer

@@ -15,10 +15,10 @@ use Rattle.fact_groups.specs.Edits.{given, taken}
 use Rattle.fact_groups.specs.Groups.{Group, column_sums, facts_with, group_at, spread_at}
 use Rattle.fact_records.specs.Shape.{IsShape, width_of_all}
 use Rattle.fact_records.specs.Valid.{IsFactOf}
-use Rattle.cube_state.specs.declared.moves.Moves.{Moves}
+use Rattle.cube_state.specs.declared.edit_moves.Moves.{Moves}
 use Rattle.cube_state.specs.GroupAfter.{AreValuesWithin, fact_with_code, members_of, number_of, sums_after}
 use Rattle.cube_state.specs.Moves.{AreMoves}
-use Rattle.facts_kept.specs.Kept.{IsState}
+use Rattle.fact_indexes.specs.Kept.{IsState}
 use Rattle.cube_state.specs.State.{StateValue, policy_in}
 use Rattle.cube_state.proofs.OneGroup.{IfSome-weaker, IsMove, few-members, given-of, group-made, group-none, members-move, region-few, region-there, spread-there, sums-move, sums-within, taken-of, values-within}
 

@@ -19,7 +19,7 @@ use Rattle.fact_groups.proofs.Partition.{sum_by-alike}
 use Rattle.staged_map.specs.Staged.{Places, held, value_at}
 use Rattle.cube_state.specs.Answering.{group_share, groups_held, shares_of}
 use Rattle.cube_state.specs.State.{StateValue}
-use Rattle.facts_kept.proofs.Modest.{AreModest, IsModest, count-within, members, modest-groups, product-within, sizes-of}
+use Rattle.fact_indexes.proofs.Modest.{AreModest, IsModest, count-within, members, modest-groups, product-within, sizes-of}
 
 -- a group more
 pub shares-push : (cells : List ℕ) (groups : List Group) (g : Group) → shares_of cells (groups ++ g ∷ []) ≡ shares_of cells groups ++ (if nat_lt 0 (weight_inside cells g.spread) then group_share cells g ∷ [] else [])

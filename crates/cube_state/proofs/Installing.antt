@@ -22,10 +22,10 @@ use Rattle.view_store.specs.Changes.{AreAfter, AreStagedFor}
 use Rattle.view_store.specs.Views.{AreViewsOf, ViewMap, ViewMaps, view_of, without_entries}
 use Rattle.cube_state.specs.Sets.{IsEditFor}
 use Rattle.cube_state.specs.Sets.{SetsValue}
-use Rattle.facts_kept.specs.Kept.{AreViewsOfFacts, IsState, Kept}
+use Rattle.fact_indexes.specs.Kept.{AreViewsOfFacts, IsState, Kept}
 use Rattle.cube_state.specs.State.{HasFacts, StateValue, policy_in}
 use Rattle.cube_state.proofs.Accepting.{AreValid-after, allowed, judged}
-use Rattle.facts_kept.proofs.ViewsKept.{AreViewsOfFacts-after, AreViewsOfFacts-emptied, AreViewsOfFacts-none, cuts-after}
+use Rattle.fact_indexes.proofs.ViewsKept.{AreViewsOfFacts-after, AreViewsOfFacts-emptied, AreViewsOfFacts-none, cuts-after}
 
 -- nothing is kept where there is no fact, but views without entries
 module _ (policy : Policy) (shape : ShapeValue) (dims : List Dimension) (spare : ℕ) (maps : ViewMaps) (none : AreViewsOfFacts dims (map (λ (view : ViewMap). view.depths) maps.views) (width_of_all shape.measures + 1) [] maps) where

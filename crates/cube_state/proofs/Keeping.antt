@@ -7,8 +7,8 @@ use Rattle.staged_map.specs.Staged.{value_at}
 use Rattle.cell_weight.specs.Stats.{stat_at}
 use Rattle.fact_records.specs.Shape.{ShapeValue}
 use Rattle.view_store.specs.Changes.{HaveSameViews}
-use Rattle.facts_kept.specs.Kept.{IsState, Kept}
-use Rattle.facts_kept.proofs.SameViews.{AreViewsOfFacts-same}
+use Rattle.fact_indexes.specs.Kept.{IsState, Kept}
+use Rattle.fact_indexes.proofs.SameViews.{AreViewsOfFacts-same}
 
 -- What is kept is the same but for places and room.
 pub record IsSameKept (old new : Kept) : Type 0 where

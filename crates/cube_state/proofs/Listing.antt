@@ -15,7 +15,7 @@ use Rattle.view_store.specs.Cuts.{cut_regions, entries_of}
 use Rattle.view_store.specs.Facts.{IsViewOfFacts}
 use Rattle.view_store.specs.Views.{IsViewOf, ViewMap, listed}
 use Rattle.view_store.proofs.CutListing.{HasTerms, entries-regions, listed-in_order, terms_over}
-use Rattle.facts_kept.specs.Kept.{IsState}
+use Rattle.fact_indexes.specs.Kept.{IsState}
 use Rattle.cube_state.specs.State.{StateValue, policy_in, rows_in, terms_in, view_at}
 
 -- what holds of each item holds of the one at a place

@@ -17,8 +17,8 @@ use Rattle.fact_groups.proofs.Groups.{first-holds, group_at-region}
 use Rattle.fact_groups.proofs.Sharing.{allocation-spread_at}
 use Rattle.fact_records.specs.Shape.{ShapeValue, width_of_all}
 use Rattle.fact_records.specs.Valid.{AreValid}
-use Rattle.facts_kept.specs.Kept.{IsState}
-use Rattle.facts_kept.proofs.ValidFacts.{valid-regions}
+use Rattle.fact_indexes.specs.Kept.{IsState}
+use Rattle.fact_indexes.proofs.ValidFacts.{valid-regions}
 use Rattle.cube_state.specs.State.{StateValue, policy_in, rows_in}
 
 -- of facts in order of their ids, the one with the id of each is that one

@@ -12,7 +12,7 @@ use Rattle.fact_groups.specs.Edits.{given, taken}
 use Rattle.fact_records.specs.Judge.{fact_refusal}
 use Rattle.fact_records.specs.Shape.{IsShape, ShapeValue, policy_over}
 use Rattle.fact_records.specs.Valid.{AreValid, IsEditOver}
-use Rattle.cube_state.specs.declared.moves.Moves.{Moves}
+use Rattle.cube_state.specs.declared.edit_moves.Moves.{Moves}
 use Rattle.cube_state.specs.Moves.{AreMoves}
 use Rattle.cube_state.specs.State.{StateValue, policy_in}
 use Rattle.touched_cells.specs.Touched.{reweighing, touched}

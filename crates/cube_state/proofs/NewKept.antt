@@ -8,15 +8,15 @@ use Rattle.cube_model.specs.Tree.{Dimension}
 use Rattle.fact_records.specs.New.{AreNew, put_all}
 use Rattle.fact_records.specs.Shape.{ShapeValue, width_of_all}
 use Rattle.fact_records.specs.Valid.{AreValid}
-use Rattle.facts_kept.specs.Anew.{AreEmpty, cuts_of, kept_of}
-use Rattle.facts_kept.specs.Kept.{IsState}
-use Rattle.facts_kept.specs.declared.fault.TooMany.{TooMany}
-use Rattle.facts_kept.specs.declared.kept.FactsKept.{FactsKept}
+use Rattle.fact_indexes.specs.Anew.{AreEmpty, cuts_of, kept_of}
+use Rattle.fact_indexes.specs.Kept.{IsState}
+use Rattle.fact_indexes.specs.declared.fault.TooMany.{TooMany}
+use Rattle.fact_indexes.specs.declared.kept.FactsKept.{FactsKept}
 use Rattle.view_store.specs.Views.{AreViewsOf, IsViewOf, ViewMap, ViewMaps, without_entries}
 use Rattle.cube_state.specs.Sets.{AreAllFor}
 use Rattle.cube_state.specs.State.{StateValue, policy_in}
 use Rattle.cube_state.proofs.Accepting.{AreValid-new}
-use Rattle.facts_kept.proofs.ViewsKept.{cuts-emptied}
+use Rattle.fact_indexes.proofs.ViewsKept.{cuts-emptied}
 
 -- emptied views are empty
 record AreEmptied (dims : List Dimension) (columns : ℕ) (views : List ViewMap) : Type 0 where

@@ -26,8 +26,8 @@ use Rattle.fact_records.specs.Shape.{IsShape, ShapeValue, width_of_all}
 use Rattle.fact_records.specs.Valid.{AreValid, IsEditOver, IsFactOf, IsValid}
 use Rattle.cube_state.specs.GroupAfter.{AreValuesWithin, fact_value, fact_with_code, group_total, members_of, number_of, sum_after, sums_after}
 use Rattle.cube_state.proofs.Accepting.{AreValid-after, allowed, given-valid}
-use Rattle.facts_kept.proofs.GroupsSoFar.{filter-never, same-columns}
-use Rattle.facts_kept.proofs.ValidFacts.{few-cells, valid-regions}
+use Rattle.fact_indexes.proofs.GroupsSoFar.{filter-never, same-columns}
+use Rattle.fact_indexes.proofs.ValidFacts.{few-cells, valid-regions}
 use Rattle.cube_state.proofs.Seeing.{taken-valid}
 use Rattle.fact_records.proofs.SmallValues.{count-accepted, small-accepted}
 

@@ -17,14 +17,14 @@ use Rattle.alloc_rows.proofs.Spreading.{sum_by-same}
 use Rattle.fact_groups.specs.Groups.{spread_at}
 use Rattle.fact_records.specs.Shape.{IsShape}
 use Rattle.fact_records.specs.Valid.{AreValid}
-use Rattle.cube_state.specs.declared.moves.Moves.{Moves}
+use Rattle.cube_state.specs.declared.edit_moves.Moves.{Moves}
 use Rattle.cube_state.specs.Moves.{AreMoves}
-use Rattle.facts_kept.specs.Kept.{IsState}
+use Rattle.fact_indexes.specs.Kept.{IsState}
 use Rattle.cube_state.specs.State.{StateValue, policy_in}
 use Rattle.touched_cells.specs.Touched.{touched}
 use Rattle.cube_state.proofs.Accepting.{AreValid-after, allowed}
 use Rattle.cube_state.proofs.Below.{reweighing-below, touched-below}
-use Rattle.facts_kept.proofs.Counting.{AreFewIn-facts}
+use Rattle.fact_indexes.proofs.Counting.{AreFewIn-facts}
 use Rattle.cube_state.proofs.Spreading.{AreChangesAt-touched, holds-reweighing, spread-after, spread-before, spread-same, spread-single, stat_after-touched}
 use Rattle.touched_cells.proofs.Touching.{IsStat-valid}
 

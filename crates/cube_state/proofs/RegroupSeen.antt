@@ -15,11 +15,11 @@ use Rattle.region_algebra.specs.Space.{all_regions}
 use Rattle.fact_groups.specs.Groups.{Group, facts_with, group_at, spread_at}
 use Rattle.fact_groups.proofs.Refreshing.{same_allocation}
 use Rattle.fact_records.specs.Shape.{ShapeValue, width_of_all}
-use Rattle.cube_state.specs.declared.moves.Moves.{Moves}
+use Rattle.cube_state.specs.declared.edit_moves.Moves.{Moves}
 use Rattle.cube_state.specs.GroupAfter.{group_row_count}
 use Rattle.cube_state.specs.Moves.{AreMoves}
 use Rattle.cube_state.specs.Regrouped.{HoldChanged, group_is_respread, groups_after, spread_anew}
-use Rattle.facts_kept.specs.Kept.{IsState}
+use Rattle.fact_indexes.specs.Kept.{IsState}
 use Rattle.cube_state.specs.State.{StateValue, policy_in}
 use Rattle.cube_state.proofs.Drafted.{IsDraft, drafted-all, drafted-few, drafted-rows, rows-before-le, rows-later-few, rows-later-le}
 use Rattle.cube_state.proofs.GroupSeen.{group-seen, move-seen}

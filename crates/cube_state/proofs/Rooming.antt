@@ -20,12 +20,12 @@ use Rattle.view_store.specs.declared.change.ViewChange.{ViewChange}
 use Rattle.view_store.specs.Changes.{AreStagedFor, FitsViews, HaveSameViews, IsSameView, facts_put, facts_taken_away}
 use Rattle.view_store.specs.Facts.{FollowBy}
 use Rattle.view_store.specs.Views.{ViewMap, ViewMaps}
-use Rattle.cube_state.specs.declared.moves.Moves.{Moves}
-use Rattle.cube_state.specs.declared.regrouped.Regrouped.{Regrouped}
+use Rattle.cube_state.specs.declared.edit_moves.Moves.{Moves}
+use Rattle.cube_state.specs.declared.changed_groups.Regrouped.{Regrouped}
 use Rattle.cube_state.specs.Moves.{AreMoves, indexed_as}
 use Rattle.cube_state.specs.Sets.{AreSetsFor, SetGroups, SetStats, SetsValue, has_room}
 use Rattle.cube_state.specs.Regrouped.{IsRegrouped}
-use Rattle.facts_kept.specs.Kept.{IsState, Kept}
+use Rattle.fact_indexes.specs.Kept.{IsState, Kept}
 use Rattle.cube_state.specs.State.{HaveSameContent, StateValue, policy_in, rows_after, rows_in}
 use Rattle.cube_state.proofs.Accepting.{AreValid-after, allowed}
 use Rattle.cube_state.proofs.Keeping.{IsSameKept, IsState-same}

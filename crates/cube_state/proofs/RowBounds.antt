@@ -18,7 +18,7 @@ use Rattle.fact_groups.proofs.Groups.{first-holds, first-passes}
 use Rattle.fact_groups.proofs.Partition.{sum_by-alike, sum_by-either, sum_by-filter}
 use Rattle.fact_groups.proofs.Sharing.{allocation-shared}
 use Rattle.cube_state.specs.GroupAfter.{group_row_count}
-use Rattle.facts_kept.proofs.GroupsSoFar.{filter-never}
+use Rattle.fact_indexes.proofs.GroupsSoFar.{filter-never}
 
 -- a number that stands among ascending ones counts once at most
 once-le : (codes : List ℕ) → ascends_from (λ code. code) 0 codes ≡ true → (n v : ℕ) → sum_by (λ code. if n == code then v else 0) codes ≤ v

@@ -19,10 +19,10 @@ use Rattle.region_index.specs.Indexed.{covers}
 use Rattle.region_index.specs.Over.{codes_over}
 use Rattle.region_index.proofs.HeldCodes.{held_codes-cover}
 use Rattle.cube_state.specs.Covering.{is_over_one, probes_over}
-use Rattle.facts_kept.specs.Kept.{IsState}
+use Rattle.fact_indexes.specs.Kept.{IsState}
 use Rattle.cube_state.specs.State.{StateValue, policy_in}
 use Rattle.touched_cells.specs.Touched.{Lying, added_at, changes_of, lying_of, number_at, touched}
-use Rattle.facts_kept.proofs.ValidFacts.{valid-regions}
+use Rattle.fact_indexes.proofs.ValidFacts.{valid-regions}
 use Rattle.touched_cells.proofs.Touching.{added-taken, changes-touched, number-taken}
 
 -- the fact that an edit takes is one of the facts

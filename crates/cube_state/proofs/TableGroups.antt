@@ -24,9 +24,9 @@ use Rattle.staged_map.specs.Staged.{Places}
 use Rattle.view_store.proofs.CutRegions.{inside-inside}
 use Rattle.view_store.proofs.LeafTuples.{is_among-inside}
 use Rattle.view_store.proofs.OfFacts.{answers-alike}
-use Rattle.facts_kept.specs.Anew.{AreGroupsOf}
-use Rattle.facts_kept.proofs.SplitGroups.{counts-split, others_of, sums-split}
-use Rattle.facts_kept.proofs.ValidFacts.{valid-regions}
+use Rattle.fact_indexes.specs.Anew.{AreGroupsOf}
+use Rattle.fact_indexes.proofs.SplitGroups.{counts-split, others_of, sums-split}
+use Rattle.fact_indexes.proofs.ValidFacts.{valid-regions}
 use Rattle.cube_state.specs.Answering.{shares_of}
 use Rattle.cube_state.specs.Tables.{HoldTouching}
 use Rattle.cube_state.proofs.GroupShares.{products-are, units-are}

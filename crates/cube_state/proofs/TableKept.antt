@@ -11,7 +11,7 @@ use Rattle.view_store.specs.Facts.{IsViewOfFacts}
 use Rattle.view_store.specs.Rolling.{has_depths, listed_under, view_with}
 use Rattle.view_store.specs.Views.{IsViewOf, ViewMap, ViewMaps, listed}
 use Rattle.view_store.proofs.CutListing.{HasTerms}
-use Rattle.facts_kept.specs.Kept.{IsCutView, IsState}
+use Rattle.fact_indexes.specs.Kept.{IsCutView, IsState}
 use Rattle.cube_state.specs.State.{StateValue, policy_in, rows_in}
 use Rattle.cube_state.specs.Tables.{IsListUnder, IsOneViewUnder, IsViewUnder}
 use Rattle.cube_state.proofs.ViewAnswers.{find-all}

@@ -20,13 +20,13 @@ use Rattle.view_store.specs.Changes.{AreAfter, FitsView, FitsViews, HaveSameView
 use Rattle.view_store.specs.Cuts.{entries_of}
 use Rattle.view_store.specs.Facts.{IsViewOfFacts}
 use Rattle.view_store.specs.Views.{IsViewOf, ViewMap, ViewMaps}
-use Rattle.facts_kept.specs.Anew.{AreEmpty, cuts_of}
-use Rattle.facts_kept.specs.Kept.{AreViewsOfFacts, IsState}
-use Rattle.facts_kept.specs.ViewChanges.{AreOfRegions, puts_at}
-use Rattle.facts_kept.proofs.EmptyViews.{answers-none, views-put}
-use Rattle.facts_kept.proofs.GroupRegions.{of-regions}
-use Rattle.facts_kept.proofs.PutGroups.{fit-puts, follow-some}
-use Rattle.facts_kept.proofs.ValidFacts.{valid-regions}
+use Rattle.fact_indexes.specs.Anew.{AreEmpty, cuts_of}
+use Rattle.fact_indexes.specs.Kept.{AreViewsOfFacts, IsState}
+use Rattle.fact_indexes.specs.ViewChanges.{AreOfRegions, puts_at}
+use Rattle.fact_indexes.proofs.EmptyViews.{answers-none, views-put}
+use Rattle.fact_indexes.proofs.GroupRegions.{of-regions}
+use Rattle.fact_indexes.proofs.PutGroups.{fit-puts, follow-some}
+use Rattle.fact_indexes.proofs.ValidFacts.{valid-regions}
 use Rattle.cube_state.specs.State.{StateValue, policy_in, rows_in, terms_in}
 use Rattle.cube_state.specs.Tables.{HoldTouching, IsListUnder, IsOneViewUnder, depths_under, table_at, table_regions}
 use Rattle.cube_state.proofs.Listing.{terms-wide}

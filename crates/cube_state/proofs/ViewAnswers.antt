@@ -21,9 +21,9 @@ use Rattle.view_store.specs.Rolling.{FitsUnder, entries_under, is_below, rolled_
 use Rattle.view_store.specs.Views.{ViewMap, codes_of, entry_at, is_in_view, region_at}
 use Rattle.view_store.proofs.Answering.{answer-of_facts}
 use Rattle.view_store.proofs.Shares.{count_of-answer, numerator_of-answer}
-use Rattle.facts_kept.specs.Kept.{IsState}
+use Rattle.fact_indexes.specs.Kept.{IsState}
 use Rattle.cube_state.specs.State.{StateValue, policy_in, rows_in, terms_in}
-use Rattle.facts_kept.proofs.FactBounds.{rows-small, rows-within}
+use Rattle.fact_indexes.proofs.FactBounds.{rows-small, rows-within}
 use Rattle.cube_state.proofs.SmallTerms.{AreSmallTerms, merges-within, small-each, small-none}
 
 -- what is found passes, and holds what all hold

@@ -24,27 +24,27 @@ use Rattle.view_store.specs.declared.change.ViewChange.{ViewChange}
 use Rattle.view_store.specs.Changes.{FitsView, FitsViews, facts_put, facts_taken_away}
 use Rattle.view_store.specs.Facts.{FollowBy, IsViewOfFacts}
 use Rattle.view_store.specs.Views.{ViewMap}
-use Rattle.cube_state.specs.declared.moves.Moves.{Moves}
-use Rattle.cube_state.specs.declared.regrouped.Regrouped.{Regrouped}
+use Rattle.cube_state.specs.declared.edit_moves.Moves.{Moves}
+use Rattle.cube_state.specs.declared.changed_groups.Regrouped.{Regrouped}
 use Rattle.cube_state.specs.Moves.{AreMoves}
 use Rattle.cube_state.specs.Regrouped.{IsRegrouped}
 use Rattle.cube_state.specs.Regrouped.{HoldChanged, group_is_respread, is_edited_at, regrouped}
-use Rattle.facts_kept.specs.Kept.{IsState}
+use Rattle.fact_indexes.specs.Kept.{IsState}
 use Rattle.cube_state.specs.State.{StateValue, policy_in, rows_after, rows_in}
-use Rattle.facts_kept.specs.ViewChanges.{AreOfRegions, IsOfRegion}
+use Rattle.fact_indexes.specs.ViewChanges.{AreOfRegions, IsOfRegion}
 use Rattle.cube_state.specs.ViewChanges.{EntriesAreOfRegions, changes_at, changes_by}
-use Rattle.facts_kept.proofs.ChangedEntries.{IsPlaced, StandFor, fits-views}
-use Rattle.facts_kept.proofs.ChangeGroups.{facts_put-groups, facts_taken_away-groups}
+use Rattle.fact_indexes.proofs.ChangedEntries.{IsPlaced, StandFor, fits-views}
+use Rattle.fact_indexes.proofs.ChangeGroups.{facts_put-groups, facts_taken_away-groups}
 use Rattle.cube_state.proofs.CodeChanges.{changes_with, each-with, given-with, taken-with}
 use Rattle.cube_state.proofs.GroupSeen.{move-seen}
-use Rattle.facts_kept.proofs.GroupRegions.{group-of_region, group-region, of-regions}
-use Rattle.facts_kept.proofs.HeldGroups.{group-rows}
+use Rattle.fact_indexes.proofs.GroupRegions.{group-of_region, group-region, of-regions}
+use Rattle.fact_indexes.proofs.HeldGroups.{group-rows}
 use Rattle.cube_state.proofs.LeftOut.{groups-left_out}
-use Rattle.facts_kept.proofs.ValidFacts.{valid-regions}
-use Rattle.facts_kept.proofs.Modest.{members}
+use Rattle.fact_indexes.proofs.ValidFacts.{valid-regions}
+use Rattle.fact_indexes.proofs.Modest.{members}
 use Rattle.cube_state.proofs.OneGroup.{IsMove, valid-later}
-use Rattle.facts_kept.proofs.SmallGroups.{group-modest, groups-modest, short-facts}
-use Rattle.facts_kept.proofs.SplitGroups.{counts-split, members-split, others-same, others_of, sums-split}
+use Rattle.fact_indexes.proofs.SmallGroups.{group-modest, groups-modest, short-facts}
+use Rattle.fact_indexes.proofs.SplitGroups.{counts-split, members-split, others-same, others_of, sums-split}
 
 module _ (weigh : CellStat → ℕ) (bound : (s : CellStat) → IsStat s → weigh s ≤ 1 + s.count * MAX_VALUE) (shape : ShapeValue) (dims : List Dimension) (edit : Edit) (facts : List Fact)
     (is : IsShape shape) (move : IsMove shape dims edit facts) (codes : List ℕ) (hold : HoldChanged (policy_over weigh shape) (width_of_all shape.measures) dims edit facts codes) where

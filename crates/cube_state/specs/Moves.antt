@@ -11,7 +11,7 @@ use Rattle.fact_records.specs.Judge.{fact_refusal}
 use Rattle.fact_records.specs.Shape.{ShapeValue}
 use Rattle.fact_records.specs.Valid.{IsEditOver}
 use Rattle.region_index.specs.Changes.{Pair}
-use Rattle.cube_state.specs.declared.moves.Moves.{Moves}
+use Rattle.cube_state.specs.declared.edit_moves.Moves.{Moves}
 use Rattle.touched_cells.specs.Touched.{reweighing, touched}
 
 -- An edit that is refused by no code that is judged before the rows, with its old fact and its new fact, the changes of

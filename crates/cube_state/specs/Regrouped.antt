@@ -12,7 +12,7 @@ use Rattle.staged_map.specs.Staged.{Entries}
 use Rattle.fact_groups.specs.Edits.{given, taken}
 use Rattle.fact_groups.specs.Groups.{Group, group_at, has_code}
 use Rattle.region_index.specs.Content.{AreAscending}
-use Rattle.cube_state.specs.declared.regrouped.Regrouped.{Regrouped}
+use Rattle.cube_state.specs.declared.changed_groups.Regrouped.{Regrouped}
 
 -- ascending codes that hold every one whose group an edit may change
 pub record HoldChanged (policy : Policy) (columns : ℕ) (dims : List Dimension) (edit : Edit) (facts : List Fact) (codes : List ℕ) : Type 0 where

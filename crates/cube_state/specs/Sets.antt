@@ -20,9 +20,9 @@ use Rattle.view_store.specs.declared.change.ViewChange.{ViewChange}
 use Rattle.view_store.specs.Changes.{AreStagedFor, HaveRoomFor, facts_put, facts_taken_away}
 use Rattle.view_store.specs.Facts.{FollowBy}
 use Rattle.view_store.specs.Views.{ViewMaps}
-use Rattle.facts_kept.specs.declared.kept.FactsKept.{FactsKept}
-use Rattle.facts_kept.specs.Anew.{kept_of}
-use Rattle.facts_kept.specs.Kept.{IsState}
+use Rattle.fact_indexes.specs.declared.kept.FactsKept.{FactsKept}
+use Rattle.fact_indexes.specs.Anew.{kept_of}
+use Rattle.fact_indexes.specs.Kept.{IsState}
 use Rattle.cube_state.specs.State.{StateValue, judge_in, policy_in, rows_after, rows_in}
 
 -- what it will set of what is kept beside the facts

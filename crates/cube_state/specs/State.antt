@@ -11,7 +11,7 @@ use Rattle.cube_model.specs.Answer.{answer}
 use Rattle.cube_model.specs.Difference.{refreshed}
 use Rattle.cube_model.specs.Facts.{after}
 use Rattle.cube_model.specs.Tree.{Dimension}
-use Rattle.facts_kept.specs.Kept.{Kept}
+use Rattle.fact_indexes.specs.Kept.{Kept}
 use Rattle.fact_records.specs.Judge.{judge}
 use Rattle.fact_records.specs.Shape.{ShapeValue, policy_over, width_of_all}
 use Rattle.group_sum.specs.Terms.{TermList}

@@ -3,7 +3,7 @@ use Rattle.std.specs.Prelude.{ℕ, All, true, false, List, ◌++◌, Option}
 use Rattle.std.specs.List.{flat_map}
 use Rattle.cube_model.specs.Tree.{Dimension}
 use Rattle.fact_groups.specs.Groups.{Group}
-use Rattle.facts_kept.specs.ViewChanges.{IsOfRegion, group_changes}
+use Rattle.fact_indexes.specs.ViewChanges.{IsOfRegion, group_changes}
 use Rattle.staged_map.specs.Staged.{Entries}
 use Rattle.view_store.specs.declared.change.ViewChange.{ViewChange}
 

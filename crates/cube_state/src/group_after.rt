@@ -11,7 +11,7 @@ ghost use Rattle.cube_state.specs.Moves.{AreMoves};
 ghost use Rattle.cube_state.specs.Regrouped.{is_edited_at};
 ghost use Rattle.cube_state.specs.State.{policy_in};
 
-use crate::moves::Moves;
+use crate::edit_moves::Moves;
 use crate::{Group, State};
 use cell_weight::WeightPolicy;
 use cube_base::{Cols, MAX_COLS, Memory};

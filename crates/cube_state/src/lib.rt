@@ -3,14 +3,14 @@
 #![tactic(auto)]
 
 mod answering;
+mod changed_groups;
+mod edit_moves;
+mod edit_reach;
 mod edited;
 mod group_after;
-mod moves;
-mod moving;
+mod group_draft;
 mod ranging;
-mod regroup;
-mod regrouped;
-mod regrouping;
+mod region_spreads;
 mod renewing;
 mod room;
 mod sets;
@@ -18,11 +18,11 @@ mod state;
 mod tabling;
 mod viewing;
 
+pub use changed_groups::Regrouped;
+pub use edit_moves::Moves;
 pub use edited::edited_id;
-pub use facts_kept::{Group, TooMany};
-pub use moves::Moves;
+pub use fact_indexes::{Group, TooMany};
 pub use ranging::{Ends, column_of};
-pub use regrouped::Regrouped;
 pub use sets::Sets;
 pub use state::State;
 pub use tabling::worked_tables;

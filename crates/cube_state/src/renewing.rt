@@ -1,7 +1,7 @@
 //! New facts beside those of a state, kept all at once.
 ghost use Rattle.std.specs.Prelude.{◌≡◌, ◌≤◌, IfErr, IfOk, length};
 ghost use Rattle.fact_records.specs.New.{AreNew, put_all};
-ghost use Rattle.facts_kept.specs.Anew.{IsTooMany};
+ghost use Rattle.fact_indexes.specs.Anew.{IsTooMany};
 ghost use Rattle.cube_state.specs.Sets.{AreAllFor};
 ghost use Rattle.cube_state.specs.State.{policy_in};
 
@@ -9,9 +9,8 @@ use crate::State;
 use cell_weight::WeightPolicy;
 use cube_base::Memory;
 use cube_model::Fact;
-use fact_records::FactList;
-use fact_sequence::copy_with_room;
-use facts_kept::{FactsKept, TooMany, keep_all};
+use fact_indexes::{FactsKept, TooMany, keep_all};
+use fact_records::{FactList, copy_with_room};
 use std::alloc::Global;
 
 impl<P: WeightPolicy + Drop> State<P> {

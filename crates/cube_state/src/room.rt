@@ -15,8 +15,8 @@ ghost use Rattle.cube_state.specs.Sets.{AreSetsFor, has_room};
 ghost use Rattle.cube_state.specs.Regrouped.{IsRegrouped};
 ghost use Rattle.cube_state.specs.State.{HaveSameContent, policy_in, rows_after, rows_in};
 
-use crate::moves::Moves;
-use crate::regrouped::Regrouped;
+use crate::changed_groups::Regrouped;
+use crate::edit_moves::Moves;
 use crate::sets::Sets;
 use crate::{Group, State};
 use cell_weight::{CellStat, StatIndex, WeightPolicy};

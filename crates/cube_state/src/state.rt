@@ -10,7 +10,7 @@ ghost use Rattle.region_algebra.specs.Space.{IsRegion, code_of};
 ghost use Rattle.fact_records.specs.FactList.{fact_of};
 ghost use Rattle.fact_records.specs.Shape.{policy_over, width_of_all};
 ghost use Rattle.fact_records.specs.Valid.{AreValid};
-ghost use Rattle.facts_kept.specs.Anew.{IsTooMany};
+ghost use Rattle.fact_indexes.specs.Anew.{IsTooMany};
 ghost use Rattle.fact_groups.specs.Groups.{group_at};
 ghost use Rattle.cube_state.specs.Sets.{AreAllFor, IsEditFor, has_room};
 ghost use Rattle.cube_state.specs.State.{HasFacts, ids_with, policy_in, rows_in};
@@ -21,8 +21,8 @@ use alloc_rows::Alloc;
 use cell_weight::{StatIndex, WeightPolicy};
 use cube_base::Memory;
 use cube_model::{Edit, Fact, Region};
+use fact_indexes::{FactsKept, TooMany, keep_all};
 use fact_records::{FactList, Shape};
-use facts_kept::{FactsKept, TooMany, keep_all};
 use region_algebra::{Space, ViewDef};
 use region_index::{RegionIndex, Steps};
 use staged_map::Staged;
@@ -56,7 +56,7 @@ pub struct State<P: WeightPolicy + Drop> {
 
 impl<P: WeightPolicy + Drop> Model for State<P> {
     ghost use Rattle.std.specs.Prelude.{map};
-    ghost use Rattle.facts_kept.specs.Kept.{IsState};
+    ghost use Rattle.fact_indexes.specs.Kept.{IsState};
     ghost use Rattle.cube_state.specs.State.{StateValue};
     ghost use Rattle.fact_records.specs.Shape.{policy_over};
 

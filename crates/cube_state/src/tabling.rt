@@ -13,7 +13,7 @@ use cell_weight::WeightPolicy;
 use cube_base::Memory;
 use cube_model::Region;
 use dim_tree::Dim;
-use facts_kept::{puts_at, view_of};
+use fact_indexes::{puts_at, view_of};
 use region_algebra::Space;
 use region_index::codes_touching;
 use std::alloc::Global;

@@ -3,9 +3,9 @@ use crate::runs::{ALL, Ending, REPAIRS, WHOLE, run, source_of};
 use cube_base::Code;
 use cube_cli::End;
 use cube_core::Finding;
-use fact_sequence::BadRecord;
-use line_cutter::{InputStop, take_input};
+use fact_records::BadRecord;
 use std::alloc::{AllocError, Global};
+use text_lines::{InputStop, take_input};
 
 /// Words of no command.
 const NO_COMMANDS: [&[&str]; 28] = [

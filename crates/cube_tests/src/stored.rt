@@ -1,10 +1,9 @@
 //! Contents of stores, written out as tables.
 use crate::runs::{Outside, Ran, run_kept};
-use cube_base::{Bytes, Ids, Memory};
+use cube_base::{Bytes, Ids, Memory, SharedPairs};
 use fact_keeper::{
     ColNums, KeptFact, KeptFacts, KeptRows, KeptRowsList, MemKeeper, NodeNums, Stored,
 };
-use shared_list::SharedPairs;
 use std::alloc::Global;
 
 /// Two cities of a state, with the number measure Hours, under the policy of counts. The nodes are All 0, TX 1, Austin 2 and Dallas 3;

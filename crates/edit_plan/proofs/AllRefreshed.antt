@@ -16,12 +16,12 @@ use Rattle.fact_groups.specs.Groups.{Group, group_at}
 use Rattle.fact_groups.proofs.Ascending.{ascends-from_pairs}
 use Rattle.fact_groups.proofs.Refreshing.{any-found}
 use Rattle.fact_records.specs.Shape.{ShapeValue, width_of_all}
-use Rattle.facts_kept.specs.Kept.{IsState, Kept}
+use Rattle.fact_indexes.specs.Kept.{IsState, Kept}
 use Rattle.edit_plan.specs.Plan.{kept_rows}
 use Rattle.edit_plan.specs.Refreshing.{is_same_spread}
 use Rattle.edit_plan.specs.Whole.{ids_otherwise, lay_so, lies_otherwise, rows_otherwise}
 use Rattle.cube_state.proofs.Looking.{find-itself, group-found}
-use Rattle.facts_kept.proofs.ValidFacts.{valid-regions}
+use Rattle.fact_indexes.proofs.ValidFacts.{valid-regions}
 use Rattle.edit_plan.proofs.RowsKept.{among-some, whole}
 
 -- What is made of the facts of a list that pass a test, one fact after another: so far, and of those that are left.

@@ -15,8 +15,8 @@ use Rattle.fact_groups.specs.Groups.{Group, group_at}
 use Rattle.fact_records.specs.New.{AreNew}
 use Rattle.fact_records.specs.Shape.{width_of_all}
 use Rattle.fact_records.specs.Valid.{AreValid, IsValid}
-use Rattle.facts_kept.specs.Anew.{kept_of}
-use Rattle.facts_kept.specs.declared.kept.FactsKept.{FactsKept}
+use Rattle.fact_indexes.specs.Anew.{kept_of}
+use Rattle.fact_indexes.specs.declared.kept.FactsKept.{FactsKept}
 use Rattle.region_algebra.specs.Space.{code_of}
 use Rattle.cube_state.specs.Sets.{AreAllFor}
 use Rattle.edit_plan.specs.Refreshing.{is_same_spread}
@@ -25,7 +25,7 @@ use Rattle.edit_plan.specs.Whole.{difference_with, facts_with_new, ids_otherwise
 use Rattle.cube_state.proofs.Accepting.{AreValid-new}
 use Rattle.edit_plan.proofs.AllRefreshed.{IsKeptFact, ascend-refreshed, ids-refreshed, kept-each, lay-none, lay-some, rows-refreshed}
 use Rattle.edit_plan.proofs.AllStored.{new-stored}
-use Rattle.facts_kept.proofs.ValidFacts.{valid-regions}
+use Rattle.fact_indexes.proofs.ValidFacts.{valid-regions}
 
 module _ {P : Type 0} (weigh : P → CellStat → ℕ) (state : StateValue P) where
   -- each of them is kept

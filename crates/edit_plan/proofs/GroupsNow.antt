@@ -17,7 +17,7 @@ use Rattle.cube_model.proofs.Ascending.{ascends_filter, ascends_first, ascends_l
 use Rattle.staged_map.specs.Staged.{Entries, staged_entry}
 use Rattle.staged_map.proofs.Entries.{staged_entry-made}
 use Rattle.fact_groups.specs.Groups.{Group, group_at}
-use Rattle.cube_state.specs.declared.regrouped.Regrouped.{Regrouped}
+use Rattle.cube_state.specs.declared.changed_groups.Regrouped.{Regrouped}
 use Rattle.edit_plan.specs.Refreshing.{AscendByCode, group_now}
 use Rattle.cube_state.specs.Regrouped.{IsRegrouped}
 use Rattle.cube_state.specs.Regrouped.{HoldChanged, group_is_respread, groups_after, is_edited_at, regrouped}

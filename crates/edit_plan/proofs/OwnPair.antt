@@ -15,8 +15,8 @@ use Rattle.fact_groups.specs.Refreshed.{is_new_or_moved, is_spread_otherwise}
 use Rattle.fact_groups.proofs.Groups.{first-holds, group_at-found}
 use Rattle.fact_records.specs.Shape.{width_of_all}
 use Rattle.fact_records.specs.Valid.{AreValid}
-use Rattle.cube_state.specs.declared.moves.Moves.{Moves}
-use Rattle.cube_state.specs.declared.regrouped.Regrouped.{Regrouped}
+use Rattle.cube_state.specs.declared.edit_moves.Moves.{Moves}
+use Rattle.cube_state.specs.declared.changed_groups.Regrouped.{Regrouped}
 use Rattle.cube_state.specs.Moves.{AreMoves}
 use Rattle.cube_state.specs.Regrouped.{IsRegrouped}
 use Rattle.edit_plan.specs.Refreshing.{group_now, is_same_spread, own_pair}

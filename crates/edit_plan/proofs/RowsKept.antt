@@ -22,8 +22,8 @@ use Rattle.fact_groups.proofs.Sharing.{allocation-spread_at}
 use Rattle.fact_records.specs.Shape.{width_of_all}
 use Rattle.fact_records.specs.Valid.{AreValid}
 use Rattle.edit_plan.specs.Plan.{kept_rows}
-use Rattle.cube_state.specs.declared.moves.Moves.{Moves}
-use Rattle.cube_state.specs.declared.regrouped.Regrouped.{Regrouped}
+use Rattle.cube_state.specs.declared.edit_moves.Moves.{Moves}
+use Rattle.cube_state.specs.declared.changed_groups.Regrouped.{Regrouped}
 use Rattle.cube_state.specs.Moves.{AreMoves}
 use Rattle.edit_plan.specs.Refreshing.{AreOfFacts, AreRefreshed, group_now}
 use Rattle.cube_state.specs.Regrouped.{IsRegrouped}

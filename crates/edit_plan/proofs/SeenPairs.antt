@@ -12,8 +12,8 @@ use Rattle.region_algebra.specs.Space.{IsRegion}
 use Rattle.fact_groups.specs.Edits.{edited_id}
 use Rattle.fact_records.specs.Shape.{width_of_all}
 use Rattle.fact_records.specs.Valid.{AreValid}
-use Rattle.cube_state.specs.declared.moves.Moves.{Moves}
-use Rattle.cube_state.specs.declared.regrouped.Regrouped.{Regrouped}
+use Rattle.cube_state.specs.declared.edit_moves.Moves.{Moves}
+use Rattle.cube_state.specs.declared.changed_groups.Regrouped.{Regrouped}
 use Rattle.edit_plan.specs.Bound.{covering_pairs}
 use Rattle.cube_state.specs.Moves.{AreMoves}
 use Rattle.edit_plan.specs.Refreshing.{AreOfFacts, id_count_at, others_at, own_pair}
@@ -22,7 +22,7 @@ use Rattle.cube_state.specs.Regrouped.{spread_anew}
 use Rattle.cube_state.specs.State.{StateValue, policy_in}
 use Rattle.cube_state.proofs.Accepting.{AreValid-after, allowed}
 use Rattle.edit_plan.proofs.HandedOut.{handed-out}
-use Rattle.facts_kept.proofs.ValidFacts.{valid-regions}
+use Rattle.fact_indexes.proofs.ValidFacts.{valid-regions}
 use Rattle.edit_plan.proofs.RefreshedPairs.{codes-sorted, ids-sorted}
 
 module _ {P : Type 0} (weigh : P → CellStat → ℕ) (state : StateValue P) (valid : AreValid state.shape state.dims state.facts) (moves : Moves)

@@ -16,7 +16,7 @@ use Rattle.region_index.specs.Over.{codes_over}
 use Rattle.region_index.proofs.Lengths.{codes_over-short}
 use Rattle.fact_groups.specs.Changes.{touched_cells}
 use Rattle.fact_groups.proofs.Statistics.{length-touched}
-use Rattle.cube_state.specs.declared.moves.Moves.{Moves}
+use Rattle.cube_state.specs.declared.edit_moves.Moves.{Moves}
 use Rattle.edit_plan.specs.Bound.{covering_pairs, step_bound}
 use Rattle.cube_state.specs.Covering.{probes_over}
 use Rattle.cube_state.specs.Moves.{AreMoves}

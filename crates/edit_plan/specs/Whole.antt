@@ -13,8 +13,8 @@ use Rattle.fact_keeper.specs.declared.content.Batch.{Batch}
 use Rattle.fact_keeper.specs.declared.content.KeptFact.{KeptFact}
 use Rattle.fact_keeper.specs.declared.content.KeptRows.{KeptRows}
 use Rattle.fact_records.specs.New.{put_all}
-use Rattle.facts_kept.specs.declared.fault.TooMany.{TooMany}
-use Rattle.facts_kept.specs.declared.fault.TooMany.TheVariants as too_many
+use Rattle.fact_indexes.specs.declared.fault.TooMany.{TooMany}
+use Rattle.fact_indexes.specs.declared.fault.TooMany.TheVariants as too_many
 use Rattle.edit_plan.specs.declared.fault.PlanAllFault.{PlanAllFault}
 use Rattle.edit_plan.specs.declared.fault.PlanAllFault.TheVariants as plan_all_fault
 use Rattle.edit_plan.specs.Plan.{kept_fact, kept_rows}

@@ -4,7 +4,7 @@ ghost use Rattle.edit_plan.specs.declared.fault.PlanAllFault.TheVariants as plan
 ghost use Rattle.edit_plan.specs.declared.fault.PlanFault.TheVariants as plan_fault;
 
 use cube_base::{Code, Memory};
-use facts_kept::TooMany;
+use fact_indexes::TooMany;
 
 /// Why there is no plan of an edit. The state's content is as it was.
 #[derive(Clone, Copy, Debug, PartialEq, Eq)]

@@ -1,7 +1,7 @@
 //! What a plan does.
 use cube_model::Edit;
 use cube_state::Sets;
-use facts_kept::FactsKept;
+use fact_indexes::FactsKept;
 
 /// What a plan does to a state: an edit, or all facts at once.
 #[derive(Drop)]

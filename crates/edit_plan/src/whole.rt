@@ -22,9 +22,9 @@ use cell_weight::WeightPolicy;
 use cube_base::{Ids, Memory};
 use cube_model::Fact;
 use cube_state::State;
+use fact_indexes::FactsKept;
 use fact_keeper::{Batch, KeptFacts, KeptRows, KeptRowsList};
 use fact_records::FactRun;
-use facts_kept::FactsKept;
 use std::alloc::Global;
 
 /// Prepares that all of the facts are put, so that this can be installed without memory. In their order, each must be one that a put

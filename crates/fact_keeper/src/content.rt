@@ -1,8 +1,7 @@
 //! What a store holds, and what changes it.
 ghost use Rattle.std.specs.Prelude.{◌≡◌, ◌↔◌, IsTrue};
 
-use cube_base::{Bytes, Ids, PlainList};
-use shared_list::SharedPairs;
+use cube_base::{Bytes, Ids, PlainList, SharedPairs};
 use std::alloc::Global;
 
 /// The numbers of nodes, one per dimension.

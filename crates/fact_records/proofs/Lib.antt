@@ -1,5 +1,6 @@
 pub mod AcceptedValues
 pub mod Adding
+mod AllPut
 pub mod Ascending
 pub mod BlockPlaces
 pub mod BlockStarts
@@ -16,6 +17,7 @@ pub mod Load
 pub mod NodeFields
 pub mod PartTexts
 pub mod Rooms
+mod SequenceJudging
 pub mod SmallValues
 pub mod Stocking
 pub mod ValueFields

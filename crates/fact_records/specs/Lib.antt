@@ -11,7 +11,9 @@ pub mod Leveling
 pub mod MeasureFields
 pub mod New
 pub mod Outcomes
+pub mod RefusedRecord
 pub mod Room
+pub mod SequenceExamples
 pub mod Shape
 pub mod Starts
 pub mod Stocked

@@ -12,8 +12,8 @@ use Rattle.fact_keeper.specs.declared.content.Batch.{Batch}
 use Rattle.fact_keeper.specs.declared.content.Stored.{Stored}
 use Rattle.fact_keeper.specs.Batch.{apply_batch, empty_content}
 use Rattle.fact_records.specs.Valid.{AreValid, IsFactOf, IsValid}
-use Rattle.stored_state.specs.Sound.{facts_told}
-use Rattle.line_cutter.specs.Pieces.{front}
+use Rattle.store_audit.specs.Sound.{facts_told}
+use Rattle.text_lines.specs.Pieces.{front}
 use Rattle.text_lines.specs.LineText.{LINE_FRONT, is_long}
 use Rattle.text_lines.specs.Text.{lines_of}
 use Rattle.schema_text.specs.Schema.{IsSchema, SchemaValue, shape_of, weigh_of}

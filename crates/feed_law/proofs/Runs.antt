@@ -8,10 +8,10 @@ use Rattle.std.specs.Result.{result_ok}
 use Rattle.std.proofs.lemmas.Bool.{ne_eqb}
 use Rattle.fact_keeper.specs.declared.content.Stored.{Stored}
 use Rattle.fact_keeper.specs.Batch.{empty_content}
-use Rattle.stored_state.specs.declared.finding.Finding.{Finding}
-use Rattle.stored_state.specs.Sound.{facts_told}
-use Rattle.stored_state.proofs.Once.{sound-none}
-use Rattle.line_cutter.specs.Pieces.{front}
+use Rattle.store_audit.specs.declared.finding.Finding.{Finding}
+use Rattle.store_audit.specs.Sound.{facts_told}
+use Rattle.store_audit.proofs.Once.{sound-none}
+use Rattle.text_lines.specs.Pieces.{front}
 use Rattle.text_lines.specs.Text.{lines_of}
 use Rattle.schema_text.specs.Schema.{SchemaValue, shape_of, weigh_of}
 use Rattle.schema_text.specs.SchemaText.{BadLine}

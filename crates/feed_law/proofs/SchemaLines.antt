@@ -4,7 +4,7 @@ use Rattle.std.specs.Prelude.{Ok, codes, if◌then◌else◌, ◌||◌}
 use Rattle.std.specs.List.{flat_map, list_any}
 use Rattle.std.proofs.lemmas.List.{nil_from_length}
 use Rattle.text_lines.specs.Text.{after_lines, line_text, lines_of}
-use Rattle.line_cutter.proofs.Ended.{lines_of-after}
+use Rattle.text_lines.proofs.Ended.{lines_of-after}
 use Rattle.schema_text.specs.Schema.{IsSchema, SchemaValue}
 use Rattle.schema_text.specs.SchemaText.{ReadSchema, blank_draft, dims_text, is_end, measure_line, policy_line, read_from, schema_of, schema_text, version_of, version_text, view_line}
 use Rattle.schema_text.proofs.ReadsAgain.{reads_again}

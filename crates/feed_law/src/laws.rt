@@ -16,7 +16,7 @@ ghost use Rattle.schema_text.specs.SchemaText.{schema_text};
 ghost use Rattle.script_run.specs.Kept.{apply_all};
 ghost use Rattle.script_run.specs.Seen.{SeenAll};
 ghost use Rattle.store_law.specs.Holds.{content_after};
-ghost use Rattle.stored_state.specs.Sound.{facts_told};
+ghost use Rattle.store_audit.specs.Sound.{facts_told};
 ghost use Rattle.text_lines.specs.Text.{lines_of};
 
 /// A feed makes its leader's store. A leader does lines over a sound store, and a follower takes the feed of the first so many of them over

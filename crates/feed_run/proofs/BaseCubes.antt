@@ -24,8 +24,8 @@ use Rattle.edit_plan.specs.Whole.{difference_with}
 use Rattle.fact_keeper.specs.declared.content.Batch.{Batch}
 use Rattle.fact_records.specs.New.{AreNew}
 use Rattle.fact_records.specs.Shape.{ShapeValue}
-use Rattle.fact_sequence.specs.declared.fact_seq.FactSeq.{FactSeq}
-use Rattle.fact_sequence.specs.Refused.{refused_among}
+use Rattle.fact_records.specs.declared.fact_seq.FactSeq.{FactSeq}
+use Rattle.fact_records.specs.RefusedRecord.{refused_among}
 use Rattle.schema_text.specs.Schema.{SchemaValue, policy_of, shape_of, weigh_of}
 use Rattle.schema_text.specs.declared.word.PolicyWord.{PolicyWord}
 use Rattle.feed_run.specs.BeginTurn.{IsBaseCube, LacksCube}

@@ -3,7 +3,7 @@ use Rattle.std.proofs.Common.{◌≡◌, ℕ, ◌+◌, List, [], ◌∷◌, ◌+
 use Rattle.cube_base.specs.Outside.{Rose}
 use Rattle.cube_core.specs.Cube.{CubeValue}
 use Rattle.fact_keeper.specs.declared.content.Batch.{Batch}
-use Rattle.line_cutter.specs.declared.input.InputStop.{InputStop}
+use Rattle.text_lines.specs.declared.input.InputStop.{InputStop}
 use Rattle.row_feed.specs.FeedText.{behind_lines}
 use Rattle.schema_text.specs.declared.word.PolicyWord.{PolicyWord}
 use Rattle.script_run.specs.declared.break_off.BreakOff.{BreakOff}

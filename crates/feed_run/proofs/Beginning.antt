@@ -6,8 +6,8 @@ use Rattle.cube_core.specs.Cube.{CubeValue}
 use Rattle.cube_model.specs.declared.edit.Fact.{Fact}
 use Rattle.fact_keeper.specs.declared.content.Batch.{Batch}
 use Rattle.fact_keeper.specs.Keeper.{KeeperTold}
-use Rattle.line_cutter.specs.Input.{INPUT_LIMIT}
-use Rattle.line_cutter.specs.Reading.{Reading}
+use Rattle.text_lines.specs.Input.{INPUT_LIMIT}
+use Rattle.text_lines.specs.Reading.{Reading}
 use Rattle.schema_text.specs.Schema.{SchemaValue}
 use Rattle.schema_text.specs.declared.word.PolicyWord.{PolicyWord}
 use Rattle.script_run.specs.declared.break_off.BreakOff.TheVariants as break_off

@@ -3,11 +3,11 @@ use Rattle.std.proofs.Common.{◌≡◌, ℕ, ◌+◌, ◌≤◌, true, false, L
 use Rattle.cube_base.specs.Outside.{Rose, SourceTold}
 use Rattle.fact_keeper.specs.declared.content.Batch.{Batch}
 use Rattle.text_lines.specs.Text.{lines_of}
-use Rattle.line_cutter.specs.declared.input.InputStop.{InputStop}
-use Rattle.line_cutter.specs.declared.input.InputStop.TheVariants as input_stop
-use Rattle.line_cutter.specs.declared.piece_reader.LineInput.{LineInput}
-use Rattle.line_cutter.specs.Input.{EndsOnce}
-use Rattle.line_cutter.specs.Pieces.{ended_lines, front}
+use Rattle.text_lines.specs.declared.input.InputStop.{InputStop}
+use Rattle.text_lines.specs.declared.input.InputStop.TheVariants as input_stop
+use Rattle.text_lines.specs.declared.piece_reader.LineInput.{LineInput}
+use Rattle.text_lines.specs.Input.{EndsOnce}
+use Rattle.text_lines.specs.Pieces.{ended_lines, front}
 use Rattle.script_run.specs.declared.break_off.BreakOff.{BreakOff}
 use Rattle.script_run.specs.declared.break_off.BreakOff.TheVariants as break_off
 use Rattle.script_run.specs.declared.streaming.StreamStop.TheVariants.{Broke}

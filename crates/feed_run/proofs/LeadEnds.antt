@@ -8,12 +8,12 @@ use Rattle.std.proofs.lemmas.List.{length-map, take_all}
 use Rattle.cube_base.specs.Outside.{SourceTold}
 use Rattle.cube_base.specs.declared.fault.SinkError.TheVariants as sink_error
 use Rattle.text_lines.specs.Text.{lines_of}
-use Rattle.line_cutter.specs.declared.input.InputStop.{InputStop}
-use Rattle.line_cutter.specs.declared.input.InputStop.TheVariants as input_stop
-use Rattle.line_cutter.specs.declared.piece_reader.LineInput.{LineInput}
-use Rattle.line_cutter.specs.Input.{INPUT_LIMIT}
-use Rattle.line_cutter.specs.Pieces.{ended_lines, front, lf_count}
-use Rattle.line_cutter.proofs.Ended.{ended_lines-length, lines_of-ended}
+use Rattle.text_lines.specs.declared.input.InputStop.{InputStop}
+use Rattle.text_lines.specs.declared.input.InputStop.TheVariants as input_stop
+use Rattle.text_lines.specs.declared.piece_reader.LineInput.{LineInput}
+use Rattle.text_lines.specs.Input.{INPUT_LIMIT}
+use Rattle.text_lines.specs.Pieces.{ended_lines, front, lf_count}
+use Rattle.text_lines.proofs.Ended.{ended_lines-length, lines_of-ended}
 use Rattle.script_run.specs.declared.break_off.BreakOff.{BreakOff}
 use Rattle.script_run.specs.declared.break_off.BreakOff.TheVariants.{Write, SinkMemory, Memory, Keep}
 use Rattle.script_run.specs.declared.streaming.StreamStop.TheVariants.{Broke}

@@ -3,7 +3,7 @@ use Rattle.std.proofs.Common.{◌≡◌, ℕ, suc, ◌+◌, List, [], ◌∷◌,
 use Rattle.cube_base.specs.declared.code.Code.{Code}
 use Rattle.cube_model.specs.declared.edit.Fact.{Fact}
 use Rattle.cube_model.specs.declared.statistic.CellStat.{CellStat}
-use Rattle.line_cutter.specs.Pieces.{front}
+use Rattle.text_lines.specs.Pieces.{front}
 use Rattle.schema_text.specs.Schema.{SchemaValue}
 use Rattle.script_text.specs.declared.line.Line.{Line}
 use Rattle.script_text.specs.declared.line.Line.TheVariants as line

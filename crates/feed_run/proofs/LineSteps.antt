@@ -6,8 +6,8 @@ use Rattle.std.proofs.lemmas.Bool.Decides.{nat_tests}
 use Rattle.cube_base.specs.Outside.{SourceTold}
 use Rattle.cube_base.specs.declared.code.Code.TheVariants as code
 use Rattle.fact_keeper.specs.declared.content.Batch.{Batch}
-use Rattle.line_cutter.specs.declared.input.InputStop.{InputStop}
-use Rattle.line_cutter.specs.declared.input.InputStop.TheVariants as input_stop
+use Rattle.text_lines.specs.declared.input.InputStop.{InputStop}
+use Rattle.text_lines.specs.declared.input.InputStop.TheVariants as input_stop
 use Rattle.fact_fields.proofs.NodesAgain.{bytes_eq-same}
 use Rattle.feed_run.specs.declared.feed_stop.FeedStop.TheVariants as feed_stop
 use Rattle.feed_run.specs.declared.part_stop.PartStop.TheVariants.{Feed, Input}

@@ -5,13 +5,13 @@ use Rattle.std.proofs.KnownBytes.{Consumes-kept, Consumes-nil, Consumes-trans}
 use Rattle.std.proofs.lemmas.List.Sums.{count_by-le-length}
 use Rattle.cube_base.specs.Outside.{SourceTold}
 use Rattle.text_lines.specs.Text.{lines_of}
-use Rattle.line_cutter.specs.declared.input.InputStop.{InputStop}
-use Rattle.line_cutter.specs.declared.input.InputStop.TheVariants.{Fault, TooLong, Memory}
-use Rattle.line_cutter.specs.declared.piece_reader.LineInput.{LineInput}
-use Rattle.line_cutter.specs.Input.{EndsOnce, INPUT_LIMIT, ends_if}
-use Rattle.line_cutter.specs.Pieces.{Held, ended_lines, front, is_lf, last_line, lf_count, pieces_of, rest_of, whole_lines}
-use Rattle.line_cutter.specs.Reading.{Feeds, Reading, StopsFeeding}
-use Rattle.line_cutter.proofs.Ended.{lines_of-last, rest_of-more, whole_lines-ended, whole_lines-length, whole_lines-more}
+use Rattle.text_lines.specs.declared.input.InputStop.{InputStop}
+use Rattle.text_lines.specs.declared.input.InputStop.TheVariants.{Fault, TooLong, Memory}
+use Rattle.text_lines.specs.declared.piece_reader.LineInput.{LineInput}
+use Rattle.text_lines.specs.Input.{EndsOnce, INPUT_LIMIT, ends_if}
+use Rattle.text_lines.specs.Pieces.{Held, ended_lines, front, is_lf, last_line, lf_count, pieces_of, rest_of, whole_lines}
+use Rattle.text_lines.specs.Reading.{Feeds, Reading, StopsFeeding}
+use Rattle.text_lines.proofs.Ended.{lines_of-last, rest_of-more, whole_lines-ended, whole_lines-length, whole_lines-more}
 use Rattle.feed_run.specs.Pulling.{AreFirst, CopiesHeld, CopiesWhole, HoldsLines, HoldsRest, IsFresh, IsNearLine, Pulled, PulledAll, PulledSome, Pulling, Pulls, held_lines}
 
 -- what ends in the last piece, or behind it, does so later too

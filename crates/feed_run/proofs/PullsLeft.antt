@@ -1,10 +1,10 @@
 -- That each line that is pulled leaves fewer to be pulled.
 use Rattle.std.proofs.Common.{◌≡◌, ℕ, ◌+◌, ◌<◌, ◌≤◌, Bool, true, false, List, [], ◌∷◌, length, Result, Ok, Err, Option, refl, ap, ◌∙◌, arith, length-append}
 use Rattle.std.specs.Prelude.{IfOk}
-use Rattle.line_cutter.specs.declared.input.InputStop.{InputStop}
-use Rattle.line_cutter.specs.declared.piece_reader.LineInput.{LineInput}
-use Rattle.line_cutter.specs.Pieces.{Held, last_line, rest_of, whole_lines}
-use Rattle.line_cutter.specs.Reading.{Feeds, Reading}
+use Rattle.text_lines.specs.declared.input.InputStop.{InputStop}
+use Rattle.text_lines.specs.declared.piece_reader.LineInput.{LineInput}
+use Rattle.text_lines.specs.Pieces.{Held, last_line, rest_of, whole_lines}
+use Rattle.text_lines.specs.Reading.{Feeds, Reading}
 use Rattle.script_run.proofs.HeldLines.{length-whole_lines}
 use Rattle.feed_run.specs.Pulling.{CopiesHeld, CopiesWhole, held_lines, pulls_left}
 

@@ -3,8 +3,8 @@ use Rattle.std.proofs.Common.{◌≡◌, ◌+◌, ◌<◌, Bool, true, false, Li
 use Rattle.std.specs.Prelude.{if◌then◌else◌, IfOk}
 use Rattle.cube_base.specs.Outside.{SourceTold}
 use Rattle.fact_keeper.specs.declared.content.Batch.{Batch}
-use Rattle.line_cutter.specs.declared.input.InputStop.{InputStop}
-use Rattle.line_cutter.specs.declared.input.InputStop.TheVariants as input_stop
+use Rattle.text_lines.specs.declared.input.InputStop.{InputStop}
+use Rattle.text_lines.specs.declared.input.InputStop.TheVariants as input_stop
 use Rattle.feed_run.specs.FollowTurn.{AreFew, AreFewer, FeedPull, FollowedTo, PullsOn}
 use Rattle.feed_run.specs.Following.{Base, Place}
 use Rattle.feed_run.specs.Pulling.{Pulls, pulls_left}

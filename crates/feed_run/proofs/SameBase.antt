@@ -11,7 +11,7 @@ use Rattle.cube_model.specs.declared.edit.Fact.{Fact}
 use Rattle.fact_keeper.specs.declared.content.KeptFact.{KeptFact}
 use Rattle.schema_text.specs.Schema.{SchemaValue}
 use Rattle.schema_text.specs.SchemaText.{schema_text}
-use Rattle.stored_state.specs.Sound.{fact_told}
+use Rattle.store_audit.specs.Sound.{fact_told}
 use Rattle.feed_run.specs.declared.feed_stop.FeedStop.TheVariants as feed_stop
 use Rattle.feed_run.specs.Following.{Base, Between, are_same, based_over, first_difference, moved_to, work_of}
 

@@ -4,8 +4,8 @@ use Rattle.cube_base.specs.Outside.{SourceTold}
 use Rattle.fact_keeper.specs.declared.content.Batch.{Batch}
 use Rattle.text_lines.specs.Text.{lines_of}
 use Rattle.std.specs.Prelude.{MatchResult}
-use Rattle.line_cutter.specs.declared.input.InputStop.{InputStop}
-use Rattle.line_cutter.specs.declared.input.InputStop.TheVariants as input_stop
+use Rattle.text_lines.specs.declared.input.InputStop.{InputStop}
+use Rattle.text_lines.specs.declared.input.InputStop.TheVariants as input_stop
 use Rattle.feed_run.specs.declared.feed_stop.FeedStop.{FeedStop}
 use Rattle.feed_run.specs.declared.part_stop.PartStop.{PartStop}
 use Rattle.feed_run.specs.declared.part_stop.PartStop.TheVariants.{Feed, Input}

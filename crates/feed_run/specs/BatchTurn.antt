@@ -3,7 +3,7 @@ use Rattle.std.specs.Prelude.{◌≡◌, ◌≢◌, ℕ, ◌+◌, List, [], ◌�
 use Rattle.cube_base.specs.Outside.{SourceTold}
 use Rattle.cube_core.specs.Cube.{CubeValue}
 use Rattle.fact_keeper.specs.declared.content.Batch.{Batch}
-use Rattle.line_cutter.specs.Input.{EndsOnce}
+use Rattle.text_lines.specs.Input.{EndsOnce}
 use Rattle.row_feed.specs.FeedText.{AreRowsOf, behind_lines}
 use Rattle.schema_text.specs.declared.word.PolicyWord.{PolicyWord}
 use Rattle.feed_run.specs.declared.feed_stop.FeedStop.{FeedStop}

@@ -11,7 +11,7 @@ use Rattle.cube_model.specs.Allocation.{extended}
 use Rattle.cube_model.specs.Tree.{Dimension}
 use Rattle.fact_keeper.specs.declared.content.Batch.{Batch}
 use Rattle.fact_keeper.specs.Keeper.{KeeperTold}
-use Rattle.line_cutter.specs.declared.input.InputStop.TheVariants as input_stop
+use Rattle.text_lines.specs.declared.input.InputStop.TheVariants as input_stop
 use Rattle.region_algebra.specs.Space.{IsRegion}
 use Rattle.schema_text.specs.Schema.{SchemaValue, policy_of}
 use Rattle.schema_text.specs.declared.word.PolicyWord.{PolicyWord}

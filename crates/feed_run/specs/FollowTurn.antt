@@ -4,9 +4,9 @@ use Rattle.cube_base.specs.Outside.{SinkTold, SourceTold}
 use Rattle.cube_core.specs.Cube.{CubeValue}
 use Rattle.fact_keeper.specs.declared.content.Batch.{Batch}
 use Rattle.fact_keeper.specs.Keeper.{KeeperTold}
-use Rattle.line_cutter.specs.declared.input.InputStop.{InputStop}
-use Rattle.line_cutter.specs.declared.input.InputStop.TheVariants as input_stop
-use Rattle.line_cutter.specs.declared.piece_reader.LineInput.{LineInput}
+use Rattle.text_lines.specs.declared.input.InputStop.{InputStop}
+use Rattle.text_lines.specs.declared.input.InputStop.TheVariants as input_stop
+use Rattle.text_lines.specs.declared.piece_reader.LineInput.{LineInput}
 use Rattle.schema_text.specs.declared.word.PolicyWord.{PolicyWord}
 use Rattle.script_run.specs.Run.{schema_at}
 use Rattle.script_run.specs.Seen.{KeeperSeen, SeenAll, SinkSeen}

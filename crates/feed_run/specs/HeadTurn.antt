@@ -1,7 +1,7 @@
 -- What is judged of the lines of a schema.
 use Rattle.std.specs.Prelude.{◌≡◌, ℕ, ◌+◌, ◌-◌, ◌<◌, ◌^◌, List, [], ⊤, Option, Result, Ok, Err}
 use Rattle.cube_base.specs.Outside.{SourceTold}
-use Rattle.line_cutter.specs.declared.input.InputStop.TheVariants.{Memory}
+use Rattle.text_lines.specs.declared.input.InputStop.TheVariants.{Memory}
 use Rattle.schema_text.specs.Schema.{SchemaValue}
 use Rattle.schema_text.specs.SchemaText.{BadLine, ReadSchema}
 use Rattle.schema_text.specs.declared.schema.SchemaFault.{SchemaFault}

@@ -6,8 +6,8 @@ use Rattle.cube_base.specs.declared.code.Code.{Code}
 use Rattle.cube_model.specs.declared.statistic.CellStat.{CellStat}
 use Rattle.fact_keeper.specs.declared.content.Batch.{Batch}
 use Rattle.text_lines.specs.Text.{lines_of}
-use Rattle.line_cutter.specs.Input.{INPUT_LIMIT}
-use Rattle.line_cutter.specs.Pieces.{ended_lines, lf_count}
+use Rattle.text_lines.specs.Input.{INPUT_LIMIT}
+use Rattle.text_lines.specs.Pieces.{ended_lines, lf_count}
 use Rattle.schema_text.specs.Schema.{SchemaValue}
 use Rattle.script_text.specs.declared.line.Line.{Line}
 use Rattle.script_text.specs.ScriptLine.{line_of}

@@ -3,11 +3,11 @@ use Rattle.std.specs.Prelude.{◌≡◌, ℕ, ◌+◌, ◌≤◌, Bool, true, fa
 use Rattle.std.specs.Io.KnownBytes.{Consumes, IsAtEnd}
 use Rattle.cube_base.specs.Outside.{Rose, SourceTold}
 use Rattle.text_lines.specs.Text.{lines_of}
-use Rattle.line_cutter.specs.declared.input.InputStop.{InputStop}
-use Rattle.line_cutter.specs.declared.input.InputStop.TheVariants.{Fault, TooLong, Memory}
-use Rattle.line_cutter.specs.declared.piece_reader.LineInput.{LineInput}
-use Rattle.line_cutter.specs.Input.{EndsOnce, INPUT_LIMIT, ends_if}
-use Rattle.line_cutter.specs.Pieces.{ended_lines, front, last_line, pieces_of, rest_of, whole_lines}
+use Rattle.text_lines.specs.declared.input.InputStop.{InputStop}
+use Rattle.text_lines.specs.declared.input.InputStop.TheVariants.{Fault, TooLong, Memory}
+use Rattle.text_lines.specs.declared.piece_reader.LineInput.{LineInput}
+use Rattle.text_lines.specs.Input.{EndsOnce, INPUT_LIMIT, ends_if}
+use Rattle.text_lines.specs.Pieces.{ended_lines, front, last_line, pieces_of, rest_of, whole_lines}
 use Rattle.script_run.specs.Stream.{EndsInLast}
 
 -- nothing of the input was taken

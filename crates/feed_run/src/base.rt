@@ -1,6 +1,6 @@
 //! What a store holds that is to follow a feed.
 ghost use Rattle.std.specs.Prelude.{◌≡◌, map};
-ghost use Rattle.stored_state.specs.Sound.{fact_told};
+ghost use Rattle.store_audit.specs.Sound.{fact_told};
 
 use cube_base::Bytes;
 use fact_keeper::{KeptFact, KeptFacts};
@@ -15,7 +15,7 @@ pub struct Base {
 
 impl Model for Base {
     ghost use Rattle.std.specs.Prelude.{map};
-    ghost use Rattle.stored_state.specs.Sound.{fact_told};
+    ghost use Rattle.store_audit.specs.Sound.{fact_told};
     ghost use Rattle.feed_run.specs.Following.{Base};
 
     ghost Value = { Base };

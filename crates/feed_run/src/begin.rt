@@ -16,12 +16,11 @@ use crate::{Base, FollowStop};
 use cube_base::{Code, Memory};
 use cube_core::{Cube, ImportFault};
 use fact_keeper::{Batch, Keeper, NoKeeper};
-use fact_records::FactRun;
-use fact_sequence::FactSeq;
-use line_cutter::InputStop;
+use fact_records::{FactRun, FactSeq};
 use schema_text::{PolicyWord, Schema, write_schema};
 use script_run::StreamStop;
 use std::alloc::Global;
+use text_lines::InputStop;
 
 /// Begins with a base that has these facts and ends with the line of this number: makes its cube, and compares it with what the store holds, or
 /// commits it to the keeper, which must be open, where the store holds nothing.

@@ -10,9 +10,9 @@ ghost use Rattle.feed_run.specs.Pulling.{pulls_left};
 
 use crate::{FeedStop, LinePull};
 use cube_base::{Code, Source};
-use line_cutter::{InputStop, LineInput};
 use std::alloc::Global;
 use std::marker::Model;
+use text_lines::{InputStop, LineInput};
 
 /// The lines of a feed as they are pulled. Contracts see what is held of them, the one that was pulled last, and how many were.
 #[derive(Drop)]

@@ -2,7 +2,7 @@
 ghost use Rattle.std.specs.Prelude.{◌≡◌, [], IsTrue, MatchResult, OnOk, Option};
 ghost use Rattle.cube_base.specs.Outside.{SourceTold};
 ghost use Rattle.fact_keeper.specs.Keeper.{StaysOpen};
-ghost use Rattle.line_cutter.specs.Input.{EndsOnce};
+ghost use Rattle.text_lines.specs.Input.{EndsOnce};
 ghost use Rattle.script_run.specs.Seen.{seen_of};
 ghost use Rattle.feed_run.specs.BaseTurn.{GivesBase};
 ghost use Rattle.feed_run.specs.BatchTurn.{Ends};
@@ -21,10 +21,10 @@ use crate::{Base, FeedStop};
 use cube_base::{Sink, Source};
 use fact_keeper::Keeper;
 use fact_records::FactRun;
-use line_cutter::LineInput;
 use schema_text::Schema;
 use script_run::StreamStop;
 use std::alloc::Global;
+use text_lines::LineInput;
 
 /// Why a feed was not followed to its end.
 #[derive(Clone, Copy, Debug, PartialEq, Eq)]

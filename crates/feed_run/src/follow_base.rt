@@ -18,13 +18,12 @@ use crate::part_stop::PartStop;
 use cube_base::{Code, Source};
 use cube_model::{Fact, MAX_FACTS};
 use fact_records::{FactRun, check_region};
-use line_cutter::InputStop;
 use region_algebra::Space;
 use row_feed::{FeedLine, read_feed_line};
 use schema_text::Schema;
 use script_text::LineFault;
 use std::alloc::Global;
-use text_lines::{field_at, is_text};
+use text_lines::{InputStop, field_at, is_text};
 
 /// Follows the lines of the facts, up to the line `based`, which is pulled then and is still to be judged over the facts.
 pub(crate) fn follow_facts<S: Source>(

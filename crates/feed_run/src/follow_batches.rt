@@ -21,13 +21,12 @@ use crate::{FeedStop, FollowStop};
 use cube_base::{Code, Sink, Source};
 use cube_core::Cube;
 use fact_keeper::{Batch, Keeper};
-use line_cutter::InputStop;
 use row_feed::{BatchLines, FeedLine, read_feed_line};
 use schema_text::{PolicyWord, Schema};
 use script_run::StreamStop;
 use script_text::{Line, LineFault, Reply};
 use std::alloc::Global;
-use text_lines::{field_at, is_clean, is_long, is_text};
+use text_lines::{InputStop, field_at, is_clean, is_long, is_text};
 
 /// Follows the batches of a feed to its end.
 pub(crate) fn follow_batches<S: Source, K: Sink, Q: Keeper>(

@@ -10,10 +10,9 @@ use crate::FeedStop;
 use crate::feed_lines::FeedLines;
 use crate::part_stop::PartStop;
 use cube_base::{Code, Memory, Source};
-use line_cutter::InputStop;
 use schema_text::{Schema, SchemaFault, read_schema};
 use std::alloc::Global;
-use text_lines::{field_at, field_count, is_clean, is_long, is_text, without_cr};
+use text_lines::{InputStop, field_at, field_count, is_clean, is_long, is_text, without_cr};
 
 /// Follows the first lines of a feed, up to and with the line `end` of its schema.
 pub(crate) fn follow_head<S: Source>(

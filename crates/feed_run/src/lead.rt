@@ -2,7 +2,7 @@
 ghost use Rattle.std.specs.Prelude.{◌≡◌, ℕ, ◌+◌, List, IfOk, IsTrue};
 ghost use Rattle.schema_text.specs.Schema.{weigh_of};
 ghost use Rattle.fact_keeper.specs.Keeper.{StaysOpen};
-ghost use Rattle.line_cutter.specs.Input.{EndsOnce};
+ghost use Rattle.text_lines.specs.Input.{EndsOnce};
 ghost use Rattle.script_text.specs.LineOf.{IsLineOf};
 ghost use Rattle.script_run.specs.Run.{state_of};
 ghost use Rattle.script_run.specs.Seen.{keeper_seen, seen_of, sink_seen};
@@ -16,12 +16,12 @@ use crate::catcher::do_caught;
 use cube_base::{Bytes, Code, Memory, Sink, Source, write_whole};
 use cube_core::Cube;
 use fact_keeper::{Batch, KeepError, Keeper};
-use line_cutter::LineInput;
 use row_feed::{write_base, write_batch};
 use schema_text::PolicyWord;
 use script_run::{BreakOff, StreamStop, is_refusal, read};
 use script_text::Line;
 use std::alloc::Global;
+use text_lines::LineInput;
 
 /// Does the lines of a script as its input comes, of which nothing was taken yet, and writes a feed. That begins with the schema and the
 /// facts of the cube, which are written before anything is read. What an accepted edit or growth changes is committed to the keeper, which

@@ -1,6 +1,6 @@
 //! Laws of what a leader tells. The functions do nothing: each law is the contract.
 ghost use Rattle.std.specs.Prelude.{◌≡◌, List, ℕ, [], ◌∷◌, codes, map};
-ghost use Rattle.line_cutter.specs.Pieces.{front};
+ghost use Rattle.text_lines.specs.Pieces.{front};
 ghost use Rattle.schema_text.specs.Schema.{weigh_of};
 ghost use Rattle.row_feed.specs.Examples.{repair, repairs, tabbed};
 ghost use Rattle.row_feed.specs.FeedText.{base_lines, feed_bytes};

@@ -4,7 +4,7 @@ ghost use Rattle.cube_base.specs.Outside.{SourceTold};
 ghost use Rattle.feed_run.specs.Pulling.{CopiesHeld, CopiesWhole, Pulled, Pulls, pulls_left};
 
 use cube_base::Source;
-use line_cutter::{InputStop, LineCutter, LineInput};
+use text_lines::{InputStop, LineCutter, LineInput};
 
 /// An input whose lines are pulled.
 #[derive(Drop)]

@@ -2,13 +2,13 @@
 ghost use Rattle.std.specs.Prelude.{◌≡◌};
 ghost use Rattle.feed_run.specs.declared.part_stop.PartStop.TheVariants as part_stop;
 ghost use Rattle.feed_run.specs.PartEnds.{at_part};
-ghost use Rattle.line_cutter.specs.declared.input.InputStop.TheVariants as input_stop;
+ghost use Rattle.text_lines.specs.declared.input.InputStop.TheVariants as input_stop;
 
 use crate::{FeedStop, FollowStop};
 use cube_base::Memory;
-use line_cutter::InputStop;
 use script_run::StreamStop;
 use std::alloc::AllocError;
+use text_lines::InputStop;
 
 /// Why a part of a feed is not followed. Nothing of it is written or committed.
 #[derive(Clone, Copy, Debug, PartialEq, Eq)]

@@ -3,7 +3,7 @@ ghost use Rattle.std.specs.Prelude.{◌≡◌, ◌==◌, ◌&&◌, length, map};
 ghost use Rattle.std.specs.Cmp.Lexicographic.{pointwise};
 ghost use Rattle.std.specs.Ordering.{int_eq};
 ghost use Rattle.region_algebra.specs.Space.{IsRegion};
-ghost use Rattle.stored_state.specs.Sound.{fact_told};
+ghost use Rattle.store_audit.specs.Sound.{fact_told};
 ghost use Rattle.feed_run.specs.BeginTurn.{ComparesBase, HaveRegions};
 ghost use Rattle.feed_run.specs.Following.{are_same, first_difference};
 

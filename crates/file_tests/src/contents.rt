@@ -1,7 +1,6 @@
 //! Contents of stores and batches, written out as tables.
-use cube_base::{Bytes, Ids, Memory};
+use cube_base::{Bytes, Ids, Memory, SharedPairs};
 use fact_keeper::{Batch, ColNums, KeptFact, KeptFacts, KeptRows, KeptRowsList, NodeNums, Stored};
-use shared_list::SharedPairs;
 use std::alloc::Global;
 
 /// The id, the nodes and the values of a fact.

@@ -1,7 +1,7 @@
 -- How many reads gave no byte, turn by turn of a run: at most one, and none of an input that had ended.
 use Rattle.std.proofs.Common.{◌≡◌, ℕ, Bool, true, false, refl, ap, ◌∙◌, subst, inl, inr}
 use Rattle.std.specs.Prelude.{not, ◌&&◌}
-use Rattle.line_cutter.specs.Input.{EndsOnce, ends_if}
+use Rattle.text_lines.specs.Input.{EndsOnce, ends_if}
 use Rattle.script_run.specs.Stream.{EndsFrom}
 
 -- nothing was read yet

@@ -3,7 +3,7 @@ use Rattle.std.proofs.Common.{◌≡◌, ℕ, ◌+◌, ◌≤◌, List, [], ◌�
 use Rattle.std.proofs.lemmas.Bool.{cases_lt}
 use Rattle.std.proofs.lemmas.List.{length-map, take-map, take_all}
 use Rattle.cube_model.specs.declared.statistic.CellStat.{CellStat}
-use Rattle.line_cutter.specs.Pieces.{front}
+use Rattle.text_lines.specs.Pieces.{front}
 use Rattle.schema_text.specs.Schema.{SchemaValue}
 use Rattle.script_text.specs.ScriptLine.{line_of}
 use Rattle.script_text.proofs.LineSteps.{line_of-front}

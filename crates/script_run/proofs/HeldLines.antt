@@ -4,7 +4,7 @@ use Rattle.std.specs.Prelude.{⊤}
 use Rattle.cube_base.specs.Outside.{SinkTold}
 use Rattle.cube_model.specs.declared.statistic.CellStat.{CellStat}
 use Rattle.fact_keeper.specs.Keeper.{KeeperTold}
-use Rattle.line_cutter.specs.Pieces.{behind_line, last_line, rest_of, whole_lines}
+use Rattle.text_lines.specs.Pieces.{behind_line, last_line, rest_of, whole_lines}
 use Rattle.script_run.specs.declared.break_off.BreakOff.{BreakOff}
 use Rattle.script_run.specs.Progress.{Working}
 use Rattle.script_run.specs.Seen.{KeeperSeen, SinkSeen, keeper_seen, sink_seen}

@@ -8,11 +8,11 @@ use Rattle.std.proofs.lemmas.List.{length-map, take_all}
 use Rattle.cube_base.specs.Outside.{Rose}
 use Rattle.cube_model.specs.declared.statistic.CellStat.{CellStat}
 use Rattle.text_lines.specs.Text.{lines_of}
-use Rattle.line_cutter.specs.declared.input.InputStop.{InputStop}
-use Rattle.line_cutter.specs.declared.input.InputStop.TheVariants as input_stop
-use Rattle.line_cutter.specs.Pieces.{ended_lines, front, last_line, lf_count, pieces_of, rest_of, whole_lines}
-use Rattle.line_cutter.specs.Reading.{Feeds, Reading, StopsFeeding}
-use Rattle.line_cutter.proofs.Ended.{lines_of-ended, lines_of-last, rest_of-more, whole_lines-ended, whole_lines-length, whole_lines-more}
+use Rattle.text_lines.specs.declared.input.InputStop.{InputStop}
+use Rattle.text_lines.specs.declared.input.InputStop.TheVariants as input_stop
+use Rattle.text_lines.specs.Pieces.{ended_lines, front, last_line, lf_count, pieces_of, rest_of, whole_lines}
+use Rattle.text_lines.specs.Reading.{Feeds, Reading, StopsFeeding}
+use Rattle.text_lines.proofs.Ended.{lines_of-ended, lines_of-last, rest_of-more, whole_lines-ended, whole_lines-length, whole_lines-more}
 use Rattle.script_run.specs.declared.break_off.BreakOff.{BreakOff}
 use Rattle.script_run.specs.declared.break_off.BreakOff.TheVariants.{Write, SinkMemory, Memory, Keep}
 use Rattle.script_run.specs.declared.streaming.StreamStop.TheVariants.{Broke}

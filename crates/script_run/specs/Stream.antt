@@ -5,11 +5,11 @@ use Rattle.cube_model.specs.declared.statistic.CellStat.{CellStat}
 use Rattle.fact_keeper.specs.declared.content.Batch.{Batch}
 use Rattle.schema_text.specs.Schema.{SchemaValue}
 use Rattle.text_lines.specs.Text.{lines_of}
-use Rattle.line_cutter.specs.declared.input.InputStop.{InputStop}
-use Rattle.line_cutter.specs.declared.input.InputStop.TheVariants as input_stop
-use Rattle.line_cutter.specs.Input.{EndsOnce}
-use Rattle.line_cutter.specs.Pieces.{ended_lines, lf_count}
-use Rattle.line_cutter.specs.Reading.{PIECE_LIMIT}
+use Rattle.text_lines.specs.declared.input.InputStop.{InputStop}
+use Rattle.text_lines.specs.declared.input.InputStop.TheVariants as input_stop
+use Rattle.text_lines.specs.Input.{EndsOnce}
+use Rattle.text_lines.specs.Pieces.{ended_lines, lf_count}
+use Rattle.text_lines.specs.Reading.{PIECE_LIMIT}
 use Rattle.script_run.specs.declared.break_off.BreakOff.{BreakOff}
 use Rattle.script_run.specs.declared.break_off.BreakOff.TheVariants.{Write, SinkMemory, Memory, Keep}
 use Rattle.script_run.specs.declared.streaming.StreamStop.{StreamStop}

@@ -4,8 +4,8 @@ use Rattle.std.specs.Io.KnownBytes.{Consumes, IsAtEnd}
 use Rattle.cube_base.specs.Outside.{Rose, SinkTold, SourceTold}
 use Rattle.fact_keeper.specs.Keeper.{KeeperTold}
 use Rattle.cube_model.specs.declared.statistic.CellStat.{CellStat}
-use Rattle.line_cutter.specs.Pieces.{pieces_of, rest_of, whole_lines}
-use Rattle.line_cutter.specs.Reading.{Reading}
+use Rattle.text_lines.specs.Pieces.{pieces_of, rest_of, whole_lines}
+use Rattle.text_lines.specs.Reading.{Reading}
 use Rattle.schema_text.specs.Schema.{SchemaValue}
 use Rattle.script_run.specs.declared.break_off.BreakOff.{BreakOff}
 use Rattle.script_run.specs.declared.streaming.StreamStop.{StreamStop}

@@ -1,7 +1,7 @@
 //! Laws of what lines do. The functions do nothing: each law is the contract.
 ghost use Rattle.std.specs.Prelude.{◌≡◌, ℕ, List, map};
 ghost use Rattle.cube_model.specs.declared.statistic.CellStat.{CellStat};
-ghost use Rattle.line_cutter.specs.Pieces.{front};
+ghost use Rattle.text_lines.specs.Pieces.{front};
 ghost use Rattle.schema_text.specs.Schema.{SchemaValue};
 ghost use Rattle.script_run.specs.Kept.{batches};
 ghost use Rattle.script_run.specs.Run.{RunsInParts, State, run};

@@ -1,8 +1,8 @@
 //! Doing a script that comes in pieces: the lines of each are done, and their replies written, before the next is read.
 ghost use Rattle.std.specs.Prelude.{◌≡◌, ◌+◌, ◌<◌, ◌^◌, ◌++◌, ◌∷◌, [], List, ℕ, false, length, true, IfErr, IsTrue, OnErr, OnOk};
 ghost use Rattle.std.specs.Io.KnownBytes.{IsAtEnd};
-ghost use Rattle.line_cutter.specs.Input.{EndsOnce, ends_if};
-ghost use Rattle.line_cutter.specs.Pieces.{last_line, pieces_of, rest_of, whole_lines};
+ghost use Rattle.text_lines.specs.Input.{EndsOnce, ends_if};
+ghost use Rattle.text_lines.specs.Pieces.{last_line, pieces_of, rest_of, whole_lines};
 ghost use Rattle.schema_text.specs.Schema.{weigh_of};
 ghost use Rattle.fact_keeper.specs.Keeper.{StaysOpen};
 ghost use Rattle.script_run.specs.Run.{state_of};
@@ -15,9 +15,9 @@ use crate::script_run::ScriptRun;
 use cube_base::{Sink, Source};
 use cube_core::Cube;
 use fact_keeper::Keeper;
-use line_cutter::{InputStop, LineCutter, LineInput, PieceReader};
 use schema_text::PolicyWord;
 use std::alloc::Global;
+use text_lines::{InputStop, LineCutter, LineInput, PieceReader};
 
 /// Why a script that comes in pieces was not done to its end.
 #[derive(Clone, Copy, Debug, PartialEq, Eq)]

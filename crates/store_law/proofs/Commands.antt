@@ -9,14 +9,14 @@ use Rattle.cube_model.specs.declared.edit.Fact.{Fact}
 use Rattle.cube_model.specs.Allocation.{Policy}
 use Rattle.cube_model.specs.Limits.{MAX_ROWS}
 use Rattle.fact_keeper.specs.declared.content.Batch.{Batch}
-use Rattle.fact_sequence.specs.declared.fact_seq.BadRecord.{BadRecord as RecordAt}
+use Rattle.fact_records.specs.declared.fact_seq.BadRecord.{BadRecord as RecordAt}
 use Rattle.fact_keeper.specs.declared.content.Stored.{Stored}
 use Rattle.fact_keeper.specs.Batch.{apply_batch, empty_content}
 use Rattle.schema_text.specs.Schema.{SchemaValue, shape_of}
 use Rattle.schema_text.specs.SchemaText.{BadLine, schema_of, schema_text}
-use Rattle.stored_state.specs.Mending.{changed_by, mended, mended_batch}
-use Rattle.stored_state.specs.Sound.{IsSound, facts_told}
-use Rattle.stored_state.proofs.Mended.{mended-sound, mending-applied, unchanged-sound}
+use Rattle.store_audit.specs.Mending.{changed_by, mended, mended_batch}
+use Rattle.store_audit.specs.Sound.{IsSound, facts_told}
+use Rattle.store_audit.proofs.Mended.{mended-sound, mending-applied, unchanged-sound}
 use Rattle.script_run.specs.Kept.{Commits, apply_all}
 use Rattle.script_run.specs.Seen.{SeenAll, Told}
 use Rattle.cube_cli.specs.declared.command.Command.{Command}

@@ -22,7 +22,7 @@ use Rattle.fact_records.specs.Valid.{AreValid, IsEditOf, IsEditOver}
 use Rattle.edit_plan.specs.Plan.{difference, kept_fact}
 use Rattle.cube_state.specs.State.{withdrawn}
 use Rattle.cube_state.proofs.Accepting.{AreValid-after, allowed, judged}
-use Rattle.stored_state.specs.Sound.{IsSound, facts_told}
+use Rattle.store_audit.specs.Sound.{IsSound, facts_told}
 use Rattle.cube_cli.proofs.KeptFacts.{pairs-map}
 use Rattle.store_law.specs.Holds.{HoldsState}
 use Rattle.store_law.proofs.Refreshed.{rows-refreshed}

@@ -37,7 +37,7 @@ use Rattle.script_run.specs.Kept.{apply_all, batches_of}
 use Rattle.script_run.specs.Run.{State, schema_at}
 use Rattle.script_text.specs.declared.line.Line.{Line}
 use Rattle.script_text.specs.declared.line.Line.TheVariants as line
-use Rattle.stored_state.specs.Sound.{facts_told}
+use Rattle.store_audit.specs.Sound.{facts_told}
 use Rattle.cube_core.specs.Growth.{growth_difference, judge_growth}
 use Rattle.edit_plan.specs.Plan.{difference}
 use Rattle.fact_records.specs.Judge.{judge}

@@ -27,7 +27,7 @@ use Rattle.schema_text.specs.Growth.{IsGrowOf, dims_with}
 use Rattle.schema_text.specs.Schema.{SchemaValue, shape_of}
 use Rattle.edit_plan.specs.Plan.{kept_rows}
 use Rattle.edit_plan.proofs.RowsKept.{among-some, record_of}
-use Rattle.stored_state.specs.Sound.{IsSound, facts_told}
+use Rattle.store_audit.specs.Sound.{IsSound, facts_told}
 use Rattle.cube_core.specs.Growth.{growth_difference, has_large_region, judge_growth, lies_the_same, moved, space_refusal}
 use Rattle.cube_core.specs.Respread.{KeepRegions}
 use Rattle.cube_core.proofs.Widening.{keep-grown}

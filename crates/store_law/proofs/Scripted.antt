@@ -22,9 +22,9 @@ use Rattle.fact_records.specs.Valid.{IsEditOf}
 use Rattle.region_algebra.specs.Space.{IsRegion}
 use Rattle.edit_plan.specs.Plan.{difference}
 use Rattle.cube_state.proofs.Accepting.{allowed, judged}
-use Rattle.stored_state.specs.Sound.{facts_told}
-use Rattle.stored_state.specs.declared.finding.Finding.{Finding}
-use Rattle.stored_state.proofs.Once.{sound-none}
+use Rattle.store_audit.specs.Sound.{facts_told}
+use Rattle.store_audit.specs.declared.finding.Finding.{Finding}
+use Rattle.store_audit.proofs.Once.{sound-none}
 use Rattle.schema_text.specs.Growth.{dims_with}
 use Rattle.schema_text.specs.Schema.{IsSchema, SchemaValue, schema_policy, shape_of, weigh_of}
 use Rattle.schema_text.specs.SchemaText.{BadLine}

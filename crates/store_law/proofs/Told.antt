@@ -17,9 +17,9 @@ use Rattle.fact_records.specs.Shape.{ShapeValue}
 use Rattle.fact_records.specs.Valid.{AreValid, IsValid}
 use Rattle.schema_text.specs.Schema.{SchemaValue, shape_of}
 use Rattle.edit_plan.specs.Plan.{kept_fact, kept_rows}
-use Rattle.stored_state.specs.Sound.{AreGood, fact_fault, fact_told, facts_told, fault_at, has_wrong_id, id_before}
-use Rattle.stored_state.proofs.Judging.{none-refused}
-use Rattle.stored_state.proofs.Reading.{valid-good}
+use Rattle.store_audit.specs.Sound.{AreGood, fact_fault, fact_told, facts_told, fault_at, has_wrong_id, id_before}
+use Rattle.store_audit.proofs.Judging.{none-refused}
+use Rattle.store_audit.proofs.Reading.{valid-good}
 use Rattle.cube_cli.specs.Store.{policy_of, schema_batch}
 use Rattle.cube_cli.proofs.KeptFacts.{told-ascends}
 use Rattle.store_law.specs.Holds.{HoldsState}

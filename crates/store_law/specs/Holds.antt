@@ -7,7 +7,7 @@ use Rattle.cube_model.specs.Tree.{Dimension}
 use Rattle.fact_keeper.specs.declared.content.Stored.{Stored}
 use Rattle.fact_keeper.specs.Batch.{empty_content}
 use Rattle.fact_records.specs.Shape.{ShapeValue}
-use Rattle.stored_state.specs.Sound.{IsSound, facts_told}
+use Rattle.store_audit.specs.Sound.{IsSound, facts_told}
 use Rattle.script_run.specs.Kept.{apply_all}
 use Rattle.script_run.specs.Run.{State}
 use Rattle.script_run.specs.Seen.{KeeperSeen}

@@ -26,13 +26,13 @@ ghost use Rattle.fact_records.specs.Judge.{judge};
 ghost use Rattle.fact_records.specs.New.{put_all};
 ghost use Rattle.fact_records.specs.Shape.{ShapeValue};
 ghost use Rattle.fact_records.specs.Valid.{IsEditOf, IsPlaced};
-ghost use Rattle.fact_sequence.specs.Refused.{refused_among};
+ghost use Rattle.fact_records.specs.RefusedRecord.{refused_among};
 ghost use Rattle.schema_text.specs.Growth.{IsGrowOf, dims_with};
 ghost use Rattle.schema_text.specs.Schema.{IsSchema, SchemaValue, over_dims, shape_of};
 ghost use Rattle.schema_text.specs.SchemaText.{schema_text};
 ghost use Rattle.script_run.specs.Seen.{SeenAll};
-ghost use Rattle.stored_state.specs.Sound.{IsSound, facts_told};
-ghost use Rattle.stored_state.specs.declared.finding.Finding.{Finding};
+ghost use Rattle.store_audit.specs.Sound.{IsSound, facts_told};
+ghost use Rattle.store_audit.specs.declared.finding.Finding.{Finding};
 ghost use Rattle.store_law.specs.Holds.{BeginsSound, GoesOnOver, HoldsState, IsRebuilt, StaysSound, content_after, state_reached};
 
 /// A sound content with the batch of an accepted edit is sound, and it tells the facts after the edit. The schema's text stays.

@@ -1,7 +1,10 @@
 pub mod Ascii
 pub mod Cuts
+pub mod Cuttings
 pub mod Digits
+pub mod Ended
 pub mod FieldWalks
+pub mod Fronts
 pub mod LineTexts
 pub mod Marks
 pub mod Numbers

@@ -1,10 +1,9 @@
 //! Changes of facts' shares, and the entries that they will set.
 ghost use Rattle.std.specs.Prelude.{◌≡◌, ◌*◌};
 
-use cube_base::{Cols, PlainList};
+use cube_base::{Cols, PlainList, SharedPairs};
 use cube_model::Region;
 use group_sum::Terms;
-use shared_list::SharedPairs;
 use std::marker::Model;
 
 /// Rows that are put or taken away for one fact, or at once for several that all have these rows: each a cell of a region and its

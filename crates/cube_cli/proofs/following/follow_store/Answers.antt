@@ -2,7 +2,7 @@ use Rattle.std.proofs.Common.{◌≡◌, [], refl, sym, ap, ◌∙◌, inr, Some
 use Rattle.std.proofs.KnownBytes.{Keeps-refl}
 use Rattle.schema_text.specs.SchemaText.{schema_text}
 use Rattle.script_run.specs.Seen.{SeenAll, seen_of}
-use Rattle.stored_state.specs.Sound.{facts_told}
+use Rattle.store_audit.specs.Sound.{facts_told}
 use Rattle.feed_run.specs.Following.{Base}
 use Rattle.cube_cli.specs.declared.command.Command.TheVariants.{Store}
 use Rattle.cube_cli.specs.declared.command.StoreCommand.TheVariants.{Follow}

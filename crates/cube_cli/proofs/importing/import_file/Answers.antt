@@ -1,6 +1,6 @@
 use Rattle.std.proofs.Common.{◌≡◌, ap, refl, ◌∙◌}
 use Rattle.std.proofs.KnownBytes.{Keeps-refl}
-use Rattle.fact_sequence.specs.declared.fact_seq.FactSeq.{FactSeq}
+use Rattle.fact_records.specs.declared.fact_seq.FactSeq.{FactSeq}
 use Rattle.csv_facts.specs.FactFile.{facts_in}
 use Rattle.csv_facts.specs.RecordList.{records_of}
 use Rattle.script_run.specs.Seen.{SeenAll, Told, keeper_seen, sink_seen, told_of}

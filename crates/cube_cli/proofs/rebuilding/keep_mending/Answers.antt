@@ -5,7 +5,7 @@ use Rattle.std.proofs.KnownBytes.{Keeps-refl}
 use Rattle.std.proofs.lemmas.Bool.Decides.{nat_tests}
 use Rattle.text_lines.specs.Text.{line_text}
 use Rattle.script_run.specs.Seen.{SeenAll, keeper_seen, sink_seen}
-use Rattle.stored_state.specs.Mending.{changed_by}
+use Rattle.store_audit.specs.Mending.{changed_by}
 use Rattle.cube_cli.proofs.Keepers.{unkept}
 use Rattle.cube_cli.specs.Steps.{WritesText}
 use Rattle.cube_cli.proofs.PutRight.{line_of, not_rebuilt, rebuilt_none, rebuilt_one}

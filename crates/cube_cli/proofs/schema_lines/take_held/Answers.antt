@@ -1,6 +1,6 @@
 -- A line is appended, and is the line `end` or not.
 use Rattle.std.proofs.Common.{List, ℕ, true, ap, subst, sym, ◌∙◌}
-use Rattle.line_cutter.specs.Pieces.{Held, rest_of, whole_lines}
+use Rattle.text_lines.specs.Pieces.{Held, rest_of, whole_lines}
 use Rattle.cube_cli.specs.SchemaLines.{TookHeld}
 use Rattle.cube_cli.proofs.HeldLines.{AreAppended, appended-end, appended-more}
 use Rattle.cube_cli.proofs.schema_lines.take_held.Goals as goal

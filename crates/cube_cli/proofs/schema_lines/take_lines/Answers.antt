@@ -1,11 +1,11 @@
 -- Each piece that comes.
 use Rattle.std.proofs.Common.{◌≡◌, ap, subst, sym, ◌∙◌, refl, [], ◌∷◌}
 use Rattle.std.proofs.lemmas.Result.{err_from_is_err_and}
-use Rattle.line_cutter.specs.Pieces.{Held, rest_of, whole_lines}
+use Rattle.text_lines.specs.Pieces.{Held, rest_of, whole_lines}
 use Rattle.cube_cli.specs.SchemaLines.{TookHeld}
 use Rattle.script_run.specs.Seen.{SourceSeen, source_seen}
 use Rattle.cube_cli.proofs.SchemaPieces.{stops_taking, takes_all, takes_end, takes_last, taking-more, wants_memory}
-use Rattle.line_cutter.specs.Input.{ends_if}
+use Rattle.text_lines.specs.Input.{ends_if}
 use Rattle.cube_cli.proofs.TakenEnds.{not_ended}
 use Rattle.cube_cli.proofs.schema_lines.take_lines.Goals as goal
 use Rattle.cube_cli.proofs.schema_lines.take_lines.Goals.{in-Some+in_ok-push_line, in_default}

@@ -1,6 +1,6 @@
 use Rattle.std.proofs.Common.{◌≡◌, ◌+◌, true, if◌then◌else◌}
 use Rattle.std.specs.Io.KnownBytes.{IsAtEnd}
-use Rattle.line_cutter.specs.Input.{ends_if}
+use Rattle.text_lines.specs.Input.{ends_if}
 use Rattle.cube_cli.proofs.SchemaPieces.{IsTaking}
 use Rattle.cube_cli.proofs.schema_lines.take_lines.Given as goal
 

@@ -1,6 +1,6 @@
 use Rattle.std.proofs.Common.{refl, subst, sym}
 use Rattle.std.proofs.KnownBytes.{Keeps-refl}
-use Rattle.line_cutter.specs.Input.{INPUT_LIMIT, Taken}
+use Rattle.text_lines.specs.Input.{INPUT_LIMIT, Taken}
 use Rattle.script_run.specs.Seen.{SeenAll, SourceSeen, seen_of, source_seen}
 use Rattle.cube_cli.proofs.Putting.{import_stopped}
 use Rattle.cube_cli.proofs.store.import_over.Goals as goal

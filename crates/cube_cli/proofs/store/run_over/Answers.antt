@@ -1,8 +1,8 @@
 use Rattle.std.proofs.Common.{◌≡◌, [], true, refl, ap, subst, Some}
 use Rattle.std.proofs.KnownBytes.{Keeps-refl}
-use Rattle.line_cutter.specs.Input.{INPUT_LIMIT}
-use Rattle.line_cutter.specs.Pieces.{Held, pieces_of}
-use Rattle.line_cutter.specs.Reading.{Reading}
+use Rattle.text_lines.specs.Input.{INPUT_LIMIT}
+use Rattle.text_lines.specs.Pieces.{Held, pieces_of}
+use Rattle.text_lines.specs.Reading.{Reading}
 use Rattle.schema_text.specs.Schema.{weigh_of}
 use Rattle.script_run.specs.Run.{state_of}
 use Rattle.script_run.specs.Stream.{EndsFrom, EndsStream, Ground}

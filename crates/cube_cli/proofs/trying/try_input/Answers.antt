@@ -2,7 +2,7 @@
 use Rattle.std.proofs.Common.{[], ap, refl, Some}
 use Rattle.std.proofs.KnownBytes.{Keeps-refl}
 use Rattle.schema_text.specs.Schema.{SchemaValue}
-use Rattle.line_cutter.specs.Pieces.{Held}
+use Rattle.text_lines.specs.Pieces.{Held}
 use Rattle.script_run.specs.Seen.{SeenAll, SourceSeen, sink_seen, source_seen}
 use Rattle.cube_cli.specs.declared.command.Command.TheVariants.{Try}
 use Rattle.cube_cli.specs.Doing.{Fits, doing_of, ends_of}

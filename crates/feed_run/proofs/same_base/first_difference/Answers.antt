@@ -2,7 +2,7 @@ use Rattle.std.proofs.Common.{◌≡◌, ◌<◌, length, map, Some, sym, ap, �
 use Rattle.std.specs.Prelude.{min}
 use Rattle.cube_model.specs.declared.edit.Fact.{Fact}
 use Rattle.region_algebra.specs.Space.{IsRegion}
-use Rattle.stored_state.specs.Sound.{fact_told}
+use Rattle.store_audit.specs.Sound.{fact_told}
 use Rattle.feed_run.proofs.SameBase.{other-end, other-here, same-all, same-next, told-at, told-count}
 use Rattle.feed_run.proofs.same_base.first_difference.Goals as goal
 

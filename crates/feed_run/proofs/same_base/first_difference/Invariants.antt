@@ -1,6 +1,6 @@
 use Rattle.std.proofs.Common.{◌≡◌, ◌+◌, drop, map}
 use Rattle.std.specs.Option.{option_map}
-use Rattle.stored_state.specs.Sound.{fact_told}
+use Rattle.store_audit.specs.Sound.{fact_told}
 use Rattle.feed_run.specs.Following.{first_difference}
 use Rattle.feed_run.proofs.same_base.first_difference.Given as goal
 

@@ -1,7 +1,7 @@
 use Rattle.std.proofs.Common.{refl}
 use Rattle.schema_text.specs.Schema.{weigh_of}
 use Rattle.script_run.specs.Seen.{keeper_seen, sink_seen}
-use Rattle.line_cutter.specs.Pieces.{whole_lines}
+use Rattle.text_lines.specs.Pieces.{whole_lines}
 use Rattle.script_run.proofs.Sending.{does_lines-sent}
 use Rattle.script_run.proofs.streaming.do_and_send.Goals as goal
 

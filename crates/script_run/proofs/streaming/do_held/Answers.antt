@@ -3,7 +3,7 @@ use Rattle.std.proofs.Common.{◌∷◌, [], Ok, Err, refl, sym, subst, rules}
 use Rattle.std.specs.Prelude.{⊤}
 use Rattle.std.proofs.lemmas.Result.{err_from_is_err_and}
 use Rattle.fact_keeper.proofs.Staying.{stays-trans}
-use Rattle.line_cutter.specs.Pieces.{Held, behind_line}
+use Rattle.text_lines.specs.Pieces.{Held, behind_line}
 use Rattle.schema_text.specs.Schema.{weigh_of}
 use Rattle.script_run.specs.Seen.{keeper_seen, sink_seen}
 use Rattle.script_run.specs.Stream.{DoesLines}

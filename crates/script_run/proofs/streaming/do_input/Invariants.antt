@@ -1,8 +1,8 @@
 use Rattle.std.proofs.Common.{◌≡◌, ℕ, ◌+◌, ◌≤◌, true, List, length}
 use Rattle.std.specs.Prelude.{not, ◌&&◌}
 use Rattle.fact_keeper.specs.Keeper.{StaysOpen}
-use Rattle.line_cutter.specs.Input.{ends_if}
-use Rattle.line_cutter.specs.Pieces.{whole_lines}
+use Rattle.text_lines.specs.Input.{ends_if}
+use Rattle.text_lines.specs.Pieces.{whole_lines}
 use Rattle.schema_text.specs.Schema.{weigh_of}
 use Rattle.script_run.specs.Stream.{Ground}
 use Rattle.script_run.specs.StreamTurn.{Outside, Streaming, outside_of, turns_left}

@@ -2,7 +2,7 @@
 use Rattle.std.proofs.Common.{◌≡◌, ◌∷◌, [], refl, append-nil, arith, rules}
 use Rattle.std.proofs.lemmas.Result.{err_from_is_err_and}
 use Rattle.fact_keeper.proofs.Staying.{stays-trans}
-use Rattle.line_cutter.specs.Pieces.{last_line, rest_of, whole_lines}
+use Rattle.text_lines.specs.Pieces.{last_line, rest_of, whole_lines}
 use Rattle.schema_text.specs.Schema.{weigh_of}
 use Rattle.script_run.specs.Seen.{keeper_seen, sink_seen}
 use Rattle.script_run.specs.Stream.{DoesLines}

@@ -1,5 +1,5 @@
 use Rattle.std.proofs.Common.{refl}
-use Rattle.stored_state.specs.Sound.{facts_told}
+use Rattle.store_audit.specs.Sound.{facts_told}
 use Rattle.store_law.proofs.Grown.{grown-holds}
 use Rattle.store_law.proofs.Alone.{text-alone}
 use Rattle.store_law.proofs.GrownSchema.{grown-schema}

@@ -8,8 +8,8 @@ use Rattle.fact_keeper.specs.declared.content.Stored.{Stored}
 use Rattle.fact_keeper.specs.Batch.{apply_batch}
 use Rattle.fact_records.specs.Shape.{ShapeValue, policy_over}
 use Rattle.schema_text.specs.Schema.{SchemaValue, schema_policy, shape_of}
-use Rattle.stored_state.specs.Mending.{IsMendable, mended, mended_batch}
-use Rattle.stored_state.proofs.Mended.{mending-applied}
+use Rattle.store_audit.specs.Mending.{IsMendable, mended, mended_batch}
+use Rattle.store_audit.proofs.Mended.{mending-applied}
 use Rattle.cube_core.proofs.cube.Cube.mend_rows.Goals as goal
 
 applied-told : {M E : Type 0} (r : Result M E) (batch_of : M → Batch) (weigh : CellStat → ℕ) (schema : SchemaValue) (dims : List Dimension) (shape : ShapeValue) (content : Stored) → dims ≡ schema.dims → shape ≡ shape_of schema

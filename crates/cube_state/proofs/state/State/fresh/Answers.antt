@@ -3,7 +3,7 @@ use Rattle.std.proofs.Common.{ap, map, ◌+◌, ◌∙◌, sym}
 use Rattle.view_store.specs.Views.{ViewMap, ViewMaps}
 use Rattle.fact_records.specs.Shape.{ShapeValue, width_of_all}
 use Rattle.cube_state.proofs.Installing.{IsState-fresh, cuts-seen, dims-seen}
-use Rattle.facts_kept.proofs.ViewsKept.{cuts-emptied}
+use Rattle.fact_indexes.proofs.ViewsKept.{cuts-emptied}
 use Rattle.cube_state.proofs.state.State.fresh.Goals as goal
 
 pub invariant_of-result : goal.invariant_of-result

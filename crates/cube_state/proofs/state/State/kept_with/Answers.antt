@@ -3,7 +3,7 @@ use Rattle.std.proofs.Common.{◌≡◌, refl, subst}
 use Rattle.std.specs.Prelude.{IfErr, IfOk}
 use Rattle.fact_records.specs.New.{put_all}
 use Rattle.fact_records.specs.Shape.{policy_over}
-use Rattle.facts_kept.specs.Anew.{IsTooMany}
+use Rattle.fact_indexes.specs.Anew.{IsTooMany}
 use Rattle.cube_state.specs.State.{policy_in}
 use Rattle.cube_state.proofs.NewKept.{emptied-empty, kept-for_all, valid-with}
 use Rattle.cube_state.proofs.state.State.kept_with.Goals as goal

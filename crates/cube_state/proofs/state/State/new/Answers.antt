@@ -2,7 +2,7 @@
 use Rattle.std.proofs.Common.{◌∙◌, ap, map}
 use Rattle.view_store.specs.Views.{ViewMap, ViewMaps}
 use Rattle.cube_state.proofs.Installing.{IsState-empty}
-use Rattle.facts_kept.proofs.ViewsKept.{depths-of_defs}
+use Rattle.fact_indexes.proofs.ViewsKept.{depths-of_defs}
 use Rattle.cube_state.proofs.state.State.new.Goals as goal
 
 pub invariant_of-result : goal.invariant_of-result

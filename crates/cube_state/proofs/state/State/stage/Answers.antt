@@ -1,7 +1,7 @@
 -- Room leaves the state what it is, and what is staged is what the edit makes of it.
 use Rattle.std.proofs.Common.{◌≡◌, refl, subst, true}
 use Rattle.staged_map.specs.Staged.{have_places}
-use Rattle.facts_kept.proofs.SameViews.{cuts-same}
+use Rattle.fact_indexes.proofs.SameViews.{cuts-same}
 use Rattle.cube_state.proofs.Rooming.{content-kept, fits-seen, lost-region, sets-staged, state-kept, views-untouched}
 use Rattle.cube_state.proofs.state.State.stage.Goals as goal
 

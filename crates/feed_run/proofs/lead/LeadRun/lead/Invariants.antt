@@ -1,6 +1,6 @@
 use Rattle.std.proofs.Common.{◌+◌, ◌-◌}
 use Rattle.fact_keeper.specs.Keeper.{StaysOpen}
-use Rattle.line_cutter.specs.Input.{INPUT_LIMIT}
+use Rattle.text_lines.specs.Input.{INPUT_LIMIT}
 use Rattle.feed_run.proofs.LeadEnds.{Leading}
 use Rattle.feed_run.proofs.Leads.{leader_of, outlets_of}
 use Rattle.feed_run.proofs.lead.LeadRun.lead.Given as goal

@@ -1,8 +1,8 @@
 use Rattle.std.proofs.Common.{◌<◌, ◌≤◌, refl, sym, ◌∙◌, subst, arith}
 use Rattle.std.proofs.lemmas.Result.{err_from_is_err_and}
-use Rattle.line_cutter.specs.Reading.{Feeds}
+use Rattle.text_lines.specs.Reading.{Feeds}
 use Rattle.feed_run.proofs.Pulls.{ends_pulled, none_pulled, piece_pulled, whole_memory}
-use Rattle.line_cutter.specs.declared.piece_reader.LineInput.{LineInput}
+use Rattle.text_lines.specs.declared.piece_reader.LineInput.{LineInput}
 use Rattle.feed_run.specs.Pulling.{pulls_left}
 use Rattle.feed_run.proofs.PullsLeft.{left-fed, left-held, left-whole}
 use Rattle.feed_run.proofs.line_pull.LinePull.next.Goals as goal

@@ -1,0 +1,120 @@
+//! What an edit moves: the cells that it touches, and the regions whose groups may differ after it.
+ghost use Rattle.std.specs.Prelude.{◌≡◌, ◌+◌, ◌<◌, ◌≤◌, ◌||◌, ℕ, All, IfOk, IfSome, None, false, length};
+ghost use Rattle.std.specs.Option.{option_map_or};
+ghost use Rattle.cube_model.specs.Cells.{all_cells, is_among};
+ghost use Rattle.fact_groups.specs.Groups.{has_code};
+ghost use Rattle.fact_records.specs.Judge.{fact_refusal};
+ghost use Rattle.fact_records.specs.Shape.{width_of_all};
+ghost use Rattle.fact_records.specs.Valid.{IsEditOver};
+ghost use Rattle.region_algebra.specs.Space.{IsRegion};
+ghost use Rattle.region_index.specs.Content.{AreAscending};
+ghost use Rattle.cube_state.specs.Covering.{is_over_one, probes_over};
+ghost use Rattle.cube_state.specs.Moves.{AreMoves};
+ghost use Rattle.cube_state.specs.Regrouped.{HoldChanged};
+ghost use Rattle.cube_state.specs.State.{policy_in};
+ghost use Rattle.touched_cells.specs.Touched.{touched};
+
+use crate::State;
+use crate::edit_moves::Moves;
+use crate::edited::{given, taken};
+use cell_weight::WeightPolicy;
+use cube_base::{Ids, Memory, PlainList};
+use cube_model::{Edit, Fact};
+use region_index::Steps;
+use std::sync::ledger::Ledger;
+use touched_cells::{Change, changes, lying, reweighing};
+
+impl<P: WeightPolicy + Drop> State<P> {
+    /// What an edit moves, which no code refuses that is judged before the rows. The only error is running out of memory.
+    pub fn moves(&self, edit: &Edit) -> Result<Moves, Memory>
+        requires over { IsEditOver self.now.dims edit.now }
+        requires accepted { fact_refusal self.now.shape self.now.dims edit.now self.now.facts ≡ None }
+        ensures moves { IfOk result (AreMoves (policy_in P.weigh self.now) self.now.shape self.now.dims self.now.facts) }
+        ensures edit { IfOk result (λ moves. moves.edit ≡ edit.now) }
+    {
+        // What a state says of its facts, and a shape of its measures.
+        let _ = self.facts();
+        let _ = self.shape().columns();
+        let touched = self.touched(edit)?;
+        let reweighing = reweighing(self.alloc, &self.policy, &touched)?;
+        Ok(Moves {
+            edit: *edit,
+            taken: taken(edit, &self.facts),
+            given: given(edit),
+            touched: PlainList::from(touched),
+            reweighing: PlainList::from(reweighing),
+        })
+    }
+
+    /// The codes of the regions whose groups an edit may change, ascending. They are those of its old fact and its new
+    /// fact, and of the imprecise facts that cover a cell which weighs otherwise after it. Each region over such a cell
+    /// is a step. The only error is running out of memory.
+    pub fn codes<L: Ledger>(&self, moves: &Moves, steps: &mut Steps<L>) -> Result<Ids, Memory>
+        requires { AreMoves (policy_in P.weigh self.now) self.now.shape self.now.dims self.now.facts moves.now }
+        ensures codes { IfOk result (HoldChanged (policy_in P.weigh self.now) (width_of_all self.now.shape.measures) self.now.dims moves.now.edit self.now.facts) }
+        ensures steps { steps.new ≤ steps.old + probes_over self.now.dims moves.now.reweighing }
+    {
+        // What a state says of its facts.
+        let _ = self.facts();
+        let over = self.codes_over(moves.reweighing.as_slice(), steps)?;
+        let taken = self.with_code(over, moves.taken)?;
+        let all = self.with_code(taken, moves.given)?;
+        Ok(Ids::from(ascending(all)))
+    }
+
+    /// The codes of the regions whose imprecise facts cover one of the changed cells, in any order. Each region over such a cell
+    /// is a step.
+    fn codes_over<L: Ledger>(
+        &self,
+        changes: &[Change],
+        steps: &mut Steps<L>,
+    ) -> Result<Vec<u64>, Memory>
+        requires { All (λ change. change.0 < length (all_cells self.now.dims)) changes.now }
+        ensures codes { IfOk result (λ codes. (code : ℕ) → is_among codes.items code ≡ is_over_one self.now.dims changes.now self.now.facts code) }
+        ensures steps { steps.new ≤ steps.old + probes_over self.now.dims changes.now }
+    {
+        // What a space says of its dimensions.
+        let _ = self.space.dims();
+        let mut codes = Vec::new(self.alloc);
+        for (cell, _, _) in changes {
+            let held = self.index.held_codes_over(&self.space, *cell, steps)?;
+            codes.extend_from_slice(held.as_slice())?;
+        }
+        Ok(codes)
+    }
+
+    /// The codes, with that of a fact's region after them, if there is a fact.
+    fn with_code(&self, mut codes: Vec<u64>, fact: Option<Fact>) -> Result<Vec<u64>, Memory>
+        requires { IfSome fact (λ f. IsRegion self.now.dims f.region) }
+        ensures { IfOk result (λ more. (code : ℕ) → is_among more.items code ≡ (is_among codes.items code || option_map_or (has_code self.now.dims code) fact false)) }
+    {
+        if let Some(fact) = fact {
+            codes.push(self.space.code(fact.region))?;
+        }
+        Ok(codes)
+    }
+
+    /// The cells that an edit touches, ascending, each with its statistics before and after it. No code that is judged before
+    /// the rows refuses the edit.
+    fn touched(&self, edit: &Edit) -> Result<Vec<Change>, Memory>
+        requires over { IsEditOver self.now.dims edit.now }
+        requires accepted { fact_refusal self.now.shape self.now.dims edit.now self.now.facts ≡ None }
+        ensures { IfOk result (λ changes. changes.items ≡ touched (policy_in P.weigh self.now) self.now.dims edit.now self.now.facts) }
+    {
+        // What a shape says of its measures.
+        let _ = self.shape.columns();
+        let lost = lying(&self.space, &self.shape, taken(edit, &self.facts));
+        let won = lying(&self.space, &self.shape, given(edit));
+        changes(self.alloc, &self.stats, lost, won)
+    }
+}
+
+/// The numbers, ascending, each once.
+fn ascending(mut ids: Vec<u64>) -> Vec<u64>
+    ensures ascending { AreAscending result.items }
+    ensures same { (id : ℕ) → is_among result.items id ≡ is_among ids.items id }
+{
+    ids.sort_unstable();
+    ids.dedup();
+    ids
+}

@@ -1,0 +1,107 @@
+//! The groups of facts after an edit: of the regions whose groups may differ, each made anew from the one before.
+ghost use Rattle.std.specs.Prelude.{◌≡◌, ◌<◌, ◌≤◌, true, false, All, IfOk, IfSome, length};
+ghost use Rattle.std.specs.List.{list_any};
+ghost use Rattle.std.specs.Option.{option_copied};
+ghost use Rattle.alloc_rows.specs.Changed.{changes_among};
+ghost use Rattle.cube_model.specs.Cells.{all_cells, cells_of, is_among};
+ghost use Rattle.cube_model.specs.Facts.{after};
+ghost use Rattle.cube_model.specs.Limits.{MAX_CELLS};
+ghost use Rattle.fact_groups.specs.Groups.{spread_at};
+ghost use Rattle.region_algebra.specs.Space.{IsRegion};
+ghost use Rattle.cube_state.specs.Moves.{AreMoves};
+ghost use Rattle.cube_state.specs.State.{policy_in};
+
+use crate::edit_moves::Moves;
+use crate::{Group, State};
+use alloc_rows::{Alloc, allocate_at, step};
+use cell_weight::WeightPolicy;
+use cube_base::Memory;
+use cube_model::Region;
+use region_algebra::Space;
+use std::alloc::Global;
+use touched_cells::Change;
+
+impl<P: WeightPolicy + Drop> State<P> {
+    /// How a region is spread after an edit. Where it has a group, that is spread as the region is before it.
+    pub(crate) fn spread_after(
+        &self,
+        moves: &Moves,
+        r: Region,
+        group: Option<&Group>,
+    ) -> Result<Alloc, Memory>
+        requires moves { AreMoves (policy_in P.weigh self.now) self.now.shape self.now.dims self.now.facts moves.now }
+        requires region { IsRegion self.now.dims r }
+        requires few { length (cells_of self.now.dims r) ≤ MAX_CELLS }
+        requires group { IfSome (option_copied group) (λ g. g.spread ≡ spread_at (policy_in P.weigh self.now) self.now.dims self.now.facts r) }
+        ensures { IfOk result (λ a. a ≡ spread_at (policy_in P.weigh self.now) self.now.dims (after moves.now.edit self.now.facts) r) }
+    {
+        // What a shape says of its measures, and a list of facts of its order.
+        let _ = self.shape.columns();
+        let before = self.spread_before(r, group)?;
+        if self.is_kept(moves, r) {
+            return Ok(before);
+        }
+        let changed = changes_inside(self.alloc, &self.space, r, moves.touched.as_slice())?;
+        step(
+            self.alloc,
+            &self.space,
+            &self.policy,
+            &self.stats,
+            &before,
+            r,
+            &changed,
+        )
+    }
+
+    /// Whether a region is spread after an edit as before, since it is one cell or none of its cells weighs otherwise.
+    pub(crate) fn is_kept(&self, moves: &Moves, r: Region) -> bool
+        requires moves { AreMoves (policy_in P.weigh self.now) self.now.shape self.now.dims self.now.facts moves.now }
+        requires region { IsRegion self.now.dims r }
+        ensures kept { result ≡ true → spread_at (policy_in P.weigh self.now) self.now.dims self.now.facts r ≡ spread_at (policy_in P.weigh self.now) self.now.dims (after moves.now.edit self.now.facts) r }
+        ensures several { result ≡ false → 1 < length (cells_of self.now.dims r) }
+    {
+        self.space.cell_count(r) == 1 || !holds_any(&self.space, r, moves.reweighing.as_slice())
+    }
+
+    /// How a region is spread before it.
+    fn spread_before(&self, r: Region, group: Option<&Group>) -> Result<Alloc, Memory>
+        requires region { IsRegion self.now.dims r }
+        requires few { length (cells_of self.now.dims r) ≤ MAX_CELLS }
+        requires group { IfSome (option_copied group) (λ g. g.spread ≡ spread_at (policy_in P.weigh self.now) self.now.dims self.now.facts r) }
+        ensures { IfOk result (λ a. a ≡ spread_at (policy_in P.weigh self.now) self.now.dims self.now.facts r) }
+    {
+        match group {
+            Some(group) => group.spread.share(),
+            None => allocate_at(self.alloc, &self.space, &self.policy, &self.stats, r),
+        }
+    }
+}
+
+/// Whether one of the changed cells is a region's.
+fn holds_any(space: &Space, r: Region, changes: &[Change]) -> bool
+    requires region { IsRegion space.now r }
+    requires cells { All (λ change. change.0 < length (all_cells space.now)) changes.now }
+    ensures { result ≡ list_any (λ change. is_among (cells_of space.now r) change.0) changes.now }
+{
+    changes.iter().any(|change| space.contains(r, change.0))
+}
+
+/// The changes of the cells of a region.
+fn changes_inside(
+    alloc: Global,
+    space: &Space,
+    r: Region,
+    changes: &[Change],
+) -> Result<Vec<Change>, Memory>
+    requires region { IsRegion space.now r }
+    requires cells { All (λ change. change.0 < length (all_cells space.now)) changes.now }
+    ensures { IfOk result (λ inside. inside.items ≡ changes_among (cells_of space.now r) changes.now) }
+{
+    let mut inside = Vec::new(alloc);
+    for change in changes {
+        if space.contains(r, change.0) {
+            inside.push(*change)?;
+        }
+    }
+    Ok(inside)
+}

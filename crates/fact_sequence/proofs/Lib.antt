@@ -1,2 +1,0 @@
-mod AllPut
-mod Judging

@@ -1,7 +1,0 @@
--- Some facts are in groups, and the others are left.
-use Rattle.fact_records.specs.Shape.{policy_over, width_of_all}
-use Rattle.facts_kept.proofs.GroupsSoFar.{AreGroupsSoFar}
-use Rattle.facts_kept.proofs.grouping.groups_of.Given as goal
-
-abbrev pub invariant-loop-fact : goal.invariant-loop-fact
-invariant-loop-fact g l = AreGroupsSoFar (policy_over (g.P.WeightPolicy.weigh l.policy) l.shape) (width_of_all l.shape.measures) l.space l.facts.facts l.groups l.fact-iterator

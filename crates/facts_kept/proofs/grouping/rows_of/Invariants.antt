@@ -1,7 +1,0 @@
--- The rows of the groups at the places before this one.
-use Rattle.std.proofs.Common.{◌≡◌, take}
-use Rattle.facts_kept.proofs.HeldRows.{rows_held}
-use Rattle.facts_kept.proofs.grouping.rows_of.Given as goal
-
-abbrev pub invariant-loop-i : goal.invariant-loop-i
-invariant-loop-i g l = l.rows ≡ rows_held (take l.i l.groups)

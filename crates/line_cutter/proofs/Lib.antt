@@ -1,3 +1,0 @@
-pub mod Cuttings
-pub mod Ended
-pub mod Fronts

@@ -1,6 +1,0 @@
-use Rattle.std.proofs.Common.{[], refl}
-use Rattle.line_cutter.proofs.Cuttings.{lines_given-front}
-use Rattle.line_cutter.proofs.laws.lines_in_any_cutting.Goals as goal
-
-pub returns : goal.returns
-returns c = λ pieces. lines_given-front pieces [] [] tt refl

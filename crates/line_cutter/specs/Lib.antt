@@ -1,4 +1,0 @@
-pub mod Input
-pub mod Lending
-pub mod Pieces
-pub mod Reading

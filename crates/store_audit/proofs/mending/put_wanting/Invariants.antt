@@ -1,0 +1,5 @@
+-- The step is counted in a ledger of its own.
+use Rattle.store_audit.proofs.mending.put_wanting.Given as goal
+
+abbrev pub ghosts-look_up : goal.ghosts-look_up
+ghosts-look_up g a = record { name = a.blank.name; parts = 1 }

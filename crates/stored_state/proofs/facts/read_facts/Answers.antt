@@ -1,6 +1,0 @@
--- None of the facts is refused, and their list is in order.
-use Rattle.stored_state.proofs.Reading.{valid-good}
-use Rattle.stored_state.proofs.facts.read_facts.Goals as goal
-
-pub returns-clause-valid : goal.returns-clause-valid
-returns-clause-valid c = valid-good _ _ c.args.kept.now c.in_ok-read_all.ensures.good _ c.in_ok-read_all.ensures.facts c.len.ensures.ascending

@@ -1,5 +1,0 @@
--- The step is counted in a ledger of its own.
-use Rattle.stored_state.proofs.mending.put_wanting.Given as goal
-
-abbrev pub ghosts-look_up : goal.ghosts-look_up
-ghosts-look_up g a = record { name = a.blank.name; parts = 1 }
