@@ -2,6 +2,7 @@
 ghost use Rattle.std.specs.Prelude.{◌≡◌, ◌≤◌, [], ◌∷◌, IfOk};
 ghost use Rattle.cube_model.specs.Answer.{weight_inside};
 ghost use Rattle.cube_model.specs.Cells.{AreRows, cells_of};
+ghost use Rattle.cube_model.specs.Difference.{is_same};
 ghost use Rattle.region_algebra.specs.Inside.{cells_inside};
 ghost use Rattle.region_algebra.specs.Space.{IsRegion};
 ghost use Rattle.alloc_rows.specs.Alloc.{IsAllocation};
@@ -65,6 +66,13 @@ impl Alloc {
         ensures kept { IsAllocation self.now }
     {
         self.rows.as_slice()
+    }
+
+    /// Whether another allocation has the same denominator and the same rows. It takes no memory.
+    pub fn is_same(&self, other: &Alloc) -> bool
+        ensures { result ≡ is_same self.now other.now }
+    {
+        self.den() == other.den() && self.rows() == other.rows()
     }
 
     /// The rows as a list of their own on the same storage: no row is copied.

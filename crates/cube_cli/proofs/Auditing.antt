@@ -6,7 +6,7 @@ use Rattle.std.specs.Option.{option_map_or}
 use Rattle.std.specs.Result.{result_ok}
 use Rattle.fact_keeper.specs.declared.content.Stored.{Stored}
 use Rattle.text_lines.specs.Text.{line_text}
-use Rattle.schema_text.specs.Schema.{SchemaValue, schema_policy, shape_of, weigh_of}
+use Rattle.schema_text.specs.Schema.{SchemaValue, policy_of, schema_policy, shape_of, weigh_of}
 use Rattle.schema_text.specs.declared.word.PolicyWord.{PolicyWord}
 use Rattle.store_audit.specs.Sound.{IsSound, facts_told}
 use Rattle.cube_core.specs.Cube.{CubeValue}
@@ -14,7 +14,7 @@ use Rattle.cube_cli.specs.Doing.{OneWork, text_work, with_schema}
 use Rattle.cube_cli.specs.Files.{text_told}
 use Rattle.cube_cli.specs.SchemaAlone.{schema_alone}
 use Rattle.cube_cli.specs.Steps.{HoldsSchema, IsCubeOf}
-use Rattle.cube_cli.specs.Store.{IsSoundContent, IsSoundOver, policy_of}
+use Rattle.cube_cli.specs.Store.{IsSoundContent, IsSoundOver}
 use Rattle.cube_cli.specs.declared.telling.Telling.{Telling}
 
 -- a cube that has the schema and the facts of a content

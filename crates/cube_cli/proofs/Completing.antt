@@ -9,7 +9,7 @@ use Rattle.cube_model.specs.Tree.{Dimension}
 use Rattle.fact_keeper.specs.Batch.{empty_content}
 use Rattle.fact_keeper.specs.declared.content.Stored.{Stored}
 use Rattle.fact_records.specs.Shape.{ShapeValue}
-use Rattle.schema_text.specs.Schema.{SchemaValue, shape_of}
+use Rattle.schema_text.specs.Schema.{SchemaValue, policy_of, shape_of}
 use Rattle.schema_text.specs.SchemaText.{BadLine, schema_of}
 use Rattle.store_audit.specs.Mending.{IsMendable}
 use Rattle.store_audit.specs.Sound.{IsFinding, IsSound}
@@ -28,7 +28,7 @@ use Rattle.cube_cli.specs.End.{IsCompleteOf, IsDone, SaysAsked}
 use Rattle.cube_cli.specs.Kinds.{IsAmong, is_of_rows}
 use Rattle.cube_cli.specs.SchemaAlone.{schema_alone}
 use Rattle.cube_cli.specs.Seen.{Holds, OfContent, OfInput}
-use Rattle.cube_cli.specs.Store.{Finds, FindsBy, IsEmptyOrSound, IsMendableContent, IsMendableOver, IsSoundContent, IsSoundOver, policy_of}
+use Rattle.cube_cli.specs.Store.{Finds, FindsBy, IsEmptyOrSound, IsMendableContent, IsMendableOver, IsSoundContent, IsSoundOver}
 use Rattle.cube_cli.proofs.Known.{each_content, each_input, told-weaker}
 
 -- an input that goes on behind the limit is longer

@@ -10,7 +10,7 @@ use Rattle.fact_keeper.specs.declared.keeper.KeepError.{KeepError}
 use Rattle.fact_keeper.specs.declared.keeper.KeepError.TheVariants as keep_error
 use Rattle.fact_keeper.specs.Keeper.{CountsKeepFault}
 use Rattle.text_lines.specs.Input.{INPUT_LIMIT, TakesAtMost}
-use Rattle.schema_text.specs.Schema.{SchemaValue, schema_policy, shape_of, weigh_of}
+use Rattle.schema_text.specs.Schema.{SchemaValue, policy_of, schema_policy, shape_of, weigh_of}
 use Rattle.schema_text.specs.declared.word.PolicyWord.{PolicyWord}
 use Rattle.script_run.specs.Kept.{Commits}
 use Rattle.script_run.specs.Seen.{NoKeepFault, SeenAll}
@@ -28,7 +28,7 @@ use Rattle.cube_cli.specs.Files.{mending_batches, rebuilt_line}
 use Rattle.cube_cli.specs.RunEnd.{end_of_keep, end_of_write}
 use Rattle.cube_cli.specs.Seen.{Holds, IsUntouched, WasNotRead}
 use Rattle.cube_cli.specs.Steps.{HoldsSchema, IsMendingOf, WritesText}
-use Rattle.cube_cli.specs.Store.{IsMendableContent, IsMendableOver, policy_of}
+use Rattle.cube_cli.specs.Store.{IsMendableContent, IsMendableOver}
 use Rattle.cube_cli.proofs.Auditing.{work_with}
 use Rattle.cube_cli.proofs.First.{IsStill, keep_fault, left_all, wants_memory}
 use Rattle.cube_cli.proofs.Known.{of_given, took_nothing}

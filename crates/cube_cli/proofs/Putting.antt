@@ -13,7 +13,7 @@ use Rattle.fact_records.specs.declared.fact_seq.BadRecord.{BadRecord as RecordAt
 use Rattle.fact_records.specs.declared.fact_seq.FactSeq.{FactSeq}
 use Rattle.text_lines.specs.Input.{INPUT_LIMIT, StopsReading, Taken}
 use Rattle.text_lines.specs.declared.input.InputStop.{InputStop}
-use Rattle.schema_text.specs.Schema.{SchemaValue, schema_policy, weigh_of}
+use Rattle.schema_text.specs.Schema.{SchemaValue, policy_of, schema_policy, weigh_of}
 use Rattle.schema_text.specs.declared.word.PolicyWord.{PolicyWord}
 use Rattle.store_audit.specs.Sound.{facts_told}
 use Rattle.script_run.specs.Kept.{Commits}
@@ -29,7 +29,7 @@ use Rattle.cube_cli.specs.Files.{IsAccepted, count_line, import_batch, imported_
 use Rattle.cube_cli.specs.RunEnd.{end_of_import, end_of_stop, end_of_write}
 use Rattle.cube_cli.specs.Seen.{DidNothing, Holds}
 use Rattle.cube_cli.specs.Steps.{IsCubeOf, WritesText}
-use Rattle.cube_cli.specs.Store.{IsSoundContent, policy_of}
+use Rattle.cube_cli.specs.Store.{IsSoundContent}
 use Rattle.cube_cli.proofs.AtOnce.{GoesOn, bad_record, keep_failed, many_rows, not_taken, wants, written}
 use Rattle.cube_cli.proofs.Auditing.{sound_content, work_with}
 use Rattle.cube_cli.proofs.Known.{of_given}

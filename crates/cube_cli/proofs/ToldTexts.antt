@@ -6,7 +6,7 @@ use Rattle.drill_run.specs.Doing.{drill_of}
 use Rattle.drill_run.specs.Summary.{summary_of}
 use Rattle.fact_keeper.specs.Batch.{empty_content}
 use Rattle.fact_keeper.specs.declared.content.Stored.{Stored}
-use Rattle.schema_text.specs.Schema.{schema_policy, weigh_of}
+use Rattle.schema_text.specs.Schema.{policy_of, schema_policy, weigh_of}
 use Rattle.schema_text.specs.declared.word.PolicyWord.{PolicyWord}
 use Rattle.store_audit.specs.Sound.{facts_told}
 use Rattle.script_run.specs.Kept.{Commits}
@@ -21,7 +21,7 @@ use Rattle.cube_cli.specs.Files.{text_told}
 use Rattle.cube_cli.specs.RunEnd.{end_of_write}
 use Rattle.cube_cli.specs.Seen.{Holds, WasNotCalled, WasNotRead}
 use Rattle.cube_cli.specs.Steps.{IsCubeOf, WritesText}
-use Rattle.cube_cli.specs.Store.{IsSoundContent, policy_of}
+use Rattle.cube_cli.specs.Store.{IsSoundContent}
 use Rattle.cube_cli.proofs.AtOnce.{GoesOn, written}
 use Rattle.cube_cli.proofs.Auditing.{sound_content, text_same, work_with}
 use Rattle.cube_cli.proofs.First.{wants_memory}

@@ -12,7 +12,7 @@ use Rattle.fact_keeper.specs.declared.content.Stored.{Stored}
 use Rattle.feed_run.specs.Following.{Base as FeedBase, Followed, applied_at, applied_texts, followed, kept_parts, parts_at, refusal_of}
 use Rattle.feed_run.specs.Leading.{leading_texts}
 use Rattle.text_lines.specs.Pieces.{front, lf_count, line_end}
-use Rattle.schema_text.specs.Schema.{SchemaValue, weigh_of}
+use Rattle.schema_text.specs.Schema.{SchemaValue, policy_of, weigh_of}
 use Rattle.schema_text.specs.SchemaText.{BadLine, schema_of, schema_text}
 use Rattle.store_audit.specs.Sound.{facts_told}
 use Rattle.text_lines.specs.Text.{line_text, lines_of}
@@ -28,7 +28,7 @@ use Rattle.cube_cli.specs.Kinds.{EndKind, Finished, Usage, Schema, NoCube, HasCu
 use Rattle.cube_cli.specs.RunEnd.{end_of_feed}
 use Rattle.cube_cli.specs.SchemaAlone.{schema_alone}
 use Rattle.cube_cli.specs.SchemaLines.{has_end, schema_bytes}
-use Rattle.cube_cli.specs.Store.{IsEmptyOrSound, IsMendableContent, IsSoundContent, batches_over, count_refused_over, policy_of, replies_over, schema_batch, state_over}
+use Rattle.cube_cli.specs.Store.{IsEmptyOrSound, IsMendableContent, IsSoundContent, batches_over, count_refused_over, replies_over, schema_batch, state_over}
 use Rattle.cube_cli.specs.Trying.{count_refused, replies_of, script_line_end, script_lines_in}
 
 -- What is made of an input whose lines are done as they come: the end that it has instead where its head is refused, how many bytes that

@@ -7,7 +7,7 @@ use Rattle.cube_base.specs.declared.fault.SinkError.TheVariants.{Failed, Memory}
 use Rattle.cube_core.specs.Cube.{CubeValue}
 use Rattle.fact_keeper.specs.declared.content.Stored.{Stored}
 use Rattle.fact_keeper.specs.Batch.{empty_content}
-use Rattle.schema_text.specs.Schema.{SchemaValue}
+use Rattle.schema_text.specs.Schema.{SchemaValue, policy_of}
 use Rattle.schema_text.specs.declared.word.PolicyWord.{PolicyWord}
 use Rattle.store_audit.specs.declared.finding.LoadFault.TheVariants as load_fault
 use Rattle.store_audit.specs.declared.mending.Mending.{Mending}
@@ -17,7 +17,7 @@ use Rattle.script_run.specs.Seen.{KeepFailed, KeeperSeen, NoKeepFault, NoWriteFa
 use Rattle.cube_cli.specs.SchemaAlone.{schema_alone}
 use Rattle.cube_cli.specs.Kinds.{is_of_rows}
 use Rattle.cube_cli.specs.Seen.{Holds, IsUntouched}
-use Rattle.cube_cli.specs.Store.{Finds, IsMendableOver, IsSoundOver, policy_of}
+use Rattle.cube_cli.specs.Store.{Finds, IsMendableOver, IsSoundOver}
 use Rattle.cube_cli.specs.declared.store.OpenStop.{OpenStop}
 use Rattle.cube_cli.specs.declared.store.OpenStop.TheVariants as open_stop
 

@@ -6,7 +6,7 @@ use Rattle.cube_model.specs.Allocation.{Policy}
 use Rattle.fact_keeper.specs.declared.content.Batch.{Batch}
 use Rattle.fact_keeper.specs.declared.content.Stored.{Stored}
 use Rattle.fact_keeper.specs.Batch.{empty_content}
-use Rattle.schema_text.specs.Schema.{SchemaValue, schema_policy, shape_of, weigh_of}
+use Rattle.schema_text.specs.Schema.{SchemaValue, policy_of, schema_policy, shape_of, weigh_of}
 use Rattle.schema_text.specs.SchemaText.{BadLine, schema_text}
 use Rattle.store_audit.specs.declared.finding.Finding.{Finding}
 use Rattle.store_audit.specs.declared.finding.Finding.TheVariants as finding
@@ -15,10 +15,6 @@ use Rattle.store_audit.specs.Sound.{IsFinding, IsSound, facts_told}
 use Rattle.script_run.specs.Kept.{batches}
 use Rattle.script_run.specs.Run.{Outcome, State, run}
 use Rattle.cube_cli.specs.SchemaAlone.{schema_alone}
-
--- how cells weigh by the policy of a schema
-abbrev pub policy_of : SchemaValue → Policy
-policy_of schema = schema_policy (weigh_of schema.policy) schema
 
 -- the facts and rows of a content are sound over a schema
 abbrev pub IsSoundOver : SchemaValue → Stored → Type 0

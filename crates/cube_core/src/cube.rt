@@ -31,7 +31,7 @@ use alloc_rows::Alloc;
 use cell_weight::WeightPolicy;
 use cube_base::{Ids, Memory};
 use cube_model::{Edit, Region};
-use cube_state::State;
+use cube_state::{State, look_up};
 use edit_plan::{plan, plan_all};
 use fact_keeper::{Keeper, Stored};
 use fact_records::{FactList, FactSeq, judge_seq};
@@ -353,20 +353,4 @@ impl<P: WeightPolicy + Drop> Cube<P> {
         let columns = self.schema.shape().columns();
         enumerate(self.alloc, placed.as_slice(), space, r, columns)
     }
-}
-
-/// The allocation of the fact of an id, whose step is not counted.
-pub(crate) fn look_up<L: Ledger, P: WeightPolicy + Drop>(
-    state: &State<P>,
-    id: u64,
-    blank: Blank,
-) -> Option<&Alloc>
-    requires name { blank.name ≡ L.name }
-    requires parts { blank.parts ≡ L.parts }
-    requires some { 0 < L.parts }
-    ensures rows { option_copied result ≡ allocation_of id (rows_in P.weigh state.now) }
-    ensures cells { IfSome (option_copied result) (λ a. AreRows state.now.dims a.rows) }
-{
-    let mut steps = Steps::<L>::new(blank);
-    state.lookup(id, &mut steps)
 }

@@ -12,10 +12,11 @@ ghost use Rattle.cube_core.specs.Respread.{IsRespreadFault, IsSpaceFault, IsStat
 
 use crate::EditFault;
 use crate::cube::{Cube, Receipt};
-use crate::respread::{Moved, moved_between, state_over};
+use crate::respread::{moved_between, state_over};
 use cell_weight::WeightPolicy;
 use cube_base::Ids;
 use cube_state::State;
+use edit_plan::Refreshed;
 use fact_keeper::{Batch, Keeper, KeptFacts};
 use region_algebra::Grow;
 use schema_text::{Schema, write_schema};
@@ -122,7 +123,7 @@ fn growth_to<P: WeightPolicy + Drop + Copy>(
             return Err(fault);
         }
     };
-    let Moved { ids, rows } = match moved_between(alloc, state, &later) {
+    let Refreshed { ids, rows } = match moved_between(alloc, state, &later) {
         Ok(moved) => moved,
         Err(fault) => {
             drop(later);

@@ -1,7 +1,6 @@
 //! The facts of a state, spread anew over another space.
 ghost use Rattle.std.specs.Prelude.{◌≡◌, ◌++◌, ◌∷◌, [], All, None, Some, true, IfErr, IfOk, OnOk};
 ghost use Rattle.cube_model.specs.Ascending.{ascends_from};
-ghost use Rattle.cube_model.specs.Difference.{is_same};
 ghost use Rattle.cube_state.specs.State.{policy_in};
 ghost use Rattle.fact_records.specs.FactList.{fact_of};
 ghost use Rattle.region_algebra.specs.Space.{IsRegion};
@@ -9,14 +8,12 @@ ghost use Rattle.cube_core.specs.Growth.{has_large_region, moved};
 ghost use Rattle.cube_core.specs.Respread.{IsRespreadFault, IsStateOver, KeepRegions, all_moved, facts_refusal, ids_moved, rows_moved};
 
 use crate::EditFault;
-use crate::cube::look_up;
-use alloc_rows::Alloc;
 use cell_weight::WeightPolicy;
 use cube_base::{Code, Ids, Memory};
 use cube_model::Fact;
-use cube_state::State;
-use edit_plan::{install, plan_all};
-use fact_keeper::{KeptRows, KeptRowsList};
+use cube_state::{State, look_up};
+use edit_plan::{Refreshed, install, plan_all};
+use fact_keeper::KeptRowsList;
 use fact_records::{FactList, FactRun, check_region};
 use region_algebra::Space;
 use std::alloc::Global;
@@ -77,40 +74,18 @@ fn run_of(alloc: Global, facts: &FactList) -> Result<FactRun, Memory>
     Ok(run)
 }
 
-/// Of the facts whose allocation changed, the ids and the rows.
-#[derive(Drop)]
-pub(crate) struct Moved {
-    pub(crate) ids: Ids,
-    pub(crate) rows: KeptRowsList,
-}
-
-impl Moved {
-    /// Holds a fact more, which is spread so. No row is copied.
-    fn hold(&mut self, id: u64, spread: &Alloc) -> Result<(), Memory>
-        ensures ids { OnOk result (self.new.ids ≡ self.old.ids ++ id ∷ []) }
-        ensures rows { OnOk result (self.new.rows ≡ self.old.rows ++ record { id = id; den = spread.now.den; rows = spread.now.rows } ∷ []) }
-    {
-        self.ids.push(id)?;
-        self.rows.push(KeptRows {
-            id,
-            den: spread.den(),
-            rows: spread.shared_rows()?,
-        })
-    }
-}
-
 /// The facts of a state whose allocation changed in another, which is the same over another space.
 pub(crate) fn moved_between<P: WeightPolicy + Drop>(
     alloc: Global,
     state: &State<P>,
     later: &State<P>,
-) -> Result<Moved, Memory>
+) -> Result<Refreshed, Memory>
     requires { IsStateOver later.now.dims state.now later.now }
     ensures ids { IfOk result (λ held. held.ids ≡ moved (policy_in P.weigh state.now) state.now.dims later.now.dims state.now.facts) }
     ensures rows { IfOk result (λ held. held.rows ≡ all_moved (policy_in P.weigh state.now) state.now.dims later.now.dims state.now.facts) }
     ensures ascending { IfOk result (λ held. ascends_from (λ id. id) 1 held.ids ≡ true) }
 {
-    let mut held = Moved {
+    let mut held = Refreshed {
         ids: Ids::new(alloc),
         rows: KeptRowsList::new(alloc),
     };
@@ -125,7 +100,7 @@ fn hold_moved<P: WeightPolicy + Drop>(
     state: &State<P>,
     later: &State<P>,
     fact: &Fact,
-    held: &mut Moved,
+    held: &mut Refreshed,
 ) -> Result<(), Memory>
     requires over { IsStateOver later.now.dims state.now later.now }
     requires there { fact_of fact.now.id state.now.facts ≡ Some fact.now }
@@ -138,15 +113,8 @@ fn hold_moved<P: WeightPolicy + Drop>(
     let Some(spread) = look_up::<Brand, P>(later, fact.id, Blank::new(1)) else {
         unreachable!()
     };
-    if is_same(before, spread) {
+    if before.is_same(spread) {
         return Ok(());
     }
     held.hold(fact.id, spread)
-}
-
-/// Whether two allocations have one denominator and the same rows.
-fn is_same(a: &Alloc, b: &Alloc) -> bool
-    ensures { result ≡ is_same a.now b.now }
-{
-    a.den() == b.den() && a.rows() == b.rows()
 }

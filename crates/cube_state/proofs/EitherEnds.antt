@@ -8,10 +8,10 @@ use Rattle.std.proofs.lemmas.List.Elements.{All-filter}
 use Rattle.cube_model.specs.declared.edit.Fact.{Fact}
 use Rattle.cube_model.specs.Answer.{total_by}
 use Rattle.cube_model.specs.Tree.{Dimension}
+use Rattle.cube_model.proofs.Totals.{total_by-append}
 use Rattle.region_index.specs.Indexed.{is_indexed_at}
 use Rattle.exact_fraction.proofs.TotalLaws.{total_by-same}
 use Rattle.fact_groups.proofs.Groups.{first-holds, total_by-map}
-use Rattle.fact_groups.proofs.Partition.{total_by-append}
 use Rattle.world_range.specs.declared.extreme.Extreme.{Extreme}
 use Rattle.world_range.specs.declared.extreme.Extreme.TheVariants.{Greatest, Least}
 use Rattle.world_range.specs.Picks.{wants_inside}

@@ -10,8 +10,8 @@ use Rattle.cube_model.specs.declared.edit.Fact.{Fact}
 use Rattle.cube_model.specs.declared.statistic.CellStat.{CellStat}
 use Rattle.cube_model.specs.Allocation.{allocation}
 use Rattle.cube_model.specs.Limits.{MAX_FACTS, MAX_VALUE}
+use Rattle.cube_model.proofs.Totals.{total_by-append}
 use Rattle.fact_groups.specs.Groups.{Group, column_sums, facts_with, group_at, has_code}
-use Rattle.fact_groups.proofs.Partition.{total_by-append}
 use Rattle.fact_records.specs.Shape.{width_of_all}
 use Rattle.fact_indexes.specs.Kept.{IsState}
 use Rattle.fact_indexes.proofs.GroupsSoFar.{filter-never}

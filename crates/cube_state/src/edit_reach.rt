@@ -20,7 +20,7 @@ use crate::edited::{given, taken};
 use cell_weight::WeightPolicy;
 use cube_base::{Ids, Memory, PlainList};
 use cube_model::{Edit, Fact};
-use region_index::Steps;
+use region_index::{Steps, sort_distinct};
 use std::sync::ledger::Ledger;
 use touched_cells::{Change, changes, lying, reweighing};
 
@@ -59,7 +59,7 @@ impl<P: WeightPolicy + Drop> State<P> {
         let over = self.codes_over(moves.reweighing.as_slice(), steps)?;
         let taken = self.with_code(over, moves.taken)?;
         let all = self.with_code(taken, moves.given)?;
-        Ok(Ids::from(ascending(all)))
+        Ok(Ids::from(sort_distinct(all)))
     }
 
     /// The codes of the regions whose imprecise facts cover one of the changed cells, in any order. Each region over such a cell
@@ -107,14 +107,4 @@ impl<P: WeightPolicy + Drop> State<P> {
         let won = lying(&self.space, &self.shape, given(edit));
         changes(self.alloc, &self.stats, lost, won)
     }
-}
-
-/// The numbers, ascending, each once.
-fn ascending(mut ids: Vec<u64>) -> Vec<u64>
-    ensures ascending { AreAscending result.items }
-    ensures same { (id : ℕ) → is_among result.items id ≡ is_among ids.items id }
-{
-    ids.sort_unstable();
-    ids.dedup();
-    ids
 }

@@ -2,7 +2,6 @@
 ghost use Rattle.std.specs.Prelude.{◌≡◌, ◌≤◌, ◌<◌, ◌+◌, ◌^◌, [], ◌∷◌, ◌++◌, ◌||◌, if◌then◌else◌, IfOk, OnOk};
 ghost use Rattle.std.specs.Option.{option_copied};
 ghost use Rattle.cube_model.specs.Allocation.{extended, row_count};
-ghost use Rattle.cube_model.specs.Difference.{is_same};
 ghost use Rattle.cube_model.specs.Facts.{after};
 ghost use Rattle.cube_model.specs.Limits.{MAX_ROWS};
 ghost use Rattle.fact_groups.specs.Groups.{group_at};
@@ -15,7 +14,6 @@ ghost use Rattle.cube_state.specs.State.{policy_in};
 use crate::changed_groups::Regrouped;
 use crate::edit_moves::Moves;
 use crate::{Group, State};
-use alloc_rows::Alloc;
 use cell_weight::WeightPolicy;
 use cube_base::{Ids, Memory, PlainList};
 use cube_model::MAX_ROWS;
@@ -133,7 +131,7 @@ impl<P: WeightPolicy + Drop> State<P> {
             unreachable!()
         };
         // Where no cell weighs otherwise, the rows are the same without a look at them.
-        !self.is_kept(moves, region) && !is_same(&before.spread, &now.spread)
+        !self.is_kept(moves, region) && !before.spread.is_same(&now.spread)
     }
 }
 
@@ -146,11 +144,4 @@ fn rows_of(group: Option<&Group>) -> u64
         Some(group) => group.members * group.spread.rows().len() as u64,
         None => 0,
     }
-}
-
-/// Whether two allocations are one.
-fn is_same(a: &Alloc, b: &Alloc) -> bool
-    ensures { result ≡ is_same a.now b.now }
-{
-    a.den() == b.den() && a.rows() == b.rows()
 }

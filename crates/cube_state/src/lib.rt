@@ -16,6 +16,7 @@ mod room;
 mod sets;
 mod state;
 mod tabling;
+mod uncounted;
 mod viewing;
 
 pub use changed_groups::Regrouped;
@@ -27,3 +28,4 @@ pub use sets::Sets;
 pub use state::State;
 pub use tabling::worked_tables;
 pub use touched_cells::Change;
+pub use uncounted::look_up;

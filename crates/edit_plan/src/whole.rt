@@ -16,14 +16,14 @@ ghost use Rattle.edit_plan.specs.Whole.{IsAllFaultOf, difference_with, facts_wit
 use crate::plan_change::PlanChange;
 use crate::spread::is_same_spread;
 use crate::storing::kept_fact;
-use crate::{Plan, PlanAllFault};
+use crate::{Plan, PlanAllFault, Refreshed};
 use alloc_rows::Alloc;
 use cell_weight::WeightPolicy;
 use cube_base::{Ids, Memory};
 use cube_model::Fact;
 use cube_state::State;
 use fact_indexes::FactsKept;
-use fact_keeper::{Batch, KeptFacts, KeptRows, KeptRowsList};
+use fact_keeper::{Batch, KeptFacts, KeptRowsList};
 use fact_records::FactRun;
 use std::alloc::Global;
 
@@ -75,28 +75,6 @@ fn plan_of_all(
         refreshed,
         batch,
     })
-}
-
-/// Of facts that are new or whose allocation changed, the ids and the rows.
-#[derive(Drop)]
-struct Refreshed {
-    ids: Ids,
-    rows: KeptRowsList,
-}
-
-impl Refreshed {
-    /// Holds a fact more, which is spread so. No row is copied.
-    fn hold(&mut self, id: u64, spread: &Alloc) -> Result<(), Memory>
-        ensures ids { OnOk result (self.new.ids ≡ self.old.ids ++ id ∷ []) }
-        ensures rows { OnOk result (self.new.rows ≡ self.old.rows ++ record { id = id; den = spread.now.den; rows = spread.now.rows } ∷ []) }
-    {
-        self.ids.push(id)?;
-        self.rows.push(KeptRows {
-            id,
-            den: spread.den(),
-            rows: spread.shared_rows()?,
-        })
-    }
 }
 
 /// Of all facts the ids of those that are new or whose allocation changed, and what they change in a store.

@@ -16,10 +16,11 @@ use Rattle.cube_model.specs.Answer.{total_by}
 use Rattle.cube_model.specs.Ascending.{ascends_from}
 use Rattle.cube_model.specs.Facts.{after, has_id, put, withdraw}
 use Rattle.cube_model.proofs.Ascending.{ascends_filter}
+use Rattle.cube_model.proofs.Totals.{total_by-append, total_by-either}
 use Rattle.fact_groups.specs.Edits.{edited_id, given, taken}
 use Rattle.fact_groups.proofs.Ascending.{ascends-append, ascends-from_pairs, ascends-raised, pairs-first, pairs-from_ascends, pairs-rest}
 use Rattle.fact_groups.proofs.Filters.{filter-within}
-use Rattle.fact_groups.proofs.Partition.{sum_by-either, sum_by-ones, total_by-append, total_by-either, total_by-filter}
+use Rattle.fact_groups.proofs.Partition.{sum_by-either, sum_by-ones, total_by-filter}
 
 abbrev pub smaller : ℕ → List Fact → List Fact
 smaller id facts = filter (λ f. nat_lt f.id id) facts

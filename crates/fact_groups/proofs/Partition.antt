@@ -6,6 +6,7 @@ use Rattle.std.proofs.lemmas.Int.{ints}
 use Rattle.std.proofs.lemmas.List.Elements.{All-head, All-tail}
 use Rattle.std.proofs.lemmas.List.Sums.{sum_by-cons}
 use Rattle.cube_model.specs.Answer.{total_by}
+use Rattle.cube_model.proofs.Totals.{total_by-either}
 use Rattle.exact_fraction.proofs.Products.{times-sum}
 use Rattle.exact_fraction.proofs.TotalLaws.{total_by-same}
 use Rattle.fact_groups.specs.Partition.{IsPartition, held_by}
@@ -15,10 +16,6 @@ pub sum_by-either : {X : Type 0} (b : Bool) (f : X → ℕ) (x : X) (xs : List X
 sum_by-either true f x xs = sum_by-cons f x xs
 sum_by-either false f x xs = omega arith
 
-pub total_by-either : {X : Type 0} (b : Bool) (f : X → ℤ) (x : X) (xs : List X) → total_by f (if b then x ∷ xs else xs) ≡ (if b then f x else pos 0) +ℤ total_by f xs
-total_by-either true f x xs = refl
-total_by-either false f x xs = omega (arith, ints)
-
 pub sum_by-filter : {X : Type 0} (p : X → Bool) (f : X → ℕ) (xs : List X) → sum_by f (filter p xs) ≡ sum_by (λ x. if p x then f x else 0) xs
 sum_by-filter p f [] = refl
 sum_by-filter p f (x ∷ xs) = omega (arith, sum_by-either (p x) f x (filter p xs), sum_by-filter p f xs, sum_by-cons (λ x. if p x then f x else 0) x xs)
@@ -26,11 +23,6 @@ sum_by-filter p f (x ∷ xs) = omega (arith, sum_by-either (p x) f x (filter p x
 pub total_by-filter : {X : Type 0} (p : X → Bool) (f : X → ℤ) (xs : List X) → total_by f (filter p xs) ≡ total_by (λ x. if p x then f x else pos 0) xs
 total_by-filter p f [] = refl
 total_by-filter p f (x ∷ xs) = total_by-either (p x) f x (filter p xs) ∙ ap (λ z. (if p x then f x else pos 0) +ℤ z) (total_by-filter p f xs)
-
--- sums over two lists in a row
-pub total_by-append : {X : Type 0} (f : X → ℤ) (xs ys : List X) → total_by f (xs ++ ys) ≡ total_by f xs +ℤ total_by f ys
-total_by-append f [] ys = omega (arith, ints)
-total_by-append f (x ∷ xs) ys = let others = total_by-append f xs ys in omega (arith, ints, others)
 
 -- sums of nothing
 sum_by-nothing : {X : Type 0} (xs : List X) → sum_by (λ x. 0) xs ≡ 0

@@ -17,13 +17,13 @@ use Rattle.cube_model.specs.Answer.{total_by}
 use Rattle.cube_model.specs.Cells.{cells_of}
 use Rattle.cube_model.specs.Limits.{MAX_CELLS, MAX_FACTS, MAX_VALUE}
 use Rattle.cube_model.specs.Tree.{Dimension}
+use Rattle.cube_model.proofs.Totals.{total_by-append}
 use Rattle.region_algebra.specs.Space.{IsRegion, code_of}
 use Rattle.cell_weight.specs.Stats.{stat_at}
 use Rattle.staged_map.specs.Staged.{Places, value_at}
 use Rattle.alloc_rows.specs.Alloc.{AreFewAt}
 use Rattle.fact_groups.specs.Groups.{Group, column_sums, facts_with, group_at, has_code}
 use Rattle.fact_groups.proofs.Frame.{spread-agree}
-use Rattle.fact_groups.proofs.Partition.{total_by-append}
 use Rattle.fact_records.specs.Shape.{IsShape, ShapeValue, policy_over, width_of_all}
 use Rattle.fact_records.specs.Valid.{AreValid, IsValid}
 use Rattle.fact_records.proofs.SmallValues.{count-accepted, small-accepted}

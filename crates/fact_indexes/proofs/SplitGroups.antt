@@ -14,12 +14,13 @@ use Rattle.cube_model.specs.Ascending.{ascends_from}
 use Rattle.cube_model.specs.Cells.{is_among}
 use Rattle.cube_model.specs.Tree.{Dimension, IsTree}
 use Rattle.cube_model.proofs.Ascending.{ascends_cons, ascends_filter}
+use Rattle.cube_model.proofs.Totals.{total_by-append}
 use Rattle.region_algebra.specs.Space.{IsRegion, code_of, region_total}
 use Rattle.region_algebra.proofs.Tuples.{region-at_code, region-below}
 use Rattle.fact_groups.specs.Groups.{AreGrouped, Group, HaveSameGroupsBut, column_sums, count_in, facts_with, group_at, groups_at, has_code, sum_in}
 use Rattle.fact_groups.proofs.Ascending.{once_among}
 use Rattle.fact_groups.proofs.Groups.{count-grouped, count_in-sum, count_over, sum-grouped, sum_by-filter_map, sum_in-total, sum_over}
-use Rattle.fact_groups.proofs.Partition.{lengths_over_keys, total_by-append}
+use Rattle.fact_groups.proofs.Partition.{lengths_over_keys}
 use Rattle.fact_indexes.proofs.Modest.{members}
 
 -- the codes of regions that are not among these

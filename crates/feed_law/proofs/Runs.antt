@@ -13,7 +13,7 @@ use Rattle.store_audit.specs.Sound.{facts_told}
 use Rattle.store_audit.proofs.Once.{sound-none}
 use Rattle.text_lines.specs.Pieces.{front}
 use Rattle.text_lines.specs.Text.{lines_of}
-use Rattle.schema_text.specs.Schema.{SchemaValue, shape_of, weigh_of}
+use Rattle.schema_text.specs.Schema.{SchemaValue, policy_of, shape_of, weigh_of}
 use Rattle.schema_text.specs.SchemaText.{BadLine}
 use Rattle.script_run.specs.Kept.{apply_all}
 use Rattle.script_run.specs.Seen.{SeenAll}
@@ -28,7 +28,7 @@ use Rattle.cube_cli.specs.End.{DidLines, FitsAt, MeansByLines, SaysOf}
 use Rattle.cube_cli.specs.Kinds.{IsAmong}
 use Rattle.cube_cli.specs.RunEnd.{end_of_feed}
 use Rattle.cube_cli.specs.SchemaAlone.{schema_alone}
-use Rattle.cube_cli.specs.Store.{Finds, FindsBy, IsSoundContent, IsSoundOver, batches_over, policy_of, state_over}
+use Rattle.cube_cli.specs.Store.{Finds, FindsBy, IsSoundContent, IsSoundOver, batches_over, state_over}
 use Rattle.cube_cli.proofs.FollowEnds.{base_in-empty}
 use Rattle.store_law.specs.Holds.{content_after}
 use Rattle.feed_law.specs.Commands.{FOLLOWS, HasFollowed, HasLed, LEADS}

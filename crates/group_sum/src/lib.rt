@@ -14,4 +14,4 @@ pub use cube_model::Term;
 pub use difference::SubFault;
 pub use laws::{merge_laws, worked_merges};
 pub use shares::{Share, terms_of_shares};
-pub use terms::{MAX_COLUMNS, Terms};
+pub use terms::{MAX_COLUMNS, Terms, ViewList};

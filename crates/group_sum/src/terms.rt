@@ -9,12 +9,16 @@ ghost use Rattle.group_sum.specs.Merge.{FitsDifference, FitsMerge, HasDifference
 use crate::difference::{SubFault, subtract};
 use crate::merge::{merge, missing};
 use crate::rows::Rows;
-use cube_base::{Cols, MAX_COLS, Memory};
+use cube_base::{Cols, MAX_COLS, Memory, PlainList};
+use cube_model::Region;
 use std::alloc::Global;
 use std::marker::Model;
 
 /// The most columns of an answer, the count included.
 pub const MAX_COLUMNS: u32 = MAX_COLS as u32 + 1;
+
+/// Regions, each with the terms of an answer.
+pub type ViewList = PlainList<(Region, Terms)>;
 
 /// The terms of an answer, ascending by denominator. A term has a numerator for the count, which is column 0 and
 /// at least 1, and one for each further column; none passes 2^120 in absolute value. Contracts see the number of

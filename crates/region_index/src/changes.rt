@@ -8,8 +8,8 @@ use cube_base::{Ids, Memory};
 use staged_map::Staged;
 use std::alloc::{AllocError, Global};
 
-/// The numbers, ascending, each once.
-pub fn ascending(mut ids: Vec<u64>) -> Vec<u64>
+/// Sorts the numbers, and keeps each once. It takes no memory.
+pub fn sort_distinct(mut ids: Vec<u64>) -> Vec<u64>
     ensures ascending { AreAscending result.items }
     ensures same { (id : ℕ) → is_among result.items id ≡ is_among ids.items id }
 {
@@ -45,7 +45,7 @@ pub fn changed_codes(
     ensures ascending { IfOk result (λ codes. AreAscending codes.items) }
     ensures named { IfOk result (λ codes. (code : ℕ) → is_among codes.items code ≡ list_any (λ pair. pair.0 == code) (puts.now ++ drops.now)) }
 {
-    Ok(ascending(codes_in(alloc, puts, drops)?))
+    Ok(sort_distinct(codes_in(alloc, puts, drops)?))
 }
 
 /// The ids of pairs by their code, in the order of the pairs.
@@ -111,7 +111,7 @@ pub fn ascending_copy(alloc: Global, ids: &[u64]) -> Result<Vec<u64>, Memory>
     ensures ascending { IfOk result (λ copy. AreAscending copy.items) }
     ensures same { IfOk result (λ copy. (id : ℕ) → is_among copy.items id ≡ is_among ids.now id) }
 {
-    Ok(ascending(appended(Vec::new(alloc), ids)?))
+    Ok(sort_distinct(appended(Vec::new(alloc), ids)?))
 }
 
 /// Whether an id is among ascending ones.
@@ -142,5 +142,5 @@ pub fn changed(alloc: Global, ids: &[u64], put: &[u64], dropped: &[u64]) -> Resu
     ensures ascending { IfOk result (λ changed. AreAscending changed.items) }
     ensures members { IfOk result (λ changed. (id : ℕ) → is_among changed.items id ≡ (is_among put.now id || (is_among ids.now id && not (is_among dropped.now id)))) }
 {
-    Ok(ascending(appended(kept(alloc, ids, dropped)?, put)?))
+    Ok(sort_distinct(appended(kept(alloc, ids, dropped)?, put)?))
 }

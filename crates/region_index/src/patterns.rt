@@ -10,7 +10,7 @@ ghost use Rattle.region_index.specs.Patterns.{codes_of_patterns, pattern_of, pat
 ghost use Rattle.region_index.specs.Walk.{IsOnTheWay, Probes};
 
 use crate::Steps;
-use crate::changes::ascending;
+use crate::changes::sort_distinct;
 use crate::walk::Walk;
 use cube_base::{Ids, Memory};
 use region_algebra::{Region, Space};
@@ -125,7 +125,7 @@ impl DepthPatterns {
         ensures staged { IfOk result (ArePatternsStaged self.new) }
         ensures counts { IsUnchanged self.old self.new }
     {
-        let keys = ascending(joined(self.alloc, &given, &taken)?);
+        let keys = sort_distinct(joined(self.alloc, &given, &taken)?);
         let entries = self.entries(&keys, &given, &taken)?;
         self.counts.reserve(&keys)?;
         Ok(PatternStage {

@@ -8,7 +8,7 @@ ghost use Rattle.region_index.specs.Patterns.{HasPatterns, patterns_in_use};
 
 use crate::Steps;
 use crate::changes::{
-    ascending, ascending_copy, at_code, at_codes, by_code, changed, changed_codes, copied,
+    ascending_copy, at_code, at_codes, by_code, changed, changed_codes, copied, sort_distinct,
 };
 use crate::patterns::DepthPatterns;
 use crate::walk::Walk;
@@ -79,7 +79,7 @@ impl RegionIndex {
         ensures err { OnErr result (steps.new ≤ steps.old + length (codes_over space.now cell)) }
     {
         let codes = self.held_codes_over(space, cell, steps)?;
-        let ids = ascending(at_codes(self.alloc, &self.ids, codes.as_slice())?);
+        let ids = sort_distinct(at_codes(self.alloc, &self.ids, codes.as_slice())?);
         steps.add(ids.len() as u64);
         Ok(Ids::from(ids))
     }
@@ -134,7 +134,7 @@ impl RegionIndex {
             space,
             leaves: space.cell_at(cell),
         };
-        Ok(Ids::from(ascending(patterns.probed(&walk, steps)?)))
+        Ok(Ids::from(sort_distinct(patterns.probed(&walk, steps)?)))
     }
 
     /// The ids at a code, ascending, none where none is held. It takes no memory.

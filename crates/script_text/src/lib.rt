@@ -17,13 +17,14 @@ mod reply_view;
 mod word;
 
 pub use depths::CutDepths;
+pub use group_sum::ViewList;
 pub use laws::{
     long_line_says_what_its_front_says, printed_bounds_read_back, values_print_as_quotients,
     worked_lines, worked_refusals, worked_replies,
 };
 pub use line::{Line, LineFault, Question};
 pub use line_reader::read_line;
-pub use reply::{Answer, Reply, TableList, ViewList, append_reply, write_reply};
+pub use reply::{Answer, Reply, TableList, append_reply, write_reply};
 pub use reply_fields::{append_field, append_number};
 pub use reply_numbers::append_exact;
 pub use reply_rows::{append_names, append_row};

@@ -14,14 +14,11 @@ use crate::word::{AskWord, ScriptWord};
 use cube_base::{Bytes, Code, Memory, Nums, Pairs, PlainList};
 use cube_model::Region;
 use exact_fraction::{Quotient, Value};
-use group_sum::Terms;
+use group_sum::{Terms, ViewList};
 use linear_pool::Pooled;
 use region_algebra::Space;
 use schema_text::Schema;
 use std::alloc::Global;
-
-/// Regions, each with what the facts in it add up to.
-pub type ViewList = PlainList<(Region, Terms)>;
 
 /// Regions, each with the quotients that are given for it.
 pub type TableList = PlainList<(Region, Pooled)>;

@@ -14,12 +14,12 @@ ghost use Rattle.store_audit.specs.Sound.{rows_counted};
 
 use crate::LoadFault;
 use crate::facts::read_facts;
-use crate::rows::{are_rows_of, look_up, rows_of};
+use crate::rows::{are_rows_of, rows_of};
 use alloc_rows::Alloc;
 use cell_weight::WeightPolicy;
 use cube_base::{Ids, Memory};
 use cube_model::Fact;
-use cube_state::State;
+use cube_state::{State, look_up};
 use fact_keeper::{Batch, KeptFacts, KeptRows, KeptRowsList, Stored};
 use fact_records::Shape;
 use region_algebra::Space;

@@ -1,7 +1,6 @@
 //! The rows of a stored content, compared with those that its facts make.
 ghost use Rattle.std.specs.Prelude.{◌≡◌, ◌≢◌, ◌<◌, ◌↔◌, ◌==◌, ◌&&◌, IfErr, IfOk, IsTrue, None, OnOk, Some, map, slice_get};
 ghost use Rattle.std.specs.Option.{option_copied};
-ghost use Rattle.cube_model.specs.Allocation.{allocation_of};
 ghost use Rattle.cube_model.specs.Difference.{is_same};
 ghost use Rattle.edit_plan.specs.Plan.{kept_rows};
 ghost use Rattle.cube_state.specs.State.{rows_in};
@@ -12,11 +11,10 @@ use alloc_rows::Alloc;
 use cell_weight::WeightPolicy;
 use cube_base::Memory;
 use cube_model::Fact;
-use cube_state::State;
+use cube_state::{State, look_up};
 use fact_keeper::KeptRows;
-use region_index::Steps;
 use std::marker::Brand;
-use std::sync::ledger::{Blank, Ledger};
+use std::sync::ledger::Blank;
 
 /// Compares kept rows with those of a state's facts, in order, and answers the first difference. No row is copied.
 pub(crate) fn check_rows<P: WeightPolicy + Drop>(
@@ -51,21 +49,6 @@ fn check_fact<P: WeightPolicy + Drop>(
         unreachable!()
     };
     compare(place, kept, fact.id, spread)
-}
-
-/// The allocation of the fact of an id, whose step is not counted.
-pub(crate) fn look_up<L: Ledger, P: WeightPolicy + Drop>(
-    state: &State<P>,
-    id: u64,
-    blank: Blank,
-) -> Option<&Alloc>
-    requires name { blank.name ≡ L.name }
-    requires parts { blank.parts ≡ L.parts }
-    requires some { 0 < L.parts }
-    ensures { option_copied result ≡ allocation_of id (rows_in P.weigh state.now) }
-{
-    let mut steps = Steps::<L>::new(blank);
-    state.lookup(id, &mut steps)
 }
 
 /// Compares what is kept at a place with the rows of a fact of this id, which is spread so.

@@ -12,7 +12,7 @@ use Rattle.fact_keeper.specs.declared.content.Batch.{Batch}
 use Rattle.fact_records.specs.declared.fact_seq.BadRecord.{BadRecord as RecordAt}
 use Rattle.fact_keeper.specs.declared.content.Stored.{Stored}
 use Rattle.fact_keeper.specs.Batch.{apply_batch, empty_content}
-use Rattle.schema_text.specs.Schema.{SchemaValue, shape_of}
+use Rattle.schema_text.specs.Schema.{SchemaValue, policy_of, shape_of}
 use Rattle.schema_text.specs.SchemaText.{BadLine, schema_of, schema_text}
 use Rattle.store_audit.specs.Mending.{changed_by, mended, mended_batch}
 use Rattle.store_audit.specs.Sound.{IsSound, facts_told}
@@ -31,7 +31,7 @@ use Rattle.cube_cli.specs.End.{DidKeep, FitsAt, Leaves, MeansAsNeeded, MeansAtOn
 use Rattle.cube_cli.specs.Files.{IsAccepted, import_batch, mending_batches, refused_file, refused_over, row_count_with_file}
 use Rattle.cube_cli.specs.SchemaAlone.{schema_alone}
 use Rattle.cube_cli.specs.Seen.{Holds, IsUntouched}
-use Rattle.cube_cli.specs.Store.{IsEmptyOrSound, IsMendableContent, IsMendableOver, IsSoundContent, IsSoundOver, batches_over, policy_of, schema_batch}
+use Rattle.cube_cli.specs.Store.{IsEmptyOrSound, IsMendableContent, IsMendableOver, IsSoundContent, IsSoundOver, batches_over, schema_batch}
 use Rattle.store_law.specs.Holds.{BeginsSound, IsRebuilt, StaysSound, content_after}
 use Rattle.store_law.proofs.Alone.{alone-schema, text-alone}
 use Rattle.store_law.proofs.Followed.{BeginsWith, all-hold, parts-hold}

@@ -22,14 +22,14 @@ use Rattle.fact_records.specs.Shape.{ShapeValue}
 use Rattle.fact_records.specs.Valid.{AreValid, IsPlaced}
 use Rattle.fact_records.specs.declared.fact_seq.BadRecord.{BadRecord}
 use Rattle.fact_records.specs.RefusedRecord.{refused_among, refused_or}
-use Rattle.schema_text.specs.Schema.{IsSchema, SchemaValue, shape_of}
+use Rattle.schema_text.specs.Schema.{IsSchema, SchemaValue, policy_of, shape_of}
 use Rattle.edit_plan.specs.Plan.{kept_fact}
 use Rattle.edit_plan.specs.Whole.{difference_with}
 use Rattle.cube_state.proofs.Accepting.{AreValid-new}
 use Rattle.store_audit.specs.Sound.{IsSound, facts_told}
 use Rattle.csv_facts.specs.RecordList.{records_of}
 use Rattle.cube_cli.specs.Files.{IsAccepted, facts_with_file, import_batch, seq_of}
-use Rattle.cube_cli.specs.Store.{IsSoundOver, policy_of}
+use Rattle.cube_cli.specs.Store.{IsSoundOver}
 use Rattle.cube_cli.proofs.KeptFacts.{pairs-map}
 use Rattle.store_law.specs.Holds.{HoldsState}
 use Rattle.store_law.proofs.Filed.{facts-placed}

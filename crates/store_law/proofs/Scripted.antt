@@ -26,7 +26,7 @@ use Rattle.store_audit.specs.Sound.{facts_told}
 use Rattle.store_audit.specs.declared.finding.Finding.{Finding}
 use Rattle.store_audit.proofs.Once.{sound-none}
 use Rattle.schema_text.specs.Growth.{dims_with}
-use Rattle.schema_text.specs.Schema.{IsSchema, SchemaValue, schema_policy, shape_of, weigh_of}
+use Rattle.schema_text.specs.Schema.{IsSchema, SchemaValue, policy_of, schema_policy, shape_of, weigh_of}
 use Rattle.schema_text.specs.SchemaText.{BadLine}
 use Rattle.script_text.specs.declared.line.Line.{Line}
 use Rattle.script_text.specs.declared.line.Line.TheVariants as line
@@ -38,7 +38,7 @@ use Rattle.cube_core.specs.Growth.{growth_difference, judge_growth}
 use Rattle.script_run.specs.Kept.{apply_all, batches, batches_at, batches_from, batches_of}
 use Rattle.script_run.specs.Run.{State, accepted, edit_step, growth, growth_step, replied, run, schema_at, step, step_from, step_of}
 use Rattle.cube_cli.specs.SchemaAlone.{schema_alone}
-use Rattle.cube_cli.specs.Store.{Finds, FindsBy, IsSoundContent, IsSoundOver, state_over, policy_of}
+use Rattle.cube_cli.specs.Store.{Finds, FindsBy, IsSoundContent, IsSoundOver, state_over}
 use Rattle.cube_cli.proofs.Growths.{IsLeafOf, command_line-leaf, line_of-leaf}
 use Rattle.store_law.specs.Holds.{HoldsState, content_after, state_reached}
 use Rattle.store_law.proofs.Edited.{edited-holds}

@@ -15,12 +15,12 @@ use Rattle.fact_keeper.specs.Batch.{apply_batch, empty_content, fact_id}
 use Rattle.fact_records.specs.Accepted.{cols_refusal, region_refusal}
 use Rattle.fact_records.specs.Shape.{ShapeValue}
 use Rattle.fact_records.specs.Valid.{AreValid, IsValid}
-use Rattle.schema_text.specs.Schema.{SchemaValue, shape_of}
+use Rattle.schema_text.specs.Schema.{SchemaValue, policy_of, shape_of}
 use Rattle.edit_plan.specs.Plan.{kept_fact, kept_rows}
 use Rattle.store_audit.specs.Sound.{AreGood, fact_fault, fact_told, facts_told, fault_at, has_wrong_id, id_before}
 use Rattle.store_audit.proofs.Judging.{none-refused}
 use Rattle.store_audit.proofs.Reading.{valid-good}
-use Rattle.cube_cli.specs.Store.{policy_of, schema_batch}
+use Rattle.cube_cli.specs.Store.{schema_batch}
 use Rattle.cube_cli.proofs.KeptFacts.{told-ascends}
 use Rattle.store_law.specs.Holds.{HoldsState}
 

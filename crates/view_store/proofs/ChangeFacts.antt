@@ -11,6 +11,7 @@ use Rattle.std.proofs.lemmas.List.Sums.{sum_by-append, sum_by-cons}
 use borrow.Author.Differences.{product_is, same_in}
 use Rattle.cube_model.specs.Allocation.{ExtendedFact}
 use Rattle.cube_model.specs.Answer.{count_at, over, sum_at, total_by, weight_inside}
+use Rattle.cube_model.proofs.Totals.{total_by-append}
 use Rattle.group_sum.proofs.Adding.{get_or-zeros}
 use Rattle.view_store.specs.declared.change.ViewChange.{ViewChange}
 use Rattle.view_store.specs.Changes.{change_fact, change_facts}
@@ -26,10 +27,6 @@ filter-replicate p false (suc n) x is = rw is (filter-replicate p false n x is)
 total_by-zeros : {X : Type 0} (f : X → ℤ) (n : ℕ) (x : X) → f x ≡ pos 0 → total_by f (replicate n x) ≡ pos 0
 total_by-zeros f zero x none = refl
 total_by-zeros f (suc n) x none = omega (arith, ints, none, total_by-zeros f n x none)
-
-total_by-append : {X : Type 0} (f : X → ℤ) (xs ys : List X) → total_by f (xs ++ ys) ≡ total_by f xs +ℤ total_by f ys
-total_by-append f [] ys = omega (arith, ints)
-total_by-append f (x ∷ xs) ys = omega (arith, ints, total_by-append f xs ys)
 
 -- facts with more behind them
 pub count_at-append : (cells : List ℕ) (facts more : List ExtendedFact) (d : ℕ) → count_at cells (facts ++ more) d ≡ count_at cells facts d + count_at cells more d

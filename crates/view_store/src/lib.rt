@@ -9,10 +9,11 @@ mod view;
 mod views;
 
 pub use change::{ViewChange, ViewStage};
+pub use group_sum::ViewList;
 pub use laws::{
     views_answer_as_their_facts, views_follow_their_facts, views_list_in_the_order_of_their_cuts,
     worked_changes, worked_views,
 };
 pub use region_algebra::{Depths, ViewDef, ViewDefs};
-pub use view::{View, ViewList};
+pub use view::View;
 pub use views::Views;

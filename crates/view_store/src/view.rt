@@ -16,14 +16,11 @@ use crate::ViewChange;
 use crate::drafts::{add_change, copy_of, make_entries};
 use cube_base::{Memory, PlainList};
 use cube_model::Region;
-use group_sum::Terms;
+use group_sum::{Terms, ViewList};
 use region_algebra::{Depths, Space};
 use staged_map::Staged;
 use std::alloc::Global;
 use std::marker::Model;
-
-/// Regions with their terms.
-pub type ViewList = PlainList<(Region, Terms)>;
 
 /// For each dimension the depth of a cut, and the terms of the regions that have any, by region code.
 #[derive(Drop)]

@@ -11,11 +11,11 @@ ghost use Rattle.view_store.specs.Rolling.{FitsUnder, listed_under, rolled_up, s
 ghost use Rattle.view_store.specs.Views.{AreViewsOf, IsEntry, IsViewOf, listed, view_of, without_entries};
 
 use crate::change::Entries;
-use crate::view::{View, ViewList};
+use crate::view::View;
 use crate::{ViewChange, ViewStage};
 use cube_base::{Memory, PlainList};
 use cube_model::Region;
-use group_sum::Terms;
+use group_sum::{Terms, ViewList};
 use region_algebra::{Depths, Space, ViewDef};
 use std::alloc::Global;
 use std::marker::Model;

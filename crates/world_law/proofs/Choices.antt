@@ -7,11 +7,11 @@ use Rattle.std.proofs.lemmas.List.Elements.{All-head, All-tail}
 use Rattle.std.proofs.lemmas.List.Sums.{sum_by-append, sum_by_more_le}
 use Rattle.std.proofs.Math.Nat.{mul-le-mul_right, mul_comm}
 use Rattle.cube_model.specs.Limits.{MAX_VALUE}
+use Rattle.cube_model.proofs.Totals.{total_by-append}
 use Rattle.world_law.specs.declared.walk.Found.{Found}
 use Rattle.world_law.specs.Limits.{MAX_MASS}
 use Rattle.world_law.specs.Choices.{AddsWorlds, AreSmall, Choice, HasRoom, IsBoundedByMass, gain, heft, ways, whole, yield}
 use Rattle.world_law.proofs.Products.{scaled-by_none, scaled-none, scaled-sum, scaled-twice, sum-scaled}
-use Rattle.world_law.proofs.Totals.{total_by-append}
 
 -- one world more
 pub within_more : (t s : ℤ) (m w limit : ℕ) → nat_abs t ≤ m * limit → nat_abs s ≤ limit → nat_abs (t +ℤ s *ℤ pos w) ≤ (m + w) * limit

@@ -14,11 +14,11 @@ use Rattle.cube_model.specs.Allocation.{ExtendedFact}
 use Rattle.cube_model.specs.Answer.{answer, bound_of, count_at, over, sum_at, terms_below, total_by, weight_inside}
 use Rattle.cube_model.specs.Cells.{cells_of}
 use Rattle.cube_model.specs.Tree.{Dimension}
+use Rattle.cube_model.proofs.Totals.{total_by-append, total_by-either}
 use Rattle.world_law.specs.Worlds.{column_of, mass}
 use Rattle.world_law.specs.Law.{IsLawful, IsShared, cleared, numerator, part_of}
 use Rattle.world_law.proofs.Expectation.{den-divides, divides, expectation}
 use Rattle.world_law.proofs.Products.{product_comm, scaled-by_none, scaled-none, sum-scaled}
-use Rattle.world_law.proofs.Totals.{total_by-append, total_by-either}
 
 -- the facts whose denominator is smaller
 abbrev under : ℕ → List ExtendedFact → List ExtendedFact

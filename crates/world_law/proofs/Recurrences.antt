@@ -10,10 +10,11 @@ use Rattle.cube_model.specs.Allocation.{ExtendedFact}
 use Rattle.cube_model.specs.Answer.{total_by, weight_inside}
 use Rattle.cube_model.specs.Cells.{cells_of, is_among}
 use Rattle.cube_model.specs.Tree.{Dimension}
+use Rattle.cube_model.proofs.Totals.{total_by-either}
 use Rattle.world_law.specs.Choices.{own}
 use Rattle.world_law.specs.Worlds.{World, column_of, mass, total, with_fact, world_count, world_sum, worlds}
 use Rattle.world_law.proofs.Products.{scaled-by_none, scaled-none, scaled-sum, scaled-twice, sum-scaled}
-use Rattle.world_law.proofs.Totals.{sum_by-flat_map, total_by-either, total_by-flat_map}
+use Rattle.world_law.proofs.Totals.{sum_by-flat_map, total_by-flat_map}
 
 -- the weights of rows
 abbrev pub weights : List (ℕ × ℕ) → ℕ

@@ -5,20 +5,12 @@ use Rattle.std.specs.Prelude.{if◌then◌else◌}
 use Rattle.std.proofs.lemmas.Int.{ints}
 use Rattle.std.proofs.lemmas.List.Sums.{sum_by-append, sum_by-cons}
 use Rattle.cube_model.specs.Answer.{total_by}
+use Rattle.cube_model.proofs.Totals.{total_by-append}
 use Rattle.world_law.proofs.Products.{scaled-none, sum-scaled}
-
-pub total_by-append : {X : Type 0} (f : X → ℤ) (xs ys : List X) → total_by f (xs ++ ys) ≡ total_by f xs +ℤ total_by f ys
-total_by-append f [] ys = omega (arith, ints)
-total_by-append f (x ∷ xs) ys = let others = total_by-append f xs ys in omega (arith, ints, others)
 
 pub total_by-flat_map : {X Y : Type 0} (f : Y → ℤ) (g : X → List Y) (xs : List X) → total_by f (flat_map g xs) ≡ total_by (λ x. total_by f (g x)) xs
 total_by-flat_map f g [] = refl
 total_by-flat_map f g (x ∷ xs) = total_by-append f (g x) (flat_map g xs) ∙ ap (λ z. total_by f (g x) +ℤ z) (total_by-flat_map f g xs)
-
--- of those that pass, or of all with nothing of the others
-pub total_by-either : {X : Type 0} (b : Bool) (f : X → ℤ) (x : X) (xs : List X) → total_by f (if b then x ∷ xs else xs) ≡ (if b then f x else pos 0) +ℤ total_by f xs
-total_by-either true f x xs = refl
-total_by-either false f x xs = omega (arith, ints)
 
 -- numbers that agree have one sum
 pub total_by-alike : {X : Type 0} (f g : X → ℤ) (xs : List X) → ((x : X) → f x ≡ g x) → total_by f xs ≡ total_by g xs

@@ -7,9 +7,9 @@ use Rattle.std.proofs.lemmas.List.Elements.{All-append, All-cons, All-head, All-
 use Rattle.std.proofs.lemmas.List.Folds.{list_any_at}
 use Rattle.cube_model.specs.Allocation.{ExtendedFact}
 use Rattle.cube_model.specs.Cells.{is_among}
+use Rattle.cube_model.proofs.Totals.{total_by-either}
 use Rattle.world_law.specs.Choices.{own}
 use Rattle.world_law.specs.Worlds.{World, column_of, with_fact, world_sum, worlds}
-use Rattle.world_law.proofs.Totals.{total_by-either}
 use Rattle.world_range.specs.declared.extreme.Extreme.{Extreme}
 use Rattle.world_range.specs.declared.extreme.Extreme.TheVariants.{Greatest, Least}
 use Rattle.world_range.specs.Ends.{HasRows}

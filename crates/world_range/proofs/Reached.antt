@@ -7,8 +7,8 @@ use Rattle.std.proofs.lemmas.List.Elements.{All-head, All-tail, Contains-append_
 use Rattle.cube_model.specs.Allocation.{ExtendedFact}
 use Rattle.cube_model.specs.Cells.{cells_of, is_among}
 use Rattle.cube_model.specs.Tree.{Dimension}
+use Rattle.cube_model.proofs.Totals.{total_by-either}
 use Rattle.world_law.specs.Worlds.{World, column_of, with_fact, world_sum, worlds}
-use Rattle.world_law.proofs.Totals.{total_by-either}
 use Rattle.world_range.specs.declared.extreme.Extreme.{Extreme}
 use Rattle.world_range.specs.declared.extreme.Extreme.TheVariants.{Greatest, Least}
 use Rattle.world_range.specs.Ends.{AreEnds, HasRows, IsReachedEnd, IsWorld}

@@ -7,13 +7,13 @@ use Rattle.cube_model.specs.Allocation.{ExtendedFact}
 use Rattle.cube_model.specs.Cells.{is_among}
 use Rattle.cube_model.specs.Limits.{MAX_VALUE}
 use Rattle.cube_model.specs.Tree.{Dimension}
+use Rattle.cube_model.proofs.Totals.{total_by-append}
 use Rattle.world_law.specs.declared.placed.Placed.{Placed}
 use Rattle.world_law.specs.Law.{IsShared}
 use Rattle.world_law.specs.Placed.{IsPlacedFor, placed_fact, placed_facts}
 use Rattle.world_law.specs.Worlds.{column_of}
 use Rattle.world_law.proofs.Judging.{of_read}
 use Rattle.world_law.proofs.Placing.{own_small, shared}
-use Rattle.world_law.proofs.Totals.{total_by-append}
 use Rattle.world_range.specs.declared.extreme.Extreme.{Extreme}
 use Rattle.world_range.specs.Ends.{AreEnds, HasRows}
 use Rattle.world_range.specs.Picks.{end_of, part, pick, pick_among, picks}

@@ -3,4 +3,4 @@ use Rattle.region_index.proofs.Changing.{among-kept}
 use Rattle.region_index.proofs.changes.changed.Goals as goal
 
 pub returns-clause-members : goal.returns-clause-members
-returns-clause-members c = among-kept _ _ _ _ _ _ c.in_ok-kept.ensures c.in_ok-appended.ensures c.ascending.ensures.same
+returns-clause-members c = among-kept _ _ _ _ _ _ c.in_ok-kept.ensures c.in_ok-appended.ensures c.sort_distinct.ensures.same

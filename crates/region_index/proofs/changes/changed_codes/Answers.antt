@@ -8,6 +8,6 @@ use Rattle.region_index.proofs.changes.changed_codes.Goals as goal
 
 pub returns-clause-named : goal.returns-clause-named
 returns-clause-named c = λ code.
-    c.ascending.ensures.same code
+    c.sort_distinct.ensures.same code
     ∙ ap (λ codes. is_among codes code) c.in_ok-codes_in.ensures
     ∙ list_any-map (λ m. m == code) (λ (pair : Pair). pair.0) (c.args.puts.now ++ c.args.drops.now)

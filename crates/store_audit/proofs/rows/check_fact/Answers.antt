@@ -12,7 +12,7 @@ use Rattle.store_audit.proofs.rows.check_fact.Goals as goal
 pub unreachable-requires : goal.unreachable-requires
 unreachable-requires g c =
     let state = c.args.state.now in
-    never-lost (policy_in g.P.WeightPolicy.weigh state) state.dims state.facts c.args.place c.args.fact.now c.requires c.facts.ensures.valid.ascending c.look_up.result c.look_up.ensures c.in_default.is
+    never-lost (policy_in g.P.WeightPolicy.weigh state) state.dims state.facts c.args.place c.args.fact.now c.requires c.facts.ensures.valid.ascending c.look_up.result c.look_up.ensures.rows c.in_default.is
 
 pub returns-clause-same : goal.returns-clause-same
 returns-clause-same g c =
@@ -20,14 +20,14 @@ returns-clause-same g c =
     on_ok_weaker c.compare.result
     (λ is.
     is
-    ∙ rows-found (policy_in g.P.WeightPolicy.weigh state) state.dims state.facts c.args.place c.args.fact.now c.requires c.facts.ensures.valid.ascending c.look_up.result c.look_up.ensures c.in-Some.spread.now (ap option_copied c.in-Some.is))
+    ∙ rows-found (policy_in g.P.WeightPolicy.weigh state) state.dims state.facts c.args.place c.args.fact.now c.requires c.facts.ensures.valid.ascending c.look_up.result c.look_up.ensures.rows c.in-Some.spread.now (ap option_copied c.in-Some.is))
     c.compare.ensures.same
 
 pub returns-clause-fault : goal.returns-clause-fault
 returns-clause-fault g c =
     let state = c.args.state.now in
     let its =
-    rows-found (policy_in g.P.WeightPolicy.weigh state) state.dims state.facts c.args.place c.args.fact.now c.requires c.facts.ensures.valid.ascending c.look_up.result c.look_up.ensures c.in-Some.spread.now (ap option_copied c.in-Some.is) in
+    rows-found (policy_in g.P.WeightPolicy.weigh state) state.dims state.facts c.args.place c.args.fact.now c.requires c.facts.ensures.valid.ascending c.look_up.result c.look_up.ensures.rows c.in-Some.spread.now (ap option_copied c.in-Some.is) in
     IfErr-weaker c.compare.result (DiffersAt c.args.place (option_copied c.args.kept) (Some (rows_told c.args.fact.now.id c.in-Some.spread.now)))
     (DiffersAt c.args.place (option_copied c.args.kept) (slice_get (map kept_rows (rows_in g.P.WeightPolicy.weigh state)) c.args.place))
     (λ fault told. subst (λ there. DiffersAt c.args.place (option_copied c.args.kept) there fault) its told) c.compare.ensures.fault

@@ -25,8 +25,8 @@ with_code-requires-2 g c = given-region (policy_in g.P.WeightPolicy.weigh c.args
 pub returns-clause-codes : goal.returns-clause-codes
 returns-clause-codes g c =
     hold-changed (policy_in g.P.WeightPolicy.weigh c.args.self.now) c.args.self.now.shape c.args.self.now.dims c.args.self.now.facts c.args.moves.now c.requires c.facts.ensures.valid _ _
-    (subst AreAscending (sym c.from.ensures) c.ascending.ensures.ascending)
+    (subst AreAscending (sym c.from.ensures) c.sort_distinct.ensures.ascending)
     (λ code.
-    ap (λ cs. is_among cs code) c.from.ensures ∙ c.ascending.ensures.same code ∙ c.in_ok-all.ensures code
+    ap (λ cs. is_among cs code) c.from.ensures ∙ c.sort_distinct.ensures.same code ∙ c.in_ok-all.ensures code
     ∙ ap (λ b. b || option_map_or (has_code c.args.self.now.dims code) c.args.moves.now.given false)
     (c.in_ok-taken.ensures code ∙ ap (λ b. b || option_map_or (has_code c.args.self.now.dims code) c.args.moves.now.taken false) (c.in_ok-over.ensures.codes code ∙ ap (λ (cs : List Change). is_over_one c.args.self.now.dims cs c.args.self.now.facts code) c.as_slice.ensures)))

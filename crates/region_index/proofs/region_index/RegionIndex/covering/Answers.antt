@@ -7,5 +7,5 @@ use Rattle.region_index.proofs.region_index.RegionIndex.covering.Goals as goal
 
 pub returns-clause-ids : goal.returns-clause-ids
 returns-clause-ids g c =
-    let ids = AreIdsAt-found c.args.self.now (codes_over c.args.space.now c.args.cell) _ _ _ c.in_ok-codes.ensures.codes (search rules) c.ascending-ids.ensures.ascending c.ascending-ids.ensures.same in
+    let ids = AreIdsAt-found c.args.self.now (codes_over c.args.space.now c.args.cell) _ _ _ c.in_ok-codes.ensures.codes (search rules) c.sort_distinct-ids.ensures.ascending c.sort_distinct-ids.ensures.same in
     subst (AreIdsAt c.args.self.now (codes_over c.args.space.now c.args.cell)) (sym c.from.ensures) ids

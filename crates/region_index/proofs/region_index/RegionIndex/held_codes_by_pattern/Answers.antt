@@ -13,7 +13,7 @@ returns-in_err-probed-clause-regions g c = steps-fewer _ _ _ c.cell_at.ensures.c
 pub returns-clause-codes : goal.returns-clause-codes
 returns-clause-codes g c =
     c.from.ensures
-    ∙ held_codes-found c.args.self.now c.args.space.now _ c.args.patterns.now c.requires.patterns c.places.ensures.each _ c.args.cell _ _ _ _ c.self.view_is c.cell_at.ensures.cell c.in_ok-probed.ensures.ok c.ascending.ensures.ascending c.ascending.ensures.same
+    ∙ held_codes-found c.args.self.now c.args.space.now _ c.args.patterns.now c.requires.patterns c.places.ensures.each _ c.args.cell _ _ _ _ c.self.view_is c.cell_at.ensures.cell c.in_ok-probed.ensures.ok c.sort_distinct.ensures.ascending c.sort_distinct.ensures.same
 
 pub returns-clause-regions : goal.returns-clause-regions
 returns-clause-regions g c =

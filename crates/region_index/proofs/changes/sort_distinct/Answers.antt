@@ -6,7 +6,7 @@ use Rattle.std.proofs.lemmas.List.Sorted.{list_any-IsPermutation}
 use Rattle.cube_model.specs.Cells.{is_among}
 use Rattle.region_index.specs.Content.{AreAscending}
 use Rattle.region_index.proofs.Ascent.{any-dedup, ascends-dedup}
-use Rattle.region_index.proofs.changes.ascending.Goals as goal
+use Rattle.region_index.proofs.changes.sort_distinct.Goals as goal
 
 pub returns-clause-ascending : goal.returns-clause-ascending
 returns-clause-ascending c =
