@@ -58,7 +58,6 @@ fn ask_store<K: Sink, Q: Keeper>(
 {
     let policy = schema.policy();
     let loaded = Cube::from_stored(alloc, schema, &content, policy);
-    // Dropped by a call, which is proved once: in place it would be proved on each way out.
     drop(content);
     match loaded {
         Ok(cube) => ask_cube(alloc, cube, words, out, keeper),
@@ -80,7 +79,6 @@ fn ask_cube<K: Sink, Q: Keeper>(
     ensures stays_open { StaysOpen (Q.tells keeper.old) (Q.tells keeper.new) }
 {
     let Ok(line) = join(alloc, words) else {
-        // Dropped by a call, which is proved once: in place it would be proved on each way out.
         drop(cube);
         return End::Memory { done: 0 };
     };

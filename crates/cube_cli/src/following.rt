@@ -67,7 +67,6 @@ fn follow_store<S: Source, K: Sink, Q: Keeper>(
             Err(Memory) => End::Memory { done: 0 },
         },
         Err(fault) => {
-            // Dropped by a call, which is proved once: in place it would be proved on each way out.
             drop(content);
             end_of_load(fault)
         }
@@ -79,7 +78,6 @@ fn base_of(alloc: Global, cube: Cube<PolicyWord>, content: Stored) -> Result<Bas
     ensures { IfOk result (λ base. base ≡ record { text = schema_text cube.schema; facts = facts_told content }) }
 {
     let text = write_schema(alloc, cube.schema());
-    // Dropped by a call, which is proved once: in place it would be proved on each way out.
     drop(cube);
     let Stored {
         schema: _,
@@ -104,7 +102,6 @@ fn follow_over<S: Source, K: Sink, Q: Keeper>(
     ensures ended { EndsOnce (S.tells source.old).ends (S.tells source.new).ends }
 {
     let Ok(input) = LineInput::new(alloc) else {
-        // Dropped by a call, which is proved once: in place it would be proved on each way out.
         drop(base);
         return End::Memory { done: 0 };
     };

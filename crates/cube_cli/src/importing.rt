@@ -37,7 +37,6 @@ pub fn import_file<K: Sink, Q: Keeper>(
     ensures stays_open { StaysOpen (Q.tells keeper.old) (Q.tells keeper.new) }
 {
     let Ok(seq) = read_facts(alloc, cube.schema(), file) else {
-        // Dropped by a call, which is proved once: in place it would be proved on each way out.
         drop(cube);
         return End::Memory { done: 0 };
     };

@@ -42,7 +42,6 @@ pub fn init<S: Source, K: Sink, Q: Keeper>(
     match keeper.load(alloc, name) {
         Ok(content) => {
             let is_empty = content.is_empty();
-            // Dropped by a call, which is proved once: in place it would be proved on each way out.
             drop(content);
             if is_empty {
                 init_empty(alloc, source, out, keeper)
@@ -91,7 +90,6 @@ fn init_schema<K: Sink, Q: Keeper>(
     ensures stays_open { StaysOpen (Q.tells keeper.old) (Q.tells keeper.new) }
 {
     let kept = keep_schema(alloc, &schema, keeper);
-    // Dropped by a call, which is proved once: in place it would be proved on each way out.
     drop(schema);
     match kept {
         Ok(()) => end_of_write(write_line(out, LINE), 0, 1),
@@ -111,7 +109,6 @@ fn keep_schema<Q: Keeper>(alloc: Global, schema: &Schema, keeper: &mut Q) -> Res
         return Err(KeepError::Memory);
     };
     let kept = keeper.commit(&batch);
-    // Dropped by a call, which is proved once: in place it would be proved on each way out.
     drop(batch);
     kept
 }

@@ -36,7 +36,6 @@ pub fn lead_over<S: Source, K: Sink, Q: Keeper>(
     ensures ended { EndsOnce (S.tells source.old).ends (S.tells source.new).ends }
 {
     let Ok(input) = LineInput::new(alloc) else {
-        // Dropped by a call, which is proved once: in place it would be proved on each way out.
         drop(cube);
         return End::Memory { done: 0 };
     };

@@ -55,7 +55,6 @@ fn rebuild_store<K: Sink, Q: Keeper>(
 {
     let policy = schema.policy();
     let mended = Cube::mend_rows(alloc, &schema, &content, policy);
-    // Dropped by calls, which are proved once: in place they would be proved on each way out.
     drop(content);
     drop(schema);
     match mended {
@@ -79,7 +78,6 @@ fn keep_mending<K: Sink, Q: Keeper>(
     let changed = changed_by(&mending);
     if changed == 0 {
         let told = tell_rebuilt(alloc, &mending, 0, out);
-        // Dropped by a call, which is proved once: in place it would be proved on each way out.
         drop(mending);
         return end_of_write(told, 0, 0);
     }

@@ -88,7 +88,6 @@ pub fn open_store<Q: Keeper>(
         Err(KeepError::Memory) => return Err(OpenStop::Load(LoadFault::Memory)),
     };
     if content.is_empty() {
-        // Dropped by a call, which is proved once: in place it would be proved on each way out.
         drop(content);
         return Err(OpenStop::NoCube);
     }
@@ -128,7 +127,6 @@ fn do_store<S: Source, K: Sink, Q: Keeper>(
 {
     let policy = schema.policy();
     let loaded = Cube::from_stored(alloc, schema, &content, policy);
-    // Dropped by a call, which is proved once: in place it would be proved on each way out.
     drop(content);
     match loaded {
         Ok(cube) => do_cube(alloc, task, cube, source, out, keeper),
@@ -171,7 +169,6 @@ fn run_over<S: Source, K: Sink, Q: Keeper>(
     ensures ended { EndsOnce (S.tells source.old).ends (S.tells source.new).ends }
 {
     let Ok(input) = LineInput::new(alloc) else {
-        // Dropped by a call, which is proved once: in place it would be proved on each way out.
         drop(cube);
         return End::Memory { done: 0 };
     };

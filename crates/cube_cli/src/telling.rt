@@ -69,7 +69,6 @@ fn tell_store<K: Sink>(
     match Cube::from_stored(alloc, schema, content, policy) {
         Ok(cube) => {
             let told = write_told(alloc, telling, &cube, out);
-            // Dropped by a call, which is proved once: in place it would be proved on each way out.
             drop(cube);
             end_of_write(told, 0, 0)
         }

@@ -31,7 +31,6 @@ pub(crate) fn carry_out<P: WeightPolicy + Drop, K: Keeper>(
     ensures same_journal { OnErr result ((K.tells keeper.new).journal ≡ (K.tells keeper.old).journal) }
 {
     if let Err(fault) = keeper.commit(plan.batch()) {
-        // Dropped by a call, which is proved once: in place it would be proved on each way out.
         drop(plan);
         return Err(fault);
     }

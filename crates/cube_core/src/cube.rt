@@ -86,7 +86,6 @@ impl<P: WeightPolicy + Drop> Cube<P> {
         let space = match schema.space().copy() {
             Ok(space) => space,
             Err(fault) => {
-                // Dropped by a call, which is proved once: in place it would be proved on each way out.
                 drop(schema);
                 return Err(fault);
             }
@@ -131,7 +130,6 @@ impl<P: WeightPolicy + Drop> Cube<P> {
         let space = match schema.space().copy() {
             Ok(space) => space,
             Err(fault) => {
-                // Dropped by a call, which is proved once: in place it would be proved on each way out.
                 drop(schema);
                 return Err(LoadFault::from(fault));
             }
@@ -294,7 +292,6 @@ impl<P: WeightPolicy + Drop> Cube<P> {
         ensures expectations { IfOk result (λ terms. AreExpected (width_of_all self.now.schema.measures) self.now.schema.dims r (cube_rows P.weigh self.now) terms.terms) }
         ensures children { IfOk result (λ terms. AddUpOverChildren (width_of_all self.now.schema.measures) self.now.schema.dims r (cube_rows P.weigh self.now) terms.terms) }
     {
-        // What a schema says of itself, and a state of its facts.
         let _ = self.schema.space();
         let _ = self.state.facts();
         self.state.answer(r)
@@ -346,7 +343,6 @@ impl<P: WeightPolicy + Drop> Cube<P> {
         ensures accepted { OnOk result (fault_of (placed_in P.weigh self.now) ≡ None) }
         ensures refused { IfErr result (IsWorldFault (placed_in P.weigh self.now)) }
     {
-        // What a cube says of its facts.
         let _ = self.facts();
         let placed = self.placed()?;
         let space = self.schema.space();

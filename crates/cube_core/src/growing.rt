@@ -1,4 +1,4 @@
-//! The growth of a dimension of a cube. What is large is dropped by calls of `drop`, each of which is proved once.
+//! The growth of a dimension of a cube.
 ghost use Rattle.std.specs.Prelude.{◌≡◌, ◌++◌, ◌∷◌, [], None, true, option_map, IfErr, IfOk, IsTrue, OnErr, OnOk};
 ghost use Rattle.cube_model.specs.Ascending.{ascends_from};
 ghost use Rattle.cube_state.specs.State.{policy_in};
@@ -111,7 +111,6 @@ fn growth_to<P: WeightPolicy + Drop + Copy>(
     let text = match write_schema(alloc, &schema) {
         Ok(text) => text,
         Err(fault) => {
-            // Dropped by a call, which is proved once: in place it would be proved on each way out.
             drop(schema);
             return Err(EditFault::from(fault));
         }

@@ -36,7 +36,6 @@ impl<P: WeightPolicy + Drop> Cube<P> {
         let shape = match schema.shape().copy() {
             Ok(shape) => shape,
             Err(fault) => {
-                // Dropped by a call, which is proved once.
                 drop(space);
                 return Err(LoadFault::from(fault));
             }

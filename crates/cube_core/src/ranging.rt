@@ -46,7 +46,6 @@ impl<P: WeightPolicy + Drop> Cube<P> {
         ensures greatest { IfOk result (λ ends. ends.greatest ≡ end_of Greatest (cells_of self.now.schema.dims r) column (cube_rows P.weigh self.now)) }
         ensures law { AreEnds self.now.schema.dims r column (cube_rows P.weigh self.now) }
     {
-        // What a schema says of itself, and a state of its facts.
         let _ = self.schema.space();
         let _ = self.state.facts();
         self.state.ends(r, column)
@@ -101,7 +100,6 @@ fn spread_of<'a, P: WeightPolicy + Drop>(state: &'a State<P>, fact: &Fact) -> &'
     requires { fact_of fact.now.id state.now.facts ≡ Some fact.now }
     ensures { result.now ≡ allocation (policy_in P.weigh state.now) state.now.dims state.now.facts fact.now }
 {
-    // What a state says of its facts.
     let _ = state.facts();
     let Some(spread) = state.spread_at(state.code(fact.region)) else {
         unreachable!()

@@ -33,7 +33,6 @@ impl<P: WeightPolicy + Drop> Cube<P> {
         ensures moderate { IfOk result (All (λ entry. IsModerate entry.1.terms)) }
         ensures merged { IfOk result (λ list. merge_all (width_of_all self.now.schema.measures) (map (λ entry. entry.1.terms) list) ≡ cube_answer P.weigh self.now r) }
     {
-        // What a schema says of itself, and a state of its facts.
         let _ = self.schema.space();
         let _ = self.state.facts();
         self.state.table(depths, r)

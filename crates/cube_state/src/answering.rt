@@ -23,7 +23,6 @@ impl<P: WeightPolicy + Drop> State<P> {
         requires { IsRegion self.now.dims r }
         ensures { IfOk result (λ terms. terms ≡ terms_in P.weigh self.now r) }
     {
-        // What a space says of its dimensions, a shape of its measures, and views of their columns.
         let _ = self.space.dims();
         let _ = self.shape.columns();
         let _ = self.views.columns();
@@ -52,7 +51,6 @@ impl<P: WeightPolicy + Drop> State<P> {
         requires codes { codes.now ≡ codes_touching self.now.dims r }
         ensures { IfOk result (λ terms. terms ≡ terms_in P.weigh self.now r) }
     {
-        // What a space says of its dimensions, and a map of its keys.
         let _ = self.space.dims();
         let _ = self.groups.count();
         let columns = self.shape.columns();
@@ -65,7 +63,6 @@ impl<P: WeightPolicy + Drop> State<P> {
         requires { IsRegion self.now.dims r }
         ensures { IfOk result (λ terms. terms ≡ terms_in P.weigh self.now r) }
     {
-        // What a space says of its dimensions, and a map of its keys.
         let _ = self.space.dims();
         let _ = self.groups.count();
         let columns = self.shape.columns();

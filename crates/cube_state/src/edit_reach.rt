@@ -32,7 +32,6 @@ impl<P: WeightPolicy + Drop> State<P> {
         ensures moves { IfOk result (AreMoves (policy_in P.weigh self.now) self.now.shape self.now.dims self.now.facts) }
         ensures edit { IfOk result (λ moves. moves.edit ≡ edit.now) }
     {
-        // What a state says of its facts, and a shape of its measures.
         let _ = self.facts();
         let _ = self.shape().columns();
         let touched = self.touched(edit)?;
@@ -54,7 +53,6 @@ impl<P: WeightPolicy + Drop> State<P> {
         ensures codes { IfOk result (HoldChanged (policy_in P.weigh self.now) (width_of_all self.now.shape.measures) self.now.dims moves.now.edit self.now.facts) }
         ensures steps { steps.new ≤ steps.old + probes_over self.now.dims moves.now.reweighing }
     {
-        // What a state says of its facts.
         let _ = self.facts();
         let over = self.codes_over(moves.reweighing.as_slice(), steps)?;
         let taken = self.with_code(over, moves.taken)?;
@@ -73,7 +71,6 @@ impl<P: WeightPolicy + Drop> State<P> {
         ensures codes { IfOk result (λ codes. (code : ℕ) → is_among codes.items code ≡ is_over_one self.now.dims changes.now self.now.facts code) }
         ensures steps { steps.new ≤ steps.old + probes_over self.now.dims changes.now }
     {
-        // What a space says of its dimensions.
         let _ = self.space.dims();
         let mut codes = Vec::new(self.alloc);
         for (cell, _, _) in changes {
@@ -101,7 +98,6 @@ impl<P: WeightPolicy + Drop> State<P> {
         requires accepted { fact_refusal self.now.shape self.now.dims edit.now self.now.facts ≡ None }
         ensures { IfOk result (λ changes. changes.items ≡ touched (policy_in P.weigh self.now) self.now.dims edit.now self.now.facts) }
     {
-        // What a shape says of its measures.
         let _ = self.shape.columns();
         let lost = lying(&self.space, &self.shape, taken(edit, &self.facts));
         let won = lying(&self.space, &self.shape, given(edit));

@@ -23,7 +23,6 @@ impl<P: WeightPolicy + Drop> State<P> {
         requires { AreMoves (policy_in P.weigh self.now) self.now.shape self.now.dims self.now.facts moves.now }
         ensures { IfOk result (λ group. group ≡ group_at (policy_in P.weigh self.now) (width_of_all self.now.shape.measures) self.now.dims (after moves.now.edit self.now.facts) code) }
     {
-        // What a space says of its dimensions.
         let _ = self.space.dims();
         let before = self.groups.get(code);
         let taken = self.fact_at(moves.taken.as_ref(), code);
@@ -49,7 +48,6 @@ impl<P: WeightPolicy + Drop> State<P> {
         requires { AreMoves (policy_in P.weigh self.now) self.now.shape self.now.dims self.now.facts moves.now }
         ensures { result ≡ is_edited_at self.now.dims moves.now.edit self.now.facts code }
     {
-        // What a space says of its dimensions, and a state of its facts.
         let _ = self.space.dims();
         self.fact_at(moves.taken.as_ref(), code).is_some()
             || self.fact_at(moves.given.as_ref(), code).is_some()

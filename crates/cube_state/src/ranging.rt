@@ -45,7 +45,6 @@ impl<P: WeightPolicy + Drop> State<P> {
         ensures least { IfOk result (λ ends. ends.least ≡ end_of Least (cells_of self.now.dims r) column (rows_in P.weigh self.now)) }
         ensures greatest { IfOk result (λ ends. ends.greatest ≡ end_of Greatest (cells_of self.now.dims r) column (rows_in P.weigh self.now)) }
     {
-        // What a space says of its dimensions, and a map of its keys.
         let _ = self.space.dims();
         let few = self.groups.count() as u64 / 4;
         match codes_touching(self.alloc, &self.space, r, few)? {
@@ -145,7 +144,6 @@ fn walked_ends(facts: &FactList, ids: &[u64], column: u32) -> Ends
     ensures least { result.least ≡ total_by (id_part Least column facts.now.facts) ids.now }
     ensures greatest { result.greatest ≡ total_by (id_part Greatest column facts.now.facts) ids.now }
 {
-    // What a list of facts says of their order.
     let _ = facts.len();
     let mut ends = Ends {
         least: 0,

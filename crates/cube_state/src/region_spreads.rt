@@ -35,7 +35,6 @@ impl<P: WeightPolicy + Drop> State<P> {
         requires group { IfSome (option_copied group) (λ g. g.spread ≡ spread_at (policy_in P.weigh self.now) self.now.dims self.now.facts r) }
         ensures { IfOk result (λ a. a ≡ spread_at (policy_in P.weigh self.now) self.now.dims (after moves.now.edit self.now.facts) r) }
     {
-        // What a shape says of its measures, and a list of facts of its order.
         let _ = self.shape.columns();
         let before = self.spread_before(r, group)?;
         if self.is_kept(moves, r) {

@@ -23,7 +23,6 @@ impl<P: WeightPolicy + Drop> State<P> {
         ensures kept { IfOk result (AreAllFor P.weigh self.now) }
         ensures fault { IfErr result (IsTooMany (policy_in P.weigh self.now) self.now.dims (put_all new.now self.now.facts)) }
     {
-        // What a space says of its dimensions, a shape of its measures, and views of their columns.
         let _ = self.space.dims();
         let _ = self.shape.columns();
         let _ = self.views.columns();

@@ -83,7 +83,6 @@ impl<P: WeightPolicy + Drop> State<P> {
         ensures same { HaveSameContent self.old self.new }
         ensures sets { IfOk result (λ stages. AreSetsFor P.weigh self.new moves.now.edit (record { stats = stages.stats; index = stages.index; groups = regrouped.now.groups; views = stages.views })) }
     {
-        // What a shape says of its measures.
         let _ = self.shape.columns();
         reserve(
             &mut self.facts,

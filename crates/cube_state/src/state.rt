@@ -172,7 +172,6 @@ impl<P: WeightPolicy + Drop> State<P> {
         ensures trees { All IsTree self.now.dims }
         ensures few_rows { row_count (rows_in P.weigh self.now) ≤ MAX_ROWS }
     {
-        // What a space says of its dimensions.
         let _ = self.space.dims();
         &self.facts
     }
@@ -207,7 +206,6 @@ impl<P: WeightPolicy + Drop> State<P> {
         ensures steps { steps.new ≡ steps.old + 1 }
     {
         steps.tick();
-        // What a space says of its dimensions.
         let _ = self.space.dims();
         let fact = self.facts.get(id)?;
         let group = self.groups.get(self.space.code(fact.region))?;

@@ -31,7 +31,6 @@ impl<P: WeightPolicy + Drop> State<P> {
         ensures regions { IfOk result (All (λ entry. IsRegion self.now.dims entry.0)) }
         ensures merged { IfOk result (λ list. merge_all (width_of_all self.now.shape.measures) (map (λ entry. entry.1.terms) list) ≡ (terms_in P.weigh self.now r).terms) }
     {
-        // What a space says of its dimensions.
         let _ = self.space.dims();
         let cuts = depths_under(self.alloc, &self.space, depths, r)?;
         self.list_of_cuts(cuts, r)
@@ -54,7 +53,6 @@ impl<P: WeightPolicy + Drop> State<P> {
         requires { IsRegion self.now.dims r }
         ensures { IfOk result (λ found. IfSome found (IsListUnder P.weigh self.now cuts.now r)) }
     {
-        // What views say of their columns.
         let _ = self.views.columns();
         self.views.list_with(&self.space, cuts, r)
     }
@@ -91,14 +89,12 @@ impl<P: WeightPolicy + Drop> State<P> {
         requires codes { codes.now ≡ codes_touching self.now.dims r }
         ensures { IfOk result (IsOneViewUnder P.weigh self.now cuts r) }
     {
-        // What a space says of its dimensions.
         let _ = self.space.dims();
         let columns = self.shape.columns();
         let changes = puts_at(self.alloc, &self.space, &self.groups, codes)?;
         let mut view = Views::of_cuts(self.alloc, cuts, columns)?;
         let stage = view.stage(&self.space, &changes)?;
         view.install(stage);
-        // What views say of their columns.
         let _ = view.columns();
         Ok(view)
     }

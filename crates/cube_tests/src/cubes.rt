@@ -131,7 +131,6 @@ fn does_and_answers(
 fn are_done_and_answered(alloc: Global, steps: &[Step], answers: &[Answer]) -> Result<bool, Fail> {
     let mut cube = Cube::new(alloc, schema_of(alloc, REPAIRS)?, BySum)?;
     let answered = does_and_answers(&mut cube, steps, answers);
-    // Dropped by a call, which is proved once: in place it would be proved on each way out.
     drop(cube);
     answered
 }

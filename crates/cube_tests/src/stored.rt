@@ -146,7 +146,6 @@ pub fn run_words(
     match run_kept(alloc, words, input, outside, &mut keeper) {
         Ok(ran) => Ok(KeptRun { ran, keeper }),
         Err(fault) => {
-            // Dropped by a call, which is proved once: in place it would be proved on each way out.
             drop(keeper);
             Err(fault.into())
         }

@@ -19,7 +19,6 @@ pub fn install<P: WeightPolicy + Drop>(state: &mut State<P>, plan: Plan)
         refreshed,
         batch,
     } = plan;
-    // Dropped by a call, which is proved once: in place it would be proved on each way out.
     drop(refreshed);
     drop(batch);
     match change {

@@ -57,7 +57,6 @@ pub fn plan<P: WeightPolicy + Drop, L: Ledger>(
     let regrouped = match regroup_few(state, &moves, steps) {
         Ok(regrouped) => regrouped,
         Err(fault) => {
-            // Dropped by a call, which is proved once: in place it would be proved on each way out.
             drop(moves);
             return Err(fault);
         }
@@ -90,7 +89,6 @@ fn plan_of<P: WeightPolicy + Drop, L: Ledger>(
     let (refreshed, batch) = match kept_changes(alloc, state, moves, &regrouped, steps) {
         Ok(changes) => changes,
         Err(fault) => {
-            // Dropped by a call, which is proved once: in place it would be proved on each way out.
             drop(regrouped);
             return Err(fault);
         }

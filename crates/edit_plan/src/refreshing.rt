@@ -37,7 +37,6 @@ pub fn refreshed<P: WeightPolicy + Drop, L: Ledger>(
     ensures codes { IfOk result (λ pairs. AreOfFacts state.now.dims (after moves.now.edit state.now.facts) pairs.items) }
     ensures steps { steps.new ≤ steps.old + covering_pairs (policy_in P.weigh state.now) state.now.dims moves.now.edit state.now.facts }
 {
-    // What a state says of its facts, and of its dimensions.
     let _ = state.facts();
     let edited = edited_id(&moves.edit);
     let mut pairs = others_at(
@@ -84,7 +83,6 @@ fn own_pair<P: WeightPolicy + Drop>(
     requires regrouped { IsRegrouped (policy_in P.weigh state.now) (width_of_all state.now.shape.measures) state.now.dims moves.now.edit state.now.facts regrouped.now }
     ensures { result ≡ own_pair (policy_in P.weigh state.now) state.now.dims moves.now.edit state.now.facts }
 {
-    // What a state says of its facts, and of its dimensions.
     let _ = state.facts();
     let given = moves.given?;
     let code = state.code(given.region);
@@ -99,7 +97,6 @@ fn lay_as<P: WeightPolicy + Drop>(state: &State<P>, moves: &Moves, spread: Optio
     requires { AreMoves (policy_in P.weigh state.now) state.now.shape state.now.dims state.now.facts moves.now }
     ensures { result ≡ option_map_or (λ f. is_same_spread (Some (spread_at (policy_in P.weigh state.now) state.now.dims state.now.facts f.region)) (option_copied spread.entry)) (taken moves.now.edit state.now.facts) false }
 {
-    // What a state says of its facts, and of its dimensions.
     let _ = state.facts();
     match moves.taken {
         Some(taken) => is_same_spread(state.spread_at(state.code(taken.region)), spread),

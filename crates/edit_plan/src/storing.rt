@@ -73,7 +73,6 @@ fn kept_rows<P: WeightPolicy + Drop>(
     requires refreshed { AreRefreshed (policy_in P.weigh state.now) state.now.dims moves.now.edit state.now.facts pairs.now }
     ensures { IfOk result (λ rows. rows ≡ map kept_rows (filter (λ e. is_among (refreshed (policy_in P.weigh state.now) state.now.dims state.now.facts (after moves.now.edit state.now.facts)) e.id) (extended (policy_in P.weigh state.now) state.now.dims (after moves.now.edit state.now.facts)))) }
 {
-    // What a state says of its facts, and of its dimensions.
     let _ = state.facts();
     let mut rows = KeptRowsList::new(alloc);
     for (id, code) in pairs {

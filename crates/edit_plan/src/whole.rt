@@ -45,7 +45,6 @@ pub fn plan_all<P: WeightPolicy + Drop>(
     ensures accepted { OnOk result (row_count (rows_with_new P.weigh state.now facts.now) ≤ MAX_ROWS) }
     ensures fault { IfErr result (IsAllFaultOf P.weigh state.now facts.now) }
 {
-    // What a state says of its facts.
     let _ = state.facts();
     let all = state.kept_with(facts.as_slice())?;
     let made = kept_of_all(alloc, state, &all);
@@ -64,7 +63,6 @@ fn plan_of_all(
     let (refreshed, batch) = match made {
         Ok(changes) => changes,
         Err(fault) => {
-            // Dropped by a call, which is proved once: in place it would be proved on each way out.
             drop(all);
             return Err(fault);
         }
@@ -113,7 +111,6 @@ fn refreshed_among<P: WeightPolicy + Drop>(
     ensures ids { IfOk result (λ r. r.ids ≡ ids_otherwise (policy_in P.weigh state.now) state.now.dims state.now.facts all.now.facts.facts all.now.facts.facts) }
     ensures rows { IfOk result (λ r. r.rows ≡ rows_otherwise (policy_in P.weigh state.now) state.now.dims state.now.facts all.now.facts.facts all.now.facts.facts) }
 {
-    // What a state says of its dimensions.
     let _ = state.facts();
     let mut refreshed = Refreshed {
         ids: Ids::new(alloc),
@@ -150,7 +147,6 @@ fn refresh<P: WeightPolicy + Drop>(
 fn lay_so<P: WeightPolicy + Drop>(state: &State<P>, id: u64, spread: &Alloc) -> bool
     ensures { result ≡ lay_so (policy_in P.weigh state.now) state.now.dims state.now.facts id spread.now }
 {
-    // What a state says of its facts, and of its dimensions.
     let _ = state.facts();
     match state.fact(id) {
         Some(fact) => { is_same_spread(state.spread_at(state.code(fact.region)), Some(spread)) }

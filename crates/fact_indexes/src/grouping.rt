@@ -36,7 +36,6 @@ pub(crate) fn groups_of<P: WeightPolicy>(
     requires stats { AreStatsOf shape.now space.now facts.now.facts stats.now }
     ensures { IfOk result (λ groups. AreGroupsOf (policy_over (P.weigh policy.now) shape.now) shape.now space.now facts.now.facts groups) }
 {
-    // What a shape says of its measures.
     let _ = shape.columns();
     let mut groups = Staged::new(alloc);
     for fact in facts.iter() {
@@ -150,7 +149,6 @@ pub(crate) fn rows_of<P: WeightPolicy>(
     requires groups { AreGroupsOf (policy_over (P.weigh policy.now) shape.now) shape.now space.now facts.now.facts groups.now }
     ensures { result ≡ row_count (extended (policy_over (P.weigh policy.now) shape.now) space.now facts.now.facts) }
 {
-    // What a space says of its dimensions, and a map of its keys.
     let _ = space.dims();
     let _ = groups.count();
     let mut rows = 0;

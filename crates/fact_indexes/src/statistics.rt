@@ -23,7 +23,6 @@ pub(crate) fn stats_of(
     requires { AreValid shape.now space.now facts.now.facts }
     ensures { IfOk result (λ stats. AreStatsOf shape.now space.now facts.now.facts stats) }
 {
-    // What a shape says of its measures.
     let _ = shape.columns();
     let mut stats = StatIndex::new(alloc);
     for fact in facts.iter() {

@@ -37,7 +37,6 @@ pub(crate) fn views_of<P: WeightPolicy>(
     requires empty { AreEmpty shape.now space.now views }
     ensures { IfOk result (AreViewsOfFacts space.now (cuts_of views) (width_of_all shape.now.measures + 1) (extended (policy_over (P.weigh policy.now) shape.now) space.now facts.now.facts)) }
 {
-    // What a space says of its dimensions, and a shape of its measures.
     let _ = space.dims();
     let _ = shape.columns();
     let codes = groups.keys()?;
@@ -63,7 +62,6 @@ pub fn view_of<P: WeightPolicy>(
     requires cuts { length cuts ≡ length space.now }
     ensures { IfOk result (IsCutView space.now cuts (width_of_all shape.now.measures + 1) (extended (policy_over (P.weigh policy.now) shape.now) space.now facts.now.facts)) }
 {
-    // What a space says of its dimensions.
     let _ = space.dims();
     let mut view = View::new(alloc, shape.columns(), cuts);
     for i in 0..groups.count() {

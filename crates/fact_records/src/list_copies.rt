@@ -27,7 +27,6 @@ fn put_old(all: &mut FactList, facts: &FactList)
     ensures facts { all.new.facts ≡ facts.now.facts }
     ensures room { all.old.spare ≤ all.new.spare + length facts.now.facts }
 {
-    // What a list says of its order.
     let _ = facts.len();
     for fact in facts.iter() {
         let _ = all.put(*fact);

@@ -39,7 +39,6 @@ pub(crate) fn begin<Q: Keeper>(
 {
     let seq = FactSeq { facts, bad: None };
     let begun = begin_with(alloc, &base, schema, &seq, number, keeper);
-    // Dropped by a call, which is proved once: in place it would be proved on each way out.
     drop(base);
     drop(seq);
     begun
@@ -113,7 +112,6 @@ fn begin_new<Q: Keeper>(
         Err(stop) => return Err(stop.at(0)),
     };
     let kept = keep(&batch, 0, keeper);
-    // Dropped by a call, which is proved once: in place it would be proved on each way out.
     drop(batch);
     match kept {
         Ok(()) => Ok(cube),

@@ -58,7 +58,6 @@ pub fn follow_stream<S: Source, K: Sink, Q: Keeper>(
 {
     let mut feed = FeedLines::new(alloc, input);
     let followed = follow_feed(alloc, base, &mut feed, source, out, keeper);
-    // Dropped by a call, which is proved once: in place it would be proved on each way out.
     drop(feed);
     followed
 }
@@ -81,7 +80,6 @@ fn follow_feed<S: Source, K: Sink, Q: Keeper>(
     let (schema, facts) = match follow_base(alloc, feed, source) {
         Ok(given) => given,
         Err(stop) => {
-            // Dropped by a call, which is proved once: in place it would be proved on each way out.
             drop(base);
             return Err(stop.at(0));
         }

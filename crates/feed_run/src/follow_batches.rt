@@ -90,7 +90,6 @@ fn follow_batch<S: Source, K: Sink, Q: Keeper>(
         out,
         keeper,
     );
-    // Dropped by a call, which is proved once: in place it would be proved on each way out.
     drop(batch);
     followed
 }

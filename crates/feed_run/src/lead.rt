@@ -46,7 +46,6 @@ pub fn lead_stream<S: Source, K: Sink, Q: Keeper>(
     let mut run = LeadRun::new(alloc, cube);
     let mut pull = LinePull { input };
     let led = run.lead(&mut pull, source, out, keeper);
-    // Dropped by a call, which is proved once: in place it would be proved on each way out.
     drop(run);
     led
 }
@@ -127,7 +126,6 @@ impl LeadRun {
             return Err(BreakOff::Memory { done: self.done });
         };
         let led = self.do_read(&read, out, keeper);
-        // Dropped by a call, which is proved once: in place it would be proved on each way out.
         drop(read);
         led
     }

@@ -42,7 +42,6 @@ fn labels_of(alloc: Global, space: &Space, facts: &FactList) -> Result<Ids, Memo
     requires { ArePlacedIn space.now facts.now.facts }
     ensures { IfOk result (λ ids. ids ≡ labels space.now facts.now.facts) }
 {
-    // What a space says of its dimensions.
     let _ = space.dims();
     let all = spots_of(alloc, space, facts)?;
     let roots = roots_of_spots(alloc, space, &all.firsts)?;

@@ -43,7 +43,6 @@ pub(crate) fn spot_portions(
     requires region { IsRegion space.now r }
     ensures { IfOk result (λ portions. ArePortions space.now facts.now.facts rounds r all.now.firsts.items portions.items) }
 {
-    // What a space says of its dimensions.
     let _ = space.dims();
     let roots = roots_of_spots(alloc, space, &all.firsts)?;
     let marks = marks_of(alloc, space, &all.firsts, &roots, r)?;

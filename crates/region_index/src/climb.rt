@@ -54,7 +54,6 @@ fn lifted(dim: &Dim, node: u32, depth: u8) -> Option<u32>
     ensures within { IfSome result (λ n. n < length dim.now) }
     ensures none { IfNone result (places_at_depth dim.now node depth ≡ []) }
 {
-    // What a dimension says of its nodes.
     let _ = dim.len();
     let own = dim.depth(node);
     if own == depth {

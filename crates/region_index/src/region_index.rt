@@ -98,7 +98,6 @@ impl RegionIndex {
         ensures steps { IfOk result (λ _. steps.new ≡ steps.old + length (codes_over space.now cell)) }
         ensures err { OnErr result (steps.new ≤ steps.old + length (codes_over space.now cell)) }
     {
-        // What a space says of its dimensions.
         let _ = space.dims();
         let walk = Walk {
             ids: &self.ids,
@@ -126,7 +125,6 @@ impl RegionIndex {
         ensures patterns { steps.new ≤ steps.old + length (patterns_in_use patterns.now) }
         ensures regions { steps.new ≤ steps.old + length (codes_over space.now cell) }
     {
-        // What a space says of its dimensions, and the patterns of theirs.
         let _ = space.dims();
         let _ = patterns.places();
         let walk = Walk {

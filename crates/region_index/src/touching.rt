@@ -25,7 +25,6 @@ pub fn codes_touching(
     ensures codes { IfOk result (λ found. IfSome found (λ codes. codes ≡ codes_touching space.now r)) }
     ensures most { IfOk result (λ found. IsNone found ↔ (most < length (codes_touching space.now r))) }
 {
-    // What a space says of its dimensions.
     let _ = space.dims();
     let Some(codes) = codes_in_line(alloc, space, r, most)? else {
         return Ok(None);
@@ -74,7 +73,6 @@ fn codes_with(
     requires small { length dim.now * step < SPACE_LIMIT }
     ensures { IfOk result (λ found. MatchOption found (most < length (codes_behind_places (places_in_line dim.now node) step codes.now)) (λ next. next.items ≡ codes_behind_places (places_in_line dim.now node) step codes.now)) }
 {
-    // What a dimension says of its nodes.
     let _ = dim.len();
     let Some(places) = places_in_line(alloc, dim, node, most)? else {
         return Ok(None);
@@ -127,7 +125,6 @@ fn places_in_line(
     requires { node < length dim.now }
     ensures { IfOk result (λ found. MatchOption found (most < length (places_in_line dim.now node)) (λ places. places.items ≡ places_in_line dim.now node)) }
 {
-    // What a dimension says of its nodes.
     let _ = dim.len();
     let mut places = Vec::new(alloc);
     push_above(dim, node, &mut places)?;
@@ -145,7 +142,6 @@ fn push_above(dim: &Dim, node: u32, places: &mut Vec<u32>) -> Result<(), Memory>
     requires { node < length dim.now }
     ensures { OnOk result (places.new.items ≡ places.old.items ++ places_over dim.now node) }
 {
-    // What a dimension says of its nodes.
     let _ = dim.len();
     if let Some(parent) = dim.parent(node) {
         push_above(dim, parent, places)?;

@@ -75,7 +75,6 @@ impl Schema {
         requires views { AreViews (length dim_names) views }
         ensures { result ≡ record { policy = policy; measures = shape.measures; names = dim_names; dims = space; views = views } }
     {
-        // What is known of every space and of every shape.
         let _ = space.dims();
         let _ = shape.len();
         Schema {

@@ -50,7 +50,6 @@ pub fn figure_answer(
         return Err(Memory);
     };
     let told = figure_of(alloc, cube.schema(), figure, &terms);
-    // Dropped by a call, which is proved once: in place it would be proved on each way out.
     drop(terms);
     told
 }

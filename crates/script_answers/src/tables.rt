@@ -34,7 +34,6 @@ pub fn table_answer(
         return Err(Memory);
     };
     let told = table_entries(alloc, cube.schema(), figure, entries.as_slice());
-    // Dropped by a call, which is proved once: in place it would be proved on each way out.
     drop(entries);
     Ok(Ok(Answer::Table(told?)))
 }

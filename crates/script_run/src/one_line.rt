@@ -37,7 +37,6 @@ pub fn run_line<K: Sink, Q: Keeper>(
 {
     let mut run = ScriptRun::new(alloc, cube, true);
     let ended = end_line(&mut run, line, out, keeper);
-    // Dropped by a call, which is proved once: in place it would be proved on each way out.
     drop(run);
     ended
 }

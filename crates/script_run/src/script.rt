@@ -171,7 +171,6 @@ fn do_edit_by<L: Ledger, Q: Keeper>(
     match cube.edit(edit, keeper, &mut steps) {
         Ok(receipt) => {
             let refreshed = receipt.refreshed.as_slice().len() as u64;
-            // Dropped by a call, which is proved once: in place it would be proved on each way out.
             drop(receipt);
             Ok(Reply::Done(refreshed))
         }

@@ -101,7 +101,6 @@ impl ScriptRun {
         // At once, since the calls below have large locals, which are cleared when they begin.
         if let Err(code) = &read {
             let refused = self.refuse(*code, out);
-            // Dropped by a call, which is proved once: in place it would be proved on each way out.
             drop(read);
             return refused;
         }
@@ -189,7 +188,6 @@ impl ScriptRun {
         match self.do_on_cube(read, keeper) {
             Ok(reply) => {
                 let answered = self.answer(&reply, out);
-                // Dropped by a call, which is proved once: in place it would be proved on each way out.
                 drop(reply);
                 answered
             }
@@ -220,7 +218,6 @@ impl ScriptRun {
     {
         let reply = Some(Reply::Refused(code));
         let answered = self.answer(&reply, out);
-        // Dropped by a call, which is proved once: in place it would be proved on each way out.
         drop(reply);
         answered
     }

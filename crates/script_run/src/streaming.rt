@@ -86,7 +86,6 @@ pub fn run_stream<S: Source, K: Sink, Q: Keeper>(
     } = input;
     let mut run = ScriptRun::new(alloc, cube, keeps);
     let ended = do_input(&mut run, &mut pieces, &mut lines, source, out, keeper);
-    // Dropped by a call, which is proved once: in place it would be proved on each way out.
     drop(run);
     ended
 }

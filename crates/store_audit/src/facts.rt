@@ -31,7 +31,6 @@ pub(crate) fn read_facts(
     let mut facts = FactList::new(alloc);
     facts.reserve((kept.len() as u64).min(MAX_FACTS))?;
     read_all(space, shape, kept, &mut facts)?;
-    // What a list says of its order.
     let _ = facts.len();
     Ok(facts)
 }
@@ -128,7 +127,6 @@ fn read_cols(shape: &Shape, values: &[i64]) -> Result<Cols, Code>
     ensures held { IfOk result (λ cols. cols ≡ values.now) }
     ensures judged { result_err result ≡ cols_refusal shape.now values.now }
 {
-    // What a shape says of its columns.
     let _ = shape.columns();
     let Some(cols) = Cols::new(values) else {
         return Err(Code::Value);

@@ -59,7 +59,6 @@ pub fn mend_rows<P: WeightPolicy + Drop>(
     let facts = read_facts(alloc, &space, &shape, stored.facts.as_slice())?;
     let state = State::of_facts(alloc, space, shape, policy, &[], facts)?;
     let mending = mending_beside(alloc, &state, stored.rows.as_slice());
-    // Dropped by a call, which is proved once: in place it would be proved on each way out.
     drop(state);
     Ok(mending?)
 }

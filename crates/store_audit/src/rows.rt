@@ -43,7 +43,6 @@ fn check_fact<P: WeightPolicy + Drop>(
     ensures same { OnOk result (option_copied kept.entry ≡ slice_get (map kept_rows (rows_in P.weigh state.now)) place) }
     ensures fault { IfErr result (DiffersAt place (option_copied kept.entry) (slice_get (map kept_rows (rows_in P.weigh state.now)) place)) }
 {
-    // What a state says of its facts.
     let _ = state.facts();
     let Some(spread) = look_up::<Brand, P>(state, fact.id, Blank::new(1)) else {
         unreachable!()

@@ -68,7 +68,6 @@ pub fn cut_code(space: &Space, depths: &[u8], cell: u64) -> u64
     requires cell { cell < length (all_cells space.now) }
     ensures { IsCodeOver space.now depths.now cell result }
 {
-    // What a space says of its dimensions.
     let _ = space.dims();
     code_above(space, depths, space.cell_at(cell))
 }
@@ -81,7 +80,6 @@ pub fn code_over(space: &Space, depths: &[u8], r: Region) -> Option<u64>
     ensures some { is_some result ≡ reaches_cuts space.now depths.now r }
     ensures over { IfSome result (HoldsCells space.now depths.now r) }
 {
-    // What a space says of its dimensions.
     let _ = space.dims();
     if reaches_cuts(space, depths, r) {
         Some(code_above(space, depths, r))
