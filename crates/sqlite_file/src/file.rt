@@ -92,6 +92,14 @@ impl<'rt> StoreFile<'rt> {
         written.and(looked)
     }
 
+    /// Looks whether the path still leads to the file and the log that are open, and these are as they were left.
+    ///
+    /// `Outside` comes where it does not, they are not, or they cannot be looked at; `Memory` when it runs out of memory.
+    pub fn look_again(&self) -> Result<(), Fault> {
+        self.found()?;
+        Ok(())
+    }
+
     /// The file and its log, where the path still leads to those that are open, and they are as they were left.
     fn found(&self) -> Result<Left, Fault> {
         match left_at(self.rt, self.path.as_str(), self.log.as_str())? {

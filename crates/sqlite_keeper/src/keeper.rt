@@ -1,8 +1,9 @@
 //! The keeper over a file.
-ghost use Rattle.std.specs.Prelude.{◌≡◌, Err, IfOk, None, Some, false, true, IsErr, IsSome, IsTrue, OnErr, OnOk};
+ghost use Rattle.std.specs.Prelude.{◌≡◌, Err, IfOk, None, Some, false, true, IsErr, IsOk, IsSome, IsTrue, OnErr, OnOk};
 ghost use Rattle.cube_base.specs.Outside.{next_count};
 ghost use Rattle.fact_keeper.specs.Keeper.{CountsKeepFault};
 ghost use Rattle.fact_keeper.specs.declared.keeper.KeepError.TheVariants as keep_error;
+ghost use Rattle.sqlite_keeper.specs.SqlKeeper.{looks_with, written_over};
 
 use fact_keeper::{Batch, KeepError, Keeper, Stored};
 use sqlite_file::{Fault, Reason, Standing, StoreFile, look};
@@ -21,6 +22,10 @@ pub struct SqlKeeper<'rt> {
     name: Option<String>,
     loads: u64,
     is_open: bool,
+    // Whether there was something in the content that was loaded last, and how many batches were written since.
+    was_filled: bool,
+    written: u64,
+    looks: u64,
     faults: u64,
     reason: Option<Reason>,
 }
@@ -31,16 +36,16 @@ impl<'rt> Model for SqlKeeper<'rt> {
 
     ghost Value = { Opened };
 
-    ghost view = { λ k. record { name = option_map string_bytes k.name; loads = k.loads; is_open = k.is_open; faults = k.faults; reason = k.reason } };
+    ghost view = { λ k. record { name = option_map string_bytes k.name; loads = k.loads; is_open = k.is_open; was_filled = k.was_filled; written = k.written; looks = k.looks; faults = k.faults; reason = k.reason } };
 
     // The file that is open is that of the name.
     ghost invariant = { λ k. IfSome k.file (λ path. option_map string_bytes k.name ≡ Some path) };
 }
 
 impl<'rt> SqlKeeper<'rt> {
-    /// A keeper that is not open, tells no name, and counts no load and no fault. It opens no file.
+    /// A keeper that is not open, tells no name, and counts no load, no batch, no look and no fault. It opens no file.
     pub fn new(rt: &'rt HostRuntime) -> Self
-        ensures { result ≡ record { name = None; loads = 0; is_open = false; faults = 0; reason = None } }
+        ensures { result ≡ record { name = None; loads = 0; is_open = false; was_filled = false; written = 0; looks = 0; faults = 0; reason = None } }
     {
         SqlKeeper {
             rt,
@@ -49,6 +54,9 @@ impl<'rt> SqlKeeper<'rt> {
             name: None,
             loads: 0,
             is_open: false,
+            was_filled: false,
+            written: 0,
+            looks: 0,
             faults: 0,
             reason: None,
         }
@@ -61,10 +69,49 @@ impl<'rt> SqlKeeper<'rt> {
         self.reason
     }
 
+    /// How many batches were written since the load over a content in which there was something: all, but for the first where there was
+    /// nothing. The count stands at its last value.
+    pub fn written_over(&self) -> u64
+        ensures { result ≡ written_over self.now }
+    {
+        if self.was_filled {
+            self.written
+        } else {
+            self.written.saturating_sub(1)
+        }
+    }
+
+    /// Looks once more whether the store is there by its name as the last batch left it, where one was written since the load.
+    pub fn look_again(&mut self) -> Result<(), KeepError>
+        ensures count { CountsKeepFault self.old.faults self.new.faults result }
+        ensures raised { result ≡ Err keep_error.Failed → self.new.faults ≡ next_count self.old.faults }
+        ensures told { result ≡ Err keep_error.Failed → IsSome self.new.reason }
+        ensures looked { self.new.looks ≡ looks_with self.old }
+        ensures unwritten { self.old.written ≡ 0 → IsOk result }
+        ensures same { self.new ≡ record self.old { looks = self.new.looks; faults = self.new.faults; reason = self.new.reason } }
+    {
+        if self.written == 0 {
+            return Ok(());
+        }
+        self.looks = self.looks.saturating_add(1);
+        match self.find_left() {
+            Ok(()) => Ok(()),
+            Err(fault) => self.refuse(fault),
+        }
+    }
+
+    /// That the file that is open is at its path as it was left.
+    fn find_left(&self) -> Result<(), Fault> {
+        match &self.file {
+            Some(file) => file.look_again(),
+            None => Err(Fault::Outside(Reason::Closed)),
+        }
+    }
+
     /// Opens the file at a path in place of the one that is open, and gives the content. Where nothing was kept there yet, it makes no
     /// file: the first batch does.
     fn open(&mut self, alloc: Global, path: &str) -> Result<Stored, Fault>
-        ensures opened { OnOk result (self.new ≡ record self.old { name = Some path.now; is_open = true }) }
+        ensures opened { OnOk result (self.new ≡ record self.old { name = Some path.now; is_open = true; was_filled = self.new.was_filled }) }
         ensures same { OnErr result (self.new ≡ self.old) }
     {
         // It may be the same file, which a second open finds locked.
@@ -76,6 +123,7 @@ impl<'rt> SqlKeeper<'rt> {
             Standing::Database => opened_file(self.rt, alloc, path)?,
         };
         self.is_new = file.is_none();
+        self.was_filled = !content.is_empty();
         self.file = file;
         self.name = Some(name);
         self.is_open = true;
@@ -144,10 +192,13 @@ impl Keeper for SqlKeeper<'_> {
 
         // What this one adds.
         ensures same_open { OnErr result (self.new.is_open ≡ self.old.is_open) }
+        ensures unwritten { self.new.written ≡ 0 }
+        ensures same_looks { self.new.looks ≡ self.old.looks }
         ensures raised { result ≡ Err keep_error.Failed → self.new.faults ≡ next_count self.old.faults }
         ensures told { result ≡ Err keep_error.Failed → IsSome self.new.reason }
     {
         self.loads = self.loads.saturating_add(1);
+        self.written = 0;
         match self.open(alloc, name) {
             Ok(content) => Ok(content),
             Err(fault) => self.refuse(fault),
@@ -165,11 +216,18 @@ impl Keeper for SqlKeeper<'_> {
         ensures count { CountsKeepFault self.old.faults self.new.faults result }
 
         // What this one adds.
+        ensures written { OnOk result (self.new.written ≡ next_count self.old.written) }
+        ensures same_written { OnErr result (self.new.written ≡ self.old.written) }
+        ensures same_filled { self.new.was_filled ≡ self.old.was_filled }
+        ensures same_looks { self.new.looks ≡ self.old.looks }
         ensures raised { result ≡ Err keep_error.Failed → self.new.faults ≡ next_count self.old.faults }
         ensures told { result ≡ Err keep_error.Failed → IsSome self.new.reason }
     {
         match self.write(batch) {
-            Ok(()) => Ok(()),
+            Ok(()) => {
+                self.written = self.written.saturating_add(1);
+                Ok(())
+            }
             Err(fault) => self.refuse(fault),
         }
     }
