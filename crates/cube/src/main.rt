@@ -3,7 +3,7 @@
 
 use cube_base::{StdSink, StdSource};
 use cube_cli::words_of;
-use cube_program::{run_program, tell};
+use cube_program::{Counted, run_program, tell};
 use std::io;
 use std::process::ExitCode;
 
@@ -11,7 +11,7 @@ fn main(rt: HostRuntime) -> ExitCode {
     let mut errors = rt.stderr();
     let status = match words_of(&rt) {
         Ok(words) => {
-            let mut source = StdSource::new(rt.reader());
+            let mut source = Counted::new(StdSource::new(rt.reader()));
             let mut sink = StdSink::new(io::writer(&rt));
             run_program(&rt, &words, &mut source, &mut sink, &mut errors)
         }

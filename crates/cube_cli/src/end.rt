@@ -33,7 +33,7 @@ pub enum End {
     /// Writing failed. The reply to line `done`, counted from 1, is not whole; lines after it may have been done.
     WriteFault { done: u64 },
     /// The store failed when `done` lines were done, and their replies are written: at the edit or growth after them,
-    /// or before anything was read.
+    /// before anything was read, or when the program looked for the store once more after all input.
     KeepFault { done: u64 },
     /// An allocation was refused. Lines after the first `done` may have been done.
     Memory { done: u64 },

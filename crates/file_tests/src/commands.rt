@@ -1,14 +1,14 @@
 //! The program over stores in files, and without one: what it writes, what it tells of its end, and its exit status.
 use crate::sources::Padded;
 use crate::sql::{are_found, run_script};
-use cube_base::{Bytes, Ids, MemSink, MemSource};
-use cube_program::run_program;
+use cube_base::{Bytes, Ids, MemSink, MemSource, Source};
+use cube_program::{Counted, run_program};
 use std::alloc::{AllocError, Global};
 use std::fmt::Write;
 use std::test::Fail;
 
 /// Repairs by city, with their costs.
-const CITIES: &str =
+pub const CITIES: &str =
     "cube\t1\npolicy\tcount\nnumber\tRepair\ndimension\tPlace\nnode\t0\tAll\nnode\t1\tTX\nnode\t2\tAustin\nnode\t2\tDallas\nnode\t2\tHouston\nend\n";
 
 /// Three repairs in a city, and one in some city of Texas.
@@ -27,7 +27,7 @@ const CAMRYS: &str =
 const NO_ROOT: &str =
     "cube\t1\npolicy\tcount\nnumber\tRepair\ndimension\tPlace\nnode\t1\tAll\nend\n";
 
-/// A schema, and a question behind it.
+/// A schema, and a question after it.
 const ASKED: &str =
     "cube\t1\npolicy\tcount\nnumber\tRepair\ndimension\tPlace\nnode\t0\tAll\nend\ncount\tAll\n";
 
@@ -251,18 +251,29 @@ fn words_of(alloc: Global, words: &[&str]) -> Result<Vec<String>, AllocError> {
         .try_collect(alloc)
 }
 
-/// A source of an input, which fails at a read, and has so many bytes more behind it.
-fn source_of(alloc: Global, input: &str, fails: u64, more: usize) -> Result<Padded, AllocError> {
+/// A source of an input, which fails at a read, and has so many bytes more after it.
+fn source_of(
+    alloc: Global,
+    input: &str,
+    fails: u64,
+    more: usize,
+) -> Result<Counted<Padded>, AllocError> {
+    let input = input_of(alloc, input, fails)?;
+    Ok(Counted::new(Padded::new(input, more)))
+}
+
+/// An input in memory, which fails at a read.
+pub fn input_of(alloc: Global, input: &str, fails: u64) -> Result<MemSource, AllocError> {
     let fails = Ids::from(Vec::from_slice(alloc, &[fails])?);
     let bytes = Bytes::from(Vec::from_slice(alloc, input.as_bytes())?);
-    Ok(Padded::new(MemSource::new(alloc, bytes, 1 << 30, fails), more))
+    Ok(MemSource::new(alloc, bytes, 1 << 30, fails))
 }
 
 /// Whether a run over a source is told so, and writes this.
-fn is_told(
+pub fn is_told<S: Source>(
     rt: &HostRuntime,
     words: &[&str],
-    source: &mut Padded,
+    source: &mut Counted<S>,
     write_fails: u64,
     told: (&str, &str, u8),
 ) -> Result<bool, AllocError> {

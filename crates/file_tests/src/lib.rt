@@ -8,6 +8,8 @@ mod commands;
 #[cfg(test)]
 mod contents;
 #[cfg(test)]
+mod exchanges;
+#[cfg(test)]
 mod reasons;
 #[cfg(test)]
 mod sources;
