@@ -8,7 +8,7 @@ tables, the text of the schema too. The status is 1 at the first difference.
 
 In these, `ask` does some of the lines, and `schema` and `rows` write what the store holds. Each reason of a fault that the system lets be
 made is told in its words, no command that is refused or reads alone leaves a file, and a store is exchanged under an open `run` in several ways:
-between two edits, also where it was opened by a symbolic link, and while a batch is synced.
+between two edits and after the last, also where it was opened by a symbolic link, and while a batch is synced.
 """
 import errno
 import os
@@ -19,7 +19,7 @@ import struct
 import subprocess
 import sys
 import tempfile
-from itertools import pairwise
+from itertools import pairwise, product
 from pathlib import Path
 from random import Random
 
@@ -538,31 +538,43 @@ WAYS = {
 }
 
 
-def exchanged(program, name, exchange, **settings):
-    """What a run over a name that is answered one edit writes and says, where the store is exchanged before the next one."""
+def exchanged(program, name, exchange, after=b"withdraw\t2\n", **settings):
+    """What a run over a name that is answered one edit writes and says, where the store is exchanged before what comes after that."""
     run = subprocess.Popen([program, "run", name], stdin=subprocess.PIPE, stdout=subprocess.PIPE, stderr=subprocess.PIPE, env=os.environ | settings)
     run.stdin.write(b"withdraw\t1\n")
     run.stdin.flush()
     first = run.stdout.readline()
     exchange()
-    written, said = run.communicate(b"withdraw\t2\n", timeout=SECONDS)
+    written, said = run.communicate(after, timeout=SECONDS)
     return first + written, run.returncode, said
 
 
+# What comes after an edit, and how many lines are done if the store was exchanged: at the next edit, or at the end.
+AFTER = {"before an edit": (b"withdraw\t2\n", 1), "at the end": (b"", 1), "after a comment": (b"# done", 2)}
+
+
 def compare_exchanged(program, folder):
-    """Stores that are exchanged under an open run, by their names and by links: the next edit is refused."""
-    for number, (way, exchange) in enumerate(WAYS.items()):
-        for kind in ("", " by a link"):
-            path = str(Path(folder) / f"exchanged {number}{kind}.cube")
-            hand_made(path)
-            hand_made(f"{path} other")
-            name = path
-            if kind:
-                name = f"{path} link"
-                os.symlink(path, name)
-            found = exchanged(program, name, lambda: exchange(path))
-            must(found, (b"ok\t1\n", FAILED, fault_of(name, EXCHANGED, 1)), f"a store {way}{kind}")
-    print(f"{2 * len(WAYS)} stores exchanged under a run")
+    """Stores that are exchanged under an open run, by their names and by links: the next edit is refused, and where there is none the end."""
+    for number, ((way, exchange), kind, (place, (after, done))) in enumerate(product(WAYS.items(), ("", " by a link"), AFTER.items())):
+        path = str(Path(folder) / f"exchanged {number}.cube")
+        hand_made(path)
+        hand_made(f"{path} other")
+        name = path
+        if kind:
+            name = f"{path} link"
+            os.symlink(path, name)
+        found = exchanged(program, name, lambda: exchange(path), after)
+        must(found, (b"ok\t1\n", FAILED, fault_of(name, EXCHANGED, done)), f"a store {way}{kind} {place}")
+    path = str(Path(folder) / "questions alone.cube")
+    hand_made(path)
+    found = told(program, ["run", path], b"count\tAll\n")
+    asked = subprocess.Popen([program, "run", path], stdin=subprocess.PIPE, stdout=subprocess.PIPE, stderr=subprocess.PIPE)
+    asked.stdin.write(b"# is read\n" * 10000)
+    asked.stdin.flush()
+    os.remove(path)
+    written, said = asked.communicate(b"count\tAll\n", timeout=SECONDS)
+    must((written, asked.returncode, said), found, "a store removed where no edit was done")
+    print(f"{len(WAYS) * 2 * len(AFTER) + 1} stores exchanged under a run")
 
 
 IO_ERROR = b"the system reported an I/O error"
