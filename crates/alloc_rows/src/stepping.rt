@@ -52,7 +52,7 @@ pub fn step<P: WeightPolicy>(
     ensures of_facts { IfOk result (IsSpreadOf (P.weigh policy.now) space.now (stat_after (stat_at stats.now) changed.now) r) }
     ensures cells { IfOk result (λ a. AreRows space.now a.rows) }
 {
-    let (mut total, mut rest) = weighted(policy, stats, old);
+    let (mut total, mut rest) = rows_by_weight(policy, stats, old);
     let mut rows = Vec::with_capacity(alloc, rest.len() + MAX_CHANGES)?;
     for (cell, before, after) in changed {
         let weight = policy.weight(*after);
@@ -65,7 +65,7 @@ pub fn step<P: WeightPolicy>(
 
 /// The sum of the rows that an allocation has by weight, and these: none where it is even, since all cells weigh 0. Even rows
 /// show by the first of them: its cell weighs 0, as that of no row by weight does.
-fn weighted<'a, P: WeightPolicy>(
+fn rows_by_weight<'a, P: WeightPolicy>(
     policy: &P,
     stats: &StatIndex,
     old: &'a Alloc,

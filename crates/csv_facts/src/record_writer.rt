@@ -27,7 +27,7 @@ pub(crate) fn write_row(out: &mut Writer<Vec<u8>>, row: &ByteRecord) -> Result<(
 }
 
 /// What was written.
-pub(crate) fn written(out: Writer<Vec<u8>>) -> Result<Bytes, Memory>
+pub(crate) fn written_text(out: Writer<Vec<u8>>) -> Result<Bytes, Memory>
     ensures { IfOk result (λ text. text ≡ text_in out) }
 {
     match out.into_inner() {

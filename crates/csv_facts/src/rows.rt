@@ -8,7 +8,7 @@ ghost use Rattle.csv_facts.specs.RecordList.{IsWriting, Writes, records_text};
 
 use crate::columns::rows_header_row;
 use crate::extended_row::fill_extended_row;
-use crate::record_writer::{new_writer, write_row, written};
+use crate::record_writer::{new_writer, write_row, written_text};
 use alloc_rows::Alloc;
 use csv::{ByteRecord, Writer};
 use cube_base::{Bytes, Memory};
@@ -24,7 +24,7 @@ pub fn write_rows_header(alloc: Global, s: &Schema) -> Result<Bytes, Memory>
     let header = rows_header_row(alloc, s)?;
     let mut out = new_writer(alloc);
     write_row(&mut out, &header)?;
-    written(out)
+    written_text(out)
 }
 
 /// The records of some rows of a fact that is spread so, in order: of those from a place on, counted from 0, at most so many. Each
@@ -45,7 +45,7 @@ pub fn write_rows(
     let mut out = new_writer(alloc);
     let rows = part_of(spread.rows(), from, most);
     write_some_rows(alloc, &mut out, s, fact, spread.den(), rows)?;
-    written(out)
+    written_text(out)
 }
 
 /// Of the rows from a place on, at most so many.

@@ -8,7 +8,7 @@ ghost use Rattle.csv_facts.specs.RecordList.{IsWriting, Writes, records_of};
 
 use crate::columns::header_row;
 use crate::fact_row::fill_row;
-use crate::record_writer::{new_writer, write_row, written};
+use crate::record_writer::{new_writer, write_row, written_text};
 use csv::{ByteRecord, Writer};
 use cube_base::{Bytes, Memory};
 use fact_records::FactList;
@@ -26,7 +26,7 @@ pub fn write_facts(alloc: Global, s: &Schema, facts: &FactList) -> Result<Bytes,
     let mut out = new_writer(alloc);
     write_row(&mut out, &header)?;
     write_fact_rows(alloc, &mut out, s, facts)?;
-    written(out)
+    written_text(out)
 }
 
 /// Writes the records of facts.

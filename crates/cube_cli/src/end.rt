@@ -85,7 +85,7 @@ impl End {
 
     /// What the program reports of the end: its exit status, and the line that it writes on standard error, which is
     /// there exactly where the status is 2 or more.
-    pub fn told(self) -> (u8, Option<ErrorLine>)
+    pub fn report(self) -> (u8, Option<ErrorLine>)
         ensures status { result.0 ≡ status_of self }
         ensures there { IsSome result.1 ↔ (2 ≤ status_of self) }
         ensures line { IfSome result.1 (λ line. line ≡ record { 0 = self }) }

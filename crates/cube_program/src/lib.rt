@@ -62,7 +62,7 @@ fn tell_reason<W: Write>(words: &[String], reason: Reason, errors: &mut W) {
 pub fn tell<W: Write>(end: End, errors: &mut W) -> u8
     ensures { result ≡ status_of end }
 {
-    let (status, line) = end.told();
+    let (status, line) = end.report();
     if let Some(line) = line {
         let _ = writeln!(errors, "{line}");
     }

@@ -16,13 +16,13 @@ ghost use Rattle.touched_cells.specs.Touched.{touched};
 
 use crate::State;
 use crate::edit_moves::Moves;
-use crate::edited::{given, taken};
+use crate::edited::{given_fact, taken_fact};
 use cell_weight::WeightPolicy;
 use cube_base::{Ids, Memory, PlainList};
 use cube_model::{Edit, Fact};
 use region_index::{Steps, sort_distinct};
 use std::sync::ledger::Ledger;
-use touched_cells::{Change, changes, lying, reweighing};
+use touched_cells::{Change, cell_of_fact, changes, reweighing_changes};
 
 impl<P: WeightPolicy + Drop> State<P> {
     /// What an edit moves, which no code refuses that is judged before the rows. The only error is running out of memory.
@@ -34,12 +34,12 @@ impl<P: WeightPolicy + Drop> State<P> {
     {
         let _ = self.facts();
         let _ = self.shape().columns();
-        let touched = self.touched(edit)?;
-        let reweighing = reweighing(self.alloc, &self.policy, &touched)?;
+        let touched = self.cell_changes(edit)?;
+        let reweighing = reweighing_changes(self.alloc, &self.policy, &touched)?;
         Ok(Moves {
             edit: *edit,
-            taken: taken(edit, &self.facts),
-            given: given(edit),
+            taken: taken_fact(edit, &self.facts),
+            given: given_fact(edit),
             touched: PlainList::from(touched),
             reweighing: PlainList::from(reweighing),
         })
@@ -93,14 +93,14 @@ impl<P: WeightPolicy + Drop> State<P> {
 
     /// The cells that an edit touches, ascending, each with its statistics before and after it. No code that is judged before
     /// the rows refuses the edit.
-    fn touched(&self, edit: &Edit) -> Result<Vec<Change>, Memory>
+    fn cell_changes(&self, edit: &Edit) -> Result<Vec<Change>, Memory>
         requires over { IsEditOver self.now.dims edit.now }
         requires accepted { fact_refusal self.now.shape self.now.dims edit.now self.now.facts ≡ None }
         ensures { IfOk result (λ changes. changes.items ≡ touched (policy_in P.weigh self.now) self.now.dims edit.now self.now.facts) }
     {
         let _ = self.shape.columns();
-        let lost = lying(&self.space, &self.shape, taken(edit, &self.facts));
-        let won = lying(&self.space, &self.shape, given(edit));
+        let lost = cell_of_fact(&self.space, &self.shape, taken_fact(edit, &self.facts));
+        let won = cell_of_fact(&self.space, &self.shape, given_fact(edit));
         changes(self.alloc, &self.stats, lost, won)
     }
 }

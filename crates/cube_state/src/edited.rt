@@ -16,14 +16,14 @@ pub fn edited_id(edit: &Edit) -> u64
 }
 
 /// The fact of that id, if there is one.
-pub fn taken(edit: &Edit, facts: &FactList) -> Option<Fact>
+pub fn taken_fact(edit: &Edit, facts: &FactList) -> Option<Fact>
     ensures { result ≡ taken edit.now facts.now.facts }
 {
     facts.get(edited_id(edit)).copied()
 }
 
 /// The new fact of an edit, if there is one.
-pub fn given(edit: &Edit) -> Option<Fact>
+pub fn given_fact(edit: &Edit) -> Option<Fact>
     ensures { result ≡ given edit.now }
 {
     match edit {

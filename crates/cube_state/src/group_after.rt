@@ -101,7 +101,7 @@ fn sums_after(
 {
     let mut sums = [0; MAX_COLS];
     for column in 0..columns {
-        sums[column as usize] = moved(
+        sums[column as usize] = move_sum(
             sum_of(group, column),
             value_of(taken, column),
             value_of(given, column),
@@ -114,7 +114,7 @@ fn sums_after(
 }
 
 /// A sum with one value less and one more.
-fn moved(sum: i64, taken: i64, given: i64) -> i64
+fn move_sum(sum: i64, taken: i64, given: i64) -> i64
     requires sum { nat_abs sum ≤ MAX_FACTS * MAX_VALUE }
     requires taken { nat_abs taken ≤ MAX_VALUE }
     requires given { nat_abs given ≤ MAX_VALUE }

@@ -27,7 +27,7 @@ impl<P: WeightPolicy + Drop> State<P> {
         let _ = self.shape.columns();
         let _ = self.views.columns();
         let facts = with_new(self.alloc, &self.facts, new)?;
-        let views = self.views.emptied()?;
+        let views = self.views.without_entries()?;
         keep_all(
             self.alloc,
             &self.space,

@@ -281,7 +281,7 @@ impl<P: WeightPolicy + Drop + Copy> State<P> {
         ensures facts { IfOk result (λ state. state.facts ≡ []) }
     {
         let shape = self.shape.copy()?;
-        let views = self.views.emptied()?;
+        let views = self.views.without_entries()?;
         Ok(State {
             alloc: self.alloc,
             space,

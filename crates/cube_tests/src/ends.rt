@@ -160,7 +160,7 @@ fn end_of(ending: Ending) -> End {
 /// Whether this is printed of an end.
 fn is_told(alloc: Global, row: &(Ending, u8, &str)) -> Result<bool, AllocError> {
     let (ending, status, text) = *row;
-    let (told, line) = end_of(ending).told();
+    let (told, line) = end_of(ending).report();
     let said = match line {
         Some(line) => line.to_string(alloc)?,
         None => String::new(alloc),

@@ -1,5 +1,5 @@
 //! Faults of the outside.
-use crate::runs::{ALL, Ending, Outside, REPAIRS, WHOLE, joined, run};
+use crate::runs::{ALL, Ending, Outside, REPAIRS, WHOLE, join_texts, run};
 use std::alloc::{AllocError, Global};
 
 /// Lines of every kind.
@@ -45,7 +45,7 @@ fn stops_behind(
 /// Whether it is so at each read, and one after the end is not made.
 fn fails_at_each(alloc: Global, row: &(usize, u64)) -> Result<bool, AllocError> {
     let (read_step, reads) = *row;
-    let input = joined(alloc, REPAIRS, SCRIPT)?;
+    let input = join_texts(alloc, REPAIRS, SCRIPT)?;
     let mut taken: usize = 0;
     for call in 1..=reads {
         let outside = Outside {
@@ -112,7 +112,7 @@ const WRITES: [(u64, usize, u64); 29] = [
 /// Whether a write that fails ends the run at its line.
 fn breaks_at(alloc: Global, row: &(u64, usize, u64)) -> Result<bool, AllocError> {
     let (write_fails, taken, done) = *row;
-    let input = joined(alloc, REPAIRS, SCRIPT)?;
+    let input = join_texts(alloc, REPAIRS, SCRIPT)?;
     let outside = Outside {
         write_step: 5,
         write_fails,

@@ -2,7 +2,7 @@
 use crate::distributions::QUALITY;
 use crate::limits::{large_dimensions, large_schema, push_nodes};
 use crate::replies::{ROOT, UNEVEN};
-use crate::runs::{ALL, Case, Ending, REPAIRS, WHOLE, hold, joined, run, run_kept};
+use crate::runs::{ALL, Case, Ending, REPAIRS, WHOLE, hold, join_texts, run, run_kept};
 use crate::store_faults::{Fault, end_so};
 use crate::stored::{REPAIR_FACTS, REPAIR_SPREADS, SpreadRow, holds_just, keeper_of};
 use crate::weights::BY_REPAIRS;
@@ -107,7 +107,7 @@ fn dimensions_that_grow(rt: HostRuntime) {
 
 /// Whether a fact of 2^20 cells lets no dimension grow under its nodes, also where there would be too many rows, and lets one grow beside.
 fn keeps_regions(alloc: Global) -> Result<bool, AllocError> {
-    let input = joined(
+    let input = join_texts(
         alloc,
         &large_schema(alloc)?,
         "insert\t1\tL\tS\ngrow\tLeft\tL\tx\ninsert\t2\tL\tS\ngrow\tRight\tS\tx\ngrow\tRight\tR\tu\n",

@@ -1,5 +1,5 @@
 //! The limits on nodes, cells and rows.
-use crate::runs::{Ending, WHOLE, joined, run};
+use crate::runs::{Ending, WHOLE, join_texts, run};
 use cube_base::Code;
 use std::alloc::{AllocError, Global};
 use std::fmt::Write;
@@ -59,7 +59,7 @@ fn has_limits(
     replies: &str,
     refused: u64,
 ) -> Result<bool, AllocError> {
-    let input = joined(alloc, &large_schema(alloc)?, script)?;
+    let input = join_texts(alloc, &large_schema(alloc)?, script)?;
     let ran = run(alloc, &["try"], input.as_bytes(), &WHOLE)?;
     Ok(ran.is(Ending::Finished { refused }, replies))
 }

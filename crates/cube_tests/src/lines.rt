@@ -401,7 +401,7 @@ const FILLED: [Filled; 39] = [
 ];
 
 /// The line with so many bytes in all, and an LF after it.
-fn filled(alloc: Global, row: &Filled, len: usize) -> Result<Vec<u8>, AllocError> {
+fn fill_line(alloc: Global, row: &Filled, len: usize) -> Result<Vec<u8>, AllocError> {
     let (front, byte, back, _) = *row;
     let middle = len.saturating_sub(front.len()).saturating_sub(back.len());
     let mut line = Vec::from_slice(alloc, front)?;
@@ -416,8 +416,8 @@ fn filled(alloc: Global, row: &Filled, len: usize) -> Result<Vec<u8>, AllocError
 /// Whether the line is refused for its code, and with a byte more for its length.
 fn is_refused_filled(alloc: Global, row: &Filled) -> Result<bool, AllocError> {
     let code = row.3;
-    let longest = filled(alloc, row, MAX_LINE)?;
-    let longer = filled(alloc, row, MAX_LINE + 1)?;
+    let longest = fill_line(alloc, row, MAX_LINE)?;
+    let longer = fill_line(alloc, row, MAX_LINE + 1)?;
     Ok(are_refused_for(alloc, code, &longest)? && are_refused_for(alloc, Code::Long, &longer)?)
 }
 

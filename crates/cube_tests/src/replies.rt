@@ -1,5 +1,5 @@
 //! Scripts and their replies.
-use crate::runs::{ALL, Case, Ending, Outside, REPAIRS, hold, joined, run};
+use crate::runs::{ALL, Case, Ending, Outside, REPAIRS, hold, join_texts, run};
 use std::alloc::{AllocError, Global};
 
 /// The same schema under the policy that weighs each cell alike.
@@ -181,7 +181,7 @@ const LINE_ENDS: [(&str, &str, usize); 15] = [
 fn ends_alike(alloc: Global, row: &(&str, &str, usize)) -> Result<bool, AllocError> {
     let (line_end, last, step) = *row;
     let mut input = String::new(alloc);
-    for line in joined(alloc, REPAIRS, FOUR_REPAIRS)?.lines() {
+    for line in join_texts(alloc, REPAIRS, FOUR_REPAIRS)?.lines() {
         input.push_str(line)?;
         input.push_str(line_end)?;
     }
@@ -207,7 +207,7 @@ fn line_ends_and_skipped_lines(rt: HostRuntime) {
 
 /// Whether more replies than one write gathers are written, in order.
 fn gathers_many(alloc: Global) -> Result<bool, AllocError> {
-    let mut input = joined(alloc, REPAIRS, FOUR_REPAIRS)?;
+    let mut input = join_texts(alloc, REPAIRS, FOUR_REPAIRS)?;
     let mut replies = String::from_str(alloc, FOUR_OKS)?;
     for _ in 0..5_000u32 {
         input.push_str("terms\tTX\tAll\n#\n")?;

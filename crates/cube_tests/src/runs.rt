@@ -180,7 +180,7 @@ pub fn run(
 }
 
 /// Two texts, one after the other.
-pub fn joined(alloc: Global, front: &str, back: &str) -> Result<String, AllocError> {
+pub fn join_texts(alloc: Global, front: &str, back: &str) -> Result<String, AllocError> {
     let mut text = String::from_str(alloc, front)?;
     text.push_str(back)?;
     Ok(text)
@@ -192,7 +192,7 @@ pub type Case = (&'static str, &'static str, &'static str, Ending);
 /// Whether the run of `try` over the whole input of a case is as it says, and leaves nothing of the input.
 pub fn holds(alloc: Global, case: &Case) -> Result<bool, AllocError> {
     let (schema, script, replies, end) = *case;
-    let input = joined(alloc, schema, script)?;
+    let input = join_texts(alloc, schema, script)?;
     let ran = run(alloc, &["try"], input.as_bytes(), &WHOLE)?;
     Ok(ran.is(end, replies) && ran.left == 0)
 }

@@ -1,7 +1,7 @@
 //! Stores that are made, worked on and audited.
 use crate::limits::large_schema;
 use crate::replies::FOUR_REPAIRS;
-use crate::runs::{Ending, REPAIRS, WHOLE, joined, run, run_kept, run_over};
+use crate::runs::{Ending, REPAIRS, WHOLE, join_texts, run, run_kept, run_over};
 use crate::stored::{
     CITIES, FACTS, FactRow, REPAIR_FACTS, REPAIR_SPREADS, SPREADS, SpreadRow, holds_just,
     is_spread, keeper_of, run_stored, without_facts,
@@ -338,7 +338,7 @@ fn a_script_over_a_store(rt: HostRuntime) {
 
 /// Whether the same script is replied to so where nothing is kept.
 fn is_tried(alloc: Global) -> Result<bool, Memory> {
-    let input = joined(alloc, CITIES, SCRIPT)?;
+    let input = join_texts(alloc, CITIES, SCRIPT)?;
     let ran = run(alloc, &["try"], input.as_bytes(), &WHOLE)?;
     Ok(ran.is(Ending::Finished { refused: 1 }, REPLIES))
 }
@@ -533,7 +533,7 @@ const DAMAGES: [Damage; 14] = [
 /// Whether the audit of a store tells this, with the status of a bad store, and writes nothing.
 fn is_told(alloc: Global, keeper: &mut MemKeeper, text: &str) -> Result<bool, Memory> {
     let (end, sink, _) = run_over(alloc, &["check", "s"], b"", &WHOLE, keeper)?;
-    let (status, line) = end.told();
+    let (status, line) = end.report();
     let said = match line {
         Some(line) => line.to_string(alloc)?,
         None => String::new(alloc),

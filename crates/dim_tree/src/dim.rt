@@ -103,7 +103,7 @@ impl Dim {
         let depths = depths_of(alloc, lines)?;
         let numbers = count_up(alloc, lines.len() as u32)?;
         let places = count_up(alloc, lines.len() as u32)?;
-        let dim = Self::indexed(alloc, names, places, &depths, &numbers)?;
+        let dim = Self::of_places(alloc, names, places, &depths, &numbers)?;
         Ok(dim)
     }
 
@@ -119,7 +119,7 @@ impl Dim {
         let depths = depths_of(alloc, lines)?;
         let numbers = numbers_of(alloc, lines)?;
         let places = judged_places(alloc, &depths, &numbers)?;
-        let dim = Self::indexed(alloc, names, places, &depths, &numbers)?;
+        let dim = Self::of_places(alloc, names, places, &depths, &numbers)?;
         Ok(dim)
     }
 
@@ -134,12 +134,12 @@ impl Dim {
         ensures { IfOk result (λ dim. dim ≡ outline_nodes depths.now (map string_bytes names.keys) numbers.now) }
     {
         let places = ordered_places(alloc, depths, numbers)?;
-        let dim = Self::indexed(alloc, names, places, depths, numbers)?;
+        let dim = Self::of_places(alloc, names, places, depths, numbers)?;
         Ok(dim)
     }
 
     /// The same, from the places of the numbers.
-    fn indexed(
+    fn of_places(
         alloc: Global,
         names: IndexSet<String>,
         places: Vec<u32>,
@@ -174,7 +174,7 @@ impl Dim {
 
     /// This dimension with a leaf of this name more, as the last child of `parent`. Its number is how many nodes there
     /// were. `Memory` only when it runs out of memory.
-    pub fn grown(&self, parent: u32, name: &Name) -> Result<Self, Memory>
+    pub fn with_leaf(&self, parent: u32, name: &Name) -> Result<Self, Memory>
         requires parent { parent < length self.now }
         requires depth { IfSome (entry_of self.now parent) (λ e. e.depth < MAX_DEPTH) }
         requires few { length self.now < MAX_NODES }

@@ -55,14 +55,14 @@ impl Drill {
     }
 
     /// How many facts the edits refreshed.
-    pub fn refreshed(&self) -> u64
+    pub fn refreshed_count(&self) -> u64
         ensures { result ≡ self.now.refreshed }
     {
         self.refreshed
     }
 
     /// How many edits were refused.
-    pub fn refused(&self) -> u64
+    pub fn refused_count(&self) -> u64
         ensures { result ≡ self.now.refused }
     {
         self.refused

@@ -44,6 +44,6 @@ fn carry_out(alloc: Global, drill: &mut Drill, n: u64) -> Result<Summary, Memory
     drill.withdraw_thirds(n)?;
     Ok(Summary {
         line: summary(alloc, drill, n)?,
-        refused: drill.refused(),
+        refused: drill.refused_count(),
     })
 }

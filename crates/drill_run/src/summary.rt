@@ -31,7 +31,7 @@ fn append_counts(text: &mut Vec<u8>, drill: &Drill, n: u64) -> Result<(), Memory
     append_number(text, n)?;
     append_number(text, drill.fact_count())?;
     append_number(text, drill.row_count())?;
-    append_number(text, drill.refreshed())?;
+    append_number(text, drill.refreshed_count())?;
     Ok(())
 }
 

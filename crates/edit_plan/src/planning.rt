@@ -53,7 +53,7 @@ pub fn plan<P: WeightPolicy + Drop, L: Ledger>(
     ensures fault { IfErr result (IsPlanFaultOf P.weigh state.old edit.now) }
     ensures steps { steps.new ≤ steps.old + step_bound P.weigh state.old edit.now }
 {
-    let moves = judged(state, edit)?;
+    let moves = judge_moves(state, edit)?;
     let regrouped = match regroup_few(state, &moves, steps) {
         Ok(regrouped) => regrouped,
         Err(fault) => {
@@ -114,7 +114,7 @@ fn plan_of<P: WeightPolicy + Drop, L: Ledger>(
 }
 
 /// What an edit moves that is not refused before its rows are made.
-fn judged<P: WeightPolicy + Drop>(state: &State<P>, edit: &Edit) -> Result<Moves, PlanFault>
+fn judge_moves<P: WeightPolicy + Drop>(state: &State<P>, edit: &Edit) -> Result<Moves, PlanFault>
     requires { IsEditOver state.now.dims edit.now }
     ensures moves { IfOk result (AreMoves (policy_in P.weigh state.now) state.now.shape state.now.dims state.now.facts) }
     ensures edit { IfOk result (λ moves. moves.edit ≡ edit.now) }

@@ -56,7 +56,7 @@ impl Plan {
         ensures { result ≡ withdrawn_in self.now.change }
     {
         match &self.change {
-            PlanChange::Edit { edit, .. } => withdrawn(edit),
+            PlanChange::Edit { edit, .. } => withdrawn_id(edit),
             PlanChange::All { .. } => None,
         }
     }
@@ -70,7 +70,7 @@ impl Plan {
 }
 
 /// The id that an edit withdraws, if it withdraws one.
-fn withdrawn(edit: &Edit) -> Option<u64>
+fn withdrawn_id(edit: &Edit) -> Option<u64>
     ensures { result ≡ withdrawn edit.now }
 {
     match edit {

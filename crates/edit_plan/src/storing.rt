@@ -38,7 +38,7 @@ pub fn batch<P: WeightPolicy + Drop>(
 {
     Ok(Batch {
         schema: None,
-        gone: gone(alloc, &moves.edit)?,
+        gone: gone_ids(alloc, &moves.edit)?,
         facts: kept_facts(alloc, state, moves)?,
         rows: kept_rows(alloc, state, moves, regrouped, pairs)?,
     })
@@ -89,7 +89,7 @@ fn kept_rows<P: WeightPolicy + Drop>(
 }
 
 /// The id that an edit withdraws, if it withdraws one.
-fn gone(alloc: Global, edit: &Edit) -> Result<Ids, Memory>
+fn gone_ids(alloc: Global, edit: &Edit) -> Result<Ids, Memory>
     ensures { IfOk result (λ ids. ids ≡ option_to_list (withdrawn edit.now)) }
 {
     let mut ids = Ids::new(alloc);

@@ -147,8 +147,8 @@ fn wide_quotient(sum: Value, count: Value, scale: u32) -> Quotient
             exact: None,
         };
     }
-    let below = divided(sum.lo, least, most, u128::from(scale));
-    let above = divided(sum.hi, most, least, u128::from(scale));
+    let below = bounds_by_sign(sum.lo, least, most, u128::from(scale));
+    let above = bounds_by_sign(sum.hi, most, least, u128::from(scale));
     Quotient::Is {
         lo: Some(below.lo),
         hi: Some(above.hi),
@@ -157,7 +157,7 @@ fn wide_quotient(sum: Value, count: Value, scale: u32) -> Quotient
 }
 
 // The whole numbers next to a number over a divisor and a scale; a negative number has another divisor.
-fn divided(num: i128, negative: u128, positive: u128, scale: u128) -> Bounds
+fn bounds_by_sign(num: i128, negative: u128, positive: u128, scale: u128) -> Bounds
     requires some { (1 ≤ negative) × (1 ≤ positive) × (1 ≤ scale) }
     requires narrow { (negative * scale ≤ WIDE) × (positive * scale ≤ WIDE) }
     requires size { (nat_abs num ≤ MOST_WHOLE * negative) × (nat_abs num ≤ MOST_WHOLE * positive) }

@@ -11,7 +11,7 @@ use cube_base::Memory;
 use fact_records::{FactList, Shape};
 use region_algebra::Space;
 use std::alloc::Global;
-use touched_cells::lying;
+use touched_cells::cell_of_fact;
 
 /// The statistics of the cells on which facts lie: for each the number of its precise facts, and the sum that they add.
 pub(crate) fn stats_of(
@@ -26,7 +26,7 @@ pub(crate) fn stats_of(
     let _ = shape.columns();
     let mut stats = StatIndex::new(alloc);
     for fact in facts.iter() {
-        count_in(&mut stats, lying(space, shape, Some(*fact)))?;
+        count_in(&mut stats, cell_of_fact(space, shape, Some(*fact)))?;
     }
     Ok(stats)
 }

@@ -59,7 +59,7 @@ impl Blocks {
     }
 
     /// The blocks in use.
-    pub(crate) fn used(&self) -> &[Block]
+    pub(crate) fn used_blocks(&self) -> &[Block]
         ensures { result.now ≡ self.now.used }
     {
         self.used.as_slice()
@@ -173,14 +173,14 @@ impl Blocks {
         requires stock { 0 < self.old.stock }
         ensures { MakesRoom self.old self.new place.block place.at result.block result.at }
     {
-        if self.used().is_empty() {
+        if self.used_blocks().is_empty() {
             self.add(0);
             return place;
         }
         if self.block(place.block).len() < BLOCK {
             return place;
         }
-        if place.at == BLOCK && place.block + 1 == self.used().len() {
+        if place.at == BLOCK && place.block + 1 == self.used_blocks().len() {
             self.add(place.block + 1);
             return Place {
                 block: place.block + 1,

@@ -68,8 +68,8 @@ impl FactList {
     pub fn get(&self, id: u64) -> Option<&Fact>
         ensures { option_copied result ≡ fact_of id self.now.facts }
     {
-        match search(self.blocks.used(), id) {
-            Ok(place) => Some(fact_at(self.blocks.used(), place)),
+        match search(self.blocks.used_blocks(), id) {
+            Ok(place) => Some(fact_at(self.blocks.used_blocks(), place)),
             Err(_) => None,
         }
     }
@@ -85,7 +85,7 @@ impl FactList {
     pub fn iter(&self) -> FactWalk<'_>
         ensures { facts_left result ≡ self.now.facts }
     {
-        FactWalk::new(self.blocks.used())
+        FactWalk::new(self.blocks.used_blocks())
     }
 
     /// Puts a fact in, in the place of the one with its id if there is one, which is handed back. Where there is none,
@@ -98,7 +98,7 @@ impl FactList {
         ensures kept { IfSome result (λ _. self.old.spare ≤ self.new.spare) }
         ensures ascending { IsAscending self.new.facts }
     {
-        match search(self.blocks.used(), fact.id) {
+        match search(self.blocks.used_blocks(), fact.id) {
             Ok(place) => Some(self.blocks.replace(place, fact)),
             Err(place) => {
                 self.blocks.insert(place, fact);
@@ -116,7 +116,7 @@ impl FactList {
         ensures spare { self.old.spare ≤ self.new.spare }
         ensures ascending { IsAscending self.new.facts }
     {
-        match search(self.blocks.used(), id) {
+        match search(self.blocks.used_blocks(), id) {
             Ok(place) => {
                 let fact = self.blocks.remove(place);
                 self.count -= 1;
@@ -142,7 +142,7 @@ impl FactList {
             return Err(Memory);
         }
         if n > self.blocks.stock() as u64 {
-            let stock = n.min(n / HALF as u64 + load(self.blocks.used()) / HALF as u64 + 2);
+            let stock = n.min(n / HALF as u64 + load(self.blocks.used_blocks()) / HALF as u64 + 2);
             self.blocks.reserve(stock as usize)?;
         }
         self.spare = n;

@@ -101,11 +101,11 @@ fn natural_in(bytes: &[u8], most: u64) -> Option<i64>
     requires { most < 2 ^ 63 }
     ensures { result ≡ option_map (λ n. pos n) (number_in 0 most bytes.now) }
 {
-    Some(signed(number_in(bytes, 0, most)?))
+    Some(to_value(number_in(bytes, 0, most)?))
 }
 
 /// A number as a value.
-fn signed(n: u64) -> i64
+fn to_value(n: u64) -> i64
     requires { n < 2 ^ 63 }
     ensures { result ≡ pos n }
 {
@@ -132,7 +132,7 @@ fn parts_in(count: usize, scale: u32, field: &str) -> Option<Cols>
         if read == count {
             return None;
         }
-        parts[read] = signed(number_in(part.as_bytes(), 0, u64::from(scale))?);
+        parts[read] = to_value(number_in(part.as_bytes(), 0, u64::from(scale))?);
         read += 1;
     }
     if read < count {

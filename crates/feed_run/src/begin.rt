@@ -8,7 +8,7 @@ ghost use Rattle.script_run.specs.Seen.{keeper_seen};
 ghost use Rattle.feed_run.specs.BeginTurn.{Begins, BeginsOver, IsRefusal, MakesBase, MakesCube, import_stop};
 
 use crate::catcher::BatchCatcher;
-use crate::follow_base::refused;
+use crate::follow_base::refuse_line;
 use crate::lead::keep;
 use crate::part_stop::PartStop;
 use crate::same_base::compare_base;
@@ -199,7 +199,7 @@ fn stop_of_import(fault: ImportFault, number: u64) -> PartStop
     ensures { result ≡ import_stop number fault }
 {
     match fault {
-        ImportFault::Rows { .. } => refused(number, Code::Rows),
+        ImportFault::Rows { .. } => refuse_line(number, Code::Rows),
         ImportFault::Memory => PartStop::Input(InputStop::Memory),
         ImportFault::BadRecord(_) | ImportFault::KeepFault => unreachable!(),
     }

@@ -61,7 +61,7 @@ fn judge_base_line(
     judge_place(number, line, is_base_line(line))?;
     match read_feed_line(alloc, schema, line) {
         Ok(told) => judge_told(schema, facts, number, told),
-        Err(LineFault::Code(code)) => Err(refused(number, code)),
+        Err(LineFault::Code(code)) => Err(refuse_line(number, code)),
         Err(LineFault::Memory) => Err(PartStop::Input(InputStop::Memory)),
     }
 }
@@ -80,19 +80,19 @@ fn judge_told(
     match told {
         FeedLine::Fact(fact) => match judge_fact(schema.space(), facts, &fact) {
             Ok(()) => Ok(Some(fact)),
-            Err(code) => Err(refused(number, code)),
+            Err(code) => Err(refuse_line(number, code)),
         },
         FeedLine::Based => Ok(None),
         FeedLine::Batch { line, .. } => {
             drop(line);
-            Err(refused(number, Code::Order))
+            Err(refuse_line(number, Code::Order))
         }
-        FeedLine::Other => Err(refused(number, Code::Order)),
+        FeedLine::Other => Err(refuse_line(number, Code::Order)),
     }
 }
 
 /// A line is refused.
-pub(crate) fn refused(number: u64, code: Code) -> PartStop
+pub(crate) fn refuse_line(number: u64, code: Code) -> PartStop
     ensures { result ≡ part_stop.Feed (feed_stop.Bad number code) }
 {
     PartStop::Feed(FeedStop::Bad { line: number, code })

@@ -13,7 +13,7 @@ ghost use Rattle.feed_run.specs.FollowTurn.{AllTold, AreFew, AreFewer, FollowedB
 
 use crate::catcher::{LineDone, do_caught};
 use crate::feed_lines::FeedLines;
-use crate::follow_base::refused;
+use crate::follow_base::refuse_line;
 use crate::follow_head::judge_place;
 use crate::keeping::apply;
 use crate::part_stop::PartStop;
@@ -141,7 +141,7 @@ fn take_batch(
     judge_place(number, line, is_batch_line(line))?;
     match read_feed_line(alloc, cube.schema(), line) {
         Ok(told) => take_told(alloc, cube, applied, number, told),
-        Err(LineFault::Code(code)) => Err(refused(number, code)),
+        Err(LineFault::Code(code)) => Err(refuse_line(number, code)),
         Err(LineFault::Memory) => Err(PartStop::Input(InputStop::Memory)),
     }
 }
@@ -179,9 +179,9 @@ fn take_told(
             drop(line);
             taken
         }
-        FeedLine::Fact(_) => Err(refused(number, Code::Order)),
-        FeedLine::Based => Err(refused(number, Code::Order)),
-        FeedLine::Other => Err(refused(number, Code::Order)),
+        FeedLine::Fact(_) => Err(refuse_line(number, Code::Order)),
+        FeedLine::Based => Err(refuse_line(number, Code::Order)),
+        FeedLine::Other => Err(refuse_line(number, Code::Order)),
     }
 }
 
@@ -197,7 +197,7 @@ fn do_batch(
     ensures rows { IfOk result (λ batch. AreRowsOf cube.new.schema.dims batch.rows) }
 {
     if let Err(code) = said {
-        return Err(refused(number, *code));
+        return Err(refuse_line(number, *code));
     }
     let LineDone { reply, batch } = do_caught(alloc, cube, said)?;
     match batch {
@@ -208,7 +208,7 @@ fn do_batch(
         None => {
             let code = refusal_in(&reply);
             drop(reply);
-            Err(refused(number, code))
+            Err(refuse_line(number, code))
         }
     }
 }

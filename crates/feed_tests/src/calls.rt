@@ -80,7 +80,7 @@ impl Job<'_> {
     }
 
     /// How many parts an end counts.
-    fn counted(&self, parts: usize) -> u64 {
+    fn count_parts(&self, parts: usize) -> u64 {
         parts.saturating_sub(self.uncounted) as u64
     }
 
@@ -153,7 +153,7 @@ impl Job<'_> {
     /// Whether each read after so many parts, by which no other is done, ends the run where it fails.
     fn stops_at_reads(&self, alloc: Global, parts: usize, after: &KeptRun) -> Result<bool, Memory> {
         let end = Ending::ReadFault {
-            done: self.counted(parts),
+            done: self.count_parts(parts),
         };
         let written = after.ran.sink.bytes().len();
         let (first, next) = self.reads_behind(parts);
@@ -178,7 +178,7 @@ impl Job<'_> {
         after: &KeptRun,
     ) -> Result<bool, Memory> {
         let end = Ending::WriteFault {
-            done: self.counted(parts),
+            done: self.count_parts(parts),
         };
         let before = match parts.checked_sub(1) {
             Some(earlier) => self.sizes_after(alloc, earlier)?.0,
@@ -210,7 +210,7 @@ impl Job<'_> {
             return Ok(true);
         }
         let end = Ending::KeepFault {
-            done: self.counted(parts),
+            done: self.count_parts(parts),
         };
         // The load is the first call.
         let call = (kept as u64).saturating_add(2);

@@ -1,6 +1,6 @@
 //! Feeds: what a leader writes, what a follower makes of one, and where one stops it.
 use cube_base::{Code, Memory};
-use cube_tests::runs::{Ending, REPAIRS, WHOLE, joined, run_kept};
+use cube_tests::runs::{Ending, REPAIRS, WHOLE, join_texts, run_kept};
 use cube_tests::stored::{
     CITIES, Content, FactRow, REPAIR_FACTS, REPAIR_SPREADS, SpreadRow, holds_just, keeper_of,
     run_stored, without_facts,
@@ -604,7 +604,7 @@ fn follows_feed(
 /// Whether so it goes over a store in which there is nothing, of what stands after a text.
 fn follows(alloc: Global, before: &str, row: &Feed) -> Result<bool, Memory> {
     let (tail, end, written, batches) = *row;
-    let feed = joined(alloc, before, tail)?;
+    let feed = join_texts(alloc, before, tail)?;
     follows_feed(
         alloc,
         without_facts(""),

@@ -17,7 +17,7 @@ pub struct Ahead {
 }
 
 /// How many of the other terms have a denominator that the own terms have not.
-pub fn missing(own: &Rows, other: &Rows) -> usize
+pub fn count_missing(own: &Rows, other: &Rows) -> usize
     requires own { Ascend own.now.terms }
     requires other { Ascend other.now.terms }
     ensures { result ≡ missing_in own.now.terms other.now.terms }

@@ -7,7 +7,7 @@ ghost use Rattle.group_sum.specs.Place.{IsAt, IsGapFor};
 ghost use Rattle.group_sum.specs.Merge.{FitsDifference, FitsMerge, HasDifference, IsDifference, IsDifferenceFault};
 
 use crate::difference::{SubFault, subtract};
-use crate::merge::{merge, missing};
+use crate::merge::{count_missing, merge};
 use crate::rows::Rows;
 use cube_base::{Cols, MAX_COLS, Memory, PlainList};
 use cube_model::Region;
@@ -176,7 +176,7 @@ impl Terms {
         ensures terms { AreTerms self.new }
     {
         let own = self.rows.len();
-        self.rows.grow(missing(&self.rows, &other.rows))?;
+        self.rows.grow(count_missing(&self.rows, &other.rows))?;
         merge(&mut self.rows, own, &other.rows);
         Ok(())
     }

@@ -51,11 +51,11 @@ pub fn iterate(
     if cells > MOST_CELLS {
         return Err(IterFault::Many { cells });
     }
-    Ok(iterated(alloc, space, facts, rounds, r, columns)?)
+    Ok(iterate_facts(alloc, space, facts, rounds, r, columns)?)
 }
 
 /// What facts that are not judged have in a region.
-fn iterated(
+fn iterate_facts(
     alloc: Global,
     space: &Space,
     facts: &FactList,

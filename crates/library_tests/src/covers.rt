@@ -54,7 +54,7 @@ fn place(space: &Space, placed: &mut Placed, fact: &Fact) -> Result<(), Fail>
 }
 
 /// The regions of facts, and their codes with the ids.
-fn placed(alloc: Global, space: &Space, facts: &[Fact]) -> Result<Placed, Fail>
+fn place_all(alloc: Global, space: &Space, facts: &[Fact]) -> Result<Placed, Fail>
     ensures { IfOk result (λ placed. AreCounted space.now placed.0.items placed.1.items × All (IsRegion space.now) placed.1.items) }
 {
     let mut placed = (Vec::new(alloc), Vec::new(alloc));
@@ -72,7 +72,7 @@ fn index_of(
 ) -> Result<(RegionIndex, DepthPatterns), Fail>
     ensures { IfOk result (λ made. HasPatterns space.now made.0 made.1) }
 {
-    let (pairs, regions) = placed(alloc, space, facts)?;
+    let (pairs, regions) = place_all(alloc, space, facts)?;
     let mut index = RegionIndex::new(alloc);
     let entries = index.stage(&pairs, &[])?;
     index.install(entries);

@@ -152,7 +152,7 @@ fn place(
 }
 
 /// All of some facts, in order.
-fn placed(alloc: Global, space: &Space, facts: &[Fact], column: u32) -> Result<Vec<Placed>, Fail>
+fn place_all(alloc: Global, space: &Space, facts: &[Fact], column: u32) -> Result<Vec<Placed>, Fail>
     requires few { length facts.now ≤ 4 }
     requires column { column ≤ 1 }
     ensures each { IfOk result (λ placed. All (IsPlacedFor space.now column) placed.items) }
@@ -173,7 +173,7 @@ fn has_ends(alloc: Global, space: &Space, row: &Row) -> Result<bool, Fail> {
         return Err("a large row".into());
     }
     let region = space.region(nodes).ok_or("no region")?;
-    let items = placed(alloc, space, facts, column)?;
+    let items = place_all(alloc, space, facts, column)?;
     let found = range(alloc, &items, space, region, column)?;
     Ok(
         (found.least, found.low.as_slice()) == low

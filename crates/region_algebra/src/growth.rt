@@ -74,7 +74,7 @@ pub fn grown_dims(
     requires accepted { own_fault dims.now d parent name.now ≡ None }
     ensures { IfOk result (λ copies. copies.items ≡ grown_dims dims.now d parent name.now) }
 {
-    let grown = dims[d].grown(parent, name)?;
+    let grown = dims[d].with_leaf(parent, name)?;
     let mut copies = copies_of(alloc, dims)?;
     copies[d] = grown;
     Ok(copies)

@@ -71,11 +71,11 @@ impl Space {
         if n == 0 || n > MAX_DIMS {
             return Err(SpaceFault::Dims { n: n as u64 });
         }
-        Self::stepped(dims)
+        Self::with_steps(dims)
     }
 
     /// `new` of 1 to 6 dimensions.
-    fn stepped(dims: Vec<Dim>) -> Result<Self, SpaceFault>
+    fn with_steps(dims: Vec<Dim>) -> Result<Self, SpaceFault>
         requires some { 1 ≤ length dims.items }
         requires few { length dims.items ≤ MAX_DIMS }
         ensures made { IfOk result (λ space. space ≡ dims.items) }
@@ -268,7 +268,7 @@ impl Space {
             return Err(fault);
         }
         let dims = growth::grown_dims(*self.dims.allocator(), &self.dims, d, parent, &name)?;
-        match Self::stepped(dims) {
+        match Self::with_steps(dims) {
             Ok(space) => Ok(space),
             // The leaf's dimension has no more leaves than it had nodes, so the cells are no more than the regions were.
             Err(_) => Err(GrowFault::Nodes),

@@ -19,7 +19,7 @@ pub fn sort_distinct(mut ids: Vec<u64>) -> Vec<u64>
 }
 
 /// Equal pairs.
-pub fn copied(alloc: Global, pairs: &[(u64, u64)]) -> Result<Vec<(u64, u64)>, AllocError>
+pub fn copy_pairs(alloc: Global, pairs: &[(u64, u64)]) -> Result<Vec<(u64, u64)>, AllocError>
     ensures { IfOk result (λ copy. copy.items ≡ pairs.now) }
 {
     pairs.iter().copied().collect(alloc)
@@ -99,7 +99,7 @@ pub fn at_codes(alloc: Global, groups: &Staged<Ids>, codes: &[u64]) -> Result<Ve
 }
 
 /// The ids with more after them.
-fn appended(mut ids: Vec<u64>, more: &[u64]) -> Result<Vec<u64>, Memory>
+fn append_ids(mut ids: Vec<u64>, more: &[u64]) -> Result<Vec<u64>, Memory>
     ensures { IfOk result (λ all. all.items ≡ ids.items ++ more.now) }
 {
     ids.extend_from_slice(more)?;
@@ -111,7 +111,7 @@ pub fn ascending_copy(alloc: Global, ids: &[u64]) -> Result<Vec<u64>, Memory>
     ensures ascending { IfOk result (λ copy. AreAscending copy.items) }
     ensures same { IfOk result (λ copy. (id : ℕ) → is_among copy.items id ≡ is_among ids.now id) }
 {
-    Ok(sort_distinct(appended(Vec::new(alloc), ids)?))
+    Ok(sort_distinct(append_ids(Vec::new(alloc), ids)?))
 }
 
 /// Whether an id is among ascending ones.
@@ -123,7 +123,7 @@ fn is_in(ids: &[u64], id: u64) -> bool
 }
 
 /// The ids that are not among ascending ones.
-fn kept(alloc: Global, ids: &[u64], dropped: &[u64]) -> Result<Vec<u64>, Memory>
+fn ids_without(alloc: Global, ids: &[u64], dropped: &[u64]) -> Result<Vec<u64>, Memory>
     requires { AreAscending dropped.now }
     ensures { IfOk result (λ kept. kept.items ≡ filter (λ id. not (is_among dropped.now id)) ids.now) }
 {
@@ -137,10 +137,15 @@ fn kept(alloc: Global, ids: &[u64], dropped: &[u64]) -> Result<Vec<u64>, Memory>
 }
 
 /// The ids but for the dropped ones, and with those that are put, ascending, each once.
-pub fn changed(alloc: Global, ids: &[u64], put: &[u64], dropped: &[u64]) -> Result<Vec<u64>, Memory>
+pub fn change_ids(
+    alloc: Global,
+    ids: &[u64],
+    put: &[u64],
+    dropped: &[u64],
+) -> Result<Vec<u64>, Memory>
     requires { AreAscending dropped.now }
     ensures ascending { IfOk result (λ changed. AreAscending changed.items) }
     ensures members { IfOk result (λ changed. (id : ℕ) → is_among changed.items id ≡ (is_among put.now id || (is_among ids.now id && not (is_among dropped.now id)))) }
 {
-    Ok(sort_distinct(appended(kept(alloc, ids, dropped)?, put)?))
+    Ok(sort_distinct(append_ids(ids_without(alloc, ids, dropped)?, put)?))
 }

@@ -41,14 +41,14 @@ impl Walk<'_> {
             if pattern == 0 { Some(code) } else { None }
         } else {
             let dim = self.space.dim(d);
-            let node = lifted(dim, self.leaves.node(d), (pattern % 9) as u8)?;
+            let node = climb_to_depth(dim, self.leaves.node(d), (pattern % 9) as u8)?;
             self.code_at(d + 1, pattern / 9, with_node(dim, node, code))
         }
     }
 }
 
 /// The node of a depth that a node is under, itself included, if it does not lie less deep.
-fn lifted(dim: &Dim, node: u32, depth: u8) -> Option<u32>
+fn climb_to_depth(dim: &Dim, node: u32, depth: u8) -> Option<u32>
     requires { node < length dim.now }
     ensures found { IfSome result (λ n. places_at_depth dim.now node depth ≡ option_map_or (λ place. place) (place_of dim.now n) 0 ∷ []) }
     ensures within { IfSome result (λ n. n < length dim.now) }
@@ -61,6 +61,6 @@ fn lifted(dim: &Dim, node: u32, depth: u8) -> Option<u32>
     } else if own < depth {
         None
     } else {
-        lifted(dim, dim.parent(node)?, depth)
+        climb_to_depth(dim, dim.parent(node)?, depth)
     }
 }

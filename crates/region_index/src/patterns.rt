@@ -77,7 +77,7 @@ impl DepthPatterns {
 
     /// The codes at which ids are held of the regions over the leaves of a walk that have a pattern in use. A step is a
     /// probe of such a region.
-    pub(crate) fn probed<L: Ledger>(
+    pub(crate) fn probe_regions<L: Ledger>(
         &self,
         walk: &Walk<'_>,
         steps: &mut Steps<L>,
@@ -114,18 +114,18 @@ impl DepthPatterns {
     {
         let given = patterns_of(self.alloc, space, given)?;
         let taken = patterns_of(self.alloc, space, taken)?;
-        self.staged(given, taken)
+        self.stage_patterns(given, taken)
     }
 
     /// The same where the patterns are known.
-    fn staged(&mut self, given: Vec<u64>, taken: Vec<u64>) -> Result<PatternStage, Memory>
+    fn stage_patterns(&mut self, given: Vec<u64>, taken: Vec<u64>) -> Result<PatternStage, Memory>
         requires { (pattern : ℕ) → pattern_count self.old pattern + length given.items < 2 ^ 64 }
         ensures given { IfOk result (λ stage. stage.given ≡ given.items) }
         ensures taken { IfOk result (λ stage. stage.taken ≡ taken.items) }
         ensures staged { IfOk result (ArePatternsStaged self.new) }
         ensures counts { IsUnchanged self.old self.new }
     {
-        let keys = sort_distinct(joined(self.alloc, &given, &taken)?);
+        let keys = sort_distinct(join_numbers(self.alloc, &given, &taken)?);
         let entries = self.entries(&keys, &given, &taken)?;
         self.counts.reserve(&keys)?;
         Ok(PatternStage {
@@ -164,7 +164,7 @@ impl DepthPatterns {
         for key in keys {
             let count = count_at(&self.counts, *key) + count_at(given, *key);
             let left = count.saturating_sub(count_at(taken, *key));
-            entries.push((*key, counted(left)))?;
+            entries.push((*key, count_if_some(left)))?;
         }
         Ok(entries)
     }
@@ -194,7 +194,7 @@ fn count_at(counts: &Staged<u64>, pattern: u64) -> u64
 }
 
 /// A count, where it is not none.
-fn counted(count: u64) -> Option<u64>
+fn count_if_some(count: u64) -> Option<u64>
     ensures { result ≡ count_if_some count }
 {
     if count == 0 { None } else { Some(count) }
@@ -223,7 +223,7 @@ fn add_one(times: &mut Staged<u64>, number: u64) -> Result<(), Memory>
 }
 
 /// The numbers of both lists.
-fn joined(alloc: Global, first: &[u64], second: &[u64]) -> Result<Vec<u64>, AllocError>
+fn join_numbers(alloc: Global, first: &[u64], second: &[u64]) -> Result<Vec<u64>, AllocError>
     ensures { IfOk result (λ all. all.items ≡ first.now ++ second.now) }
 {
     first.iter().chain(second).copied().collect(alloc)

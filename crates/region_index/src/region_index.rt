@@ -8,7 +8,8 @@ ghost use Rattle.region_index.specs.Patterns.{HasPatterns, patterns_in_use};
 
 use crate::Steps;
 use crate::changes::{
-    ascending_copy, at_code, at_codes, by_code, changed, changed_codes, copied, sort_distinct,
+    ascending_copy, at_code, at_codes, by_code, change_ids, changed_codes, copy_pairs,
+    sort_distinct,
 };
 use crate::patterns::DepthPatterns;
 use crate::walk::Walk;
@@ -132,7 +133,7 @@ impl RegionIndex {
             space,
             leaves: space.cell_at(cell),
         };
-        Ok(Ids::from(sort_distinct(patterns.probed(&walk, steps)?)))
+        Ok(Ids::from(sort_distinct(patterns.probe_regions(&walk, steps)?)))
     }
 
     /// The ids at a code, ascending, none where none is held. It takes no memory.
@@ -156,13 +157,13 @@ impl RegionIndex {
         ensures content { IsUnchanged self.old self.new }
     {
         let codes = changed_codes(self.alloc, puts, drops)?;
-        let stage = self.staged(&codes, puts, drops)?;
+        let stage = self.stage_at_codes(&codes, puts, drops)?;
         self.ids.reserve(&codes)?;
         Ok(stage)
     }
 
     /// The changes, with the ids that they make at the codes.
-    fn staged(
+    fn stage_at_codes(
         &self,
         codes: &[u64],
         puts: &[(u64, u64)],
@@ -171,8 +172,8 @@ impl RegionIndex {
         ensures { IfOk result (λ stage. stage ≡ staging self.now codes.now puts.now drops.now) }
     {
         Ok(RegionStage {
-            puts: Pairs::from(copied(self.alloc, puts)?),
-            drops: Pairs::from(copied(self.alloc, drops)?),
+            puts: Pairs::from(copy_pairs(self.alloc, puts)?),
+            drops: Pairs::from(copy_pairs(self.alloc, drops)?),
             entries: self.entries(codes, puts, drops)?,
         })
     }
@@ -217,7 +218,7 @@ impl RegionIndex {
         ensures { IfOk result (λ entry. (puts drops : List Pair) → AreByCode put.now puts → AreByCode dropped.now drops → entry ≡ changed_entry self.now puts drops code) }
     {
         let ids = self.changed_at(code, at_code(put, code), at_code(dropped, code))?;
-        Ok((code, held(ids)))
+        Ok((code, some_ids(ids)))
     }
 
     /// The ids at a code but for those that are dropped, and with those that are put, ascending, each once.
@@ -227,7 +228,7 @@ impl RegionIndex {
         ensures before { AreAscending (ids_at self.now code) }
     {
         let dropped = ascending_copy(self.alloc, dropped)?;
-        changed(self.alloc, at_code(&self.ids, code), put, &dropped)
+        change_ids(self.alloc, at_code(&self.ids, code), put, &dropped)
     }
 
     /// Carries out the changes. What is held is what they were staged for. It takes no memory.
@@ -245,7 +246,7 @@ impl RegionIndex {
 }
 
 /// The ids, where there are some: a code without ids takes no room.
-fn held(ids: Vec<u64>) -> Option<Ids>
+fn some_ids(ids: Vec<u64>) -> Option<Ids>
     ensures { result ≡ some_ids ids.items }
 {
     if ids.is_empty() {

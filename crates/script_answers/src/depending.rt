@@ -54,7 +54,7 @@ pub fn component_answer(
         return Ok(Err(Code::Missing));
     }
     match component(alloc, schema.space(), facts, id) {
-        Ok(ids) => Ok(Ok(Answer::Numbers(counted(alloc, ids.as_slice())?))),
+        Ok(ids) => Ok(Ok(Answer::Numbers(count_and_ids(alloc, ids.as_slice())?))),
         Err(IterFault::Many { .. }) => Ok(Err(Code::Many)),
         Err(IterFault::Memory) => Err(Memory),
     }
@@ -68,7 +68,7 @@ fn has_fact(facts: &FactList, id: u64) -> bool
 }
 
 /// The number of ids, and the ids.
-fn counted(alloc: Global, ids: &[u64]) -> Result<Nums, Memory>
+fn count_and_ids(alloc: Global, ids: &[u64]) -> Result<Nums, Memory>
     ensures { IfOk result (λ numbers. numbers ≡ pos (length ids.now) ∷ map (λ id. pos id) ids.now) }
 {
     let mut numbers = Nums::new(alloc);

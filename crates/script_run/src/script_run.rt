@@ -271,7 +271,7 @@ impl ScriptRun {
     }
 
     /// How many lines are answered.
-    pub fn done(&self) -> u64
+    pub fn lines_done(&self) -> u64
         ensures { result ≡ self.now.done }
     {
         self.done

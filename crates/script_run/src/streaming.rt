@@ -136,7 +136,7 @@ fn do_piece<S: Source, K: Sink, Q: Keeper>(
 {
     do_and_send(run, lines, out, keeper)?;
     if let Err(stop) = pieces.feed_next(source, lines) {
-        return Err(StreamStop::at(stop, run.done()));
+        return Err(StreamStop::at(stop, run.lines_done()));
     }
     Ok(())
 }

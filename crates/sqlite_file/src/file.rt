@@ -81,7 +81,7 @@ impl<'rt> StoreFile<'rt> {
     pub fn write(&mut self, batch: &Batch) -> Result<(), Fault>
         ensures { self.new ≡ self.old }
     {
-        let before = self.found()?;
+        let before = self.find_unchanged()?;
         self.is_log_spare = false;
         let written = write_batch(self.rt.alloc(), &mut self.conn, batch);
         let (left, looked) = match self.left_after(&before) {
@@ -96,12 +96,12 @@ impl<'rt> StoreFile<'rt> {
     ///
     /// `Outside` comes where it does not, they are not, or they cannot be looked at; `Memory` when it runs out of memory.
     pub fn look_again(&self) -> Result<(), Fault> {
-        self.found()?;
+        self.find_unchanged()?;
         Ok(())
     }
 
     /// The file and its log, where the path still leads to those that are open, and they are as they were left.
-    fn found(&self) -> Result<Left, Fault> {
+    fn find_unchanged(&self) -> Result<Left, Fault> {
         match left_at(self.rt, self.path.as_str(), self.log.as_str())? {
             Some(found) if self.left == Some(found) => Ok(found),
             _ => Err(Fault::Outside(Reason::Exchanged)),

@@ -77,7 +77,7 @@ fn mending_beside<P: WeightPolicy + Drop>(
         schema: None,
         gone: gone_beside(alloc, state, kept)?,
         facts: KeptFacts::new(alloc),
-        rows: wanting(alloc, state, kept)?,
+        rows: rows_to_put(alloc, state, kept)?,
     };
     Ok(Mending {
         batch,
@@ -116,7 +116,7 @@ fn put_gone<P: WeightPolicy + Drop>(
 }
 
 /// The rows of a state's facts that are to be put beside kept ones, in order.
-fn wanting<P: WeightPolicy + Drop>(
+fn rows_to_put<P: WeightPolicy + Drop>(
     alloc: Global,
     state: &State<P>,
     kept: &[KeptRows],

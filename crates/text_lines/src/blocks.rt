@@ -15,7 +15,7 @@ pub(crate) fn count_of(bytes: &[u8], byte: u8) -> usize
     ensures most { result ≤ length bytes.now }
 {
     if bytes.len() < BLOCK {
-        return count_behind(&filled(bytes), BLOCK - bytes.len(), byte);
+        return count_behind(&fill_block(bytes), BLOCK - bytes.len(), byte);
     }
     let last = bytes.len() - BLOCK;
     let mut count = 0;
@@ -35,7 +35,7 @@ pub(crate) fn place_of(bytes: &[u8], from: usize, byte: u8) -> usize
 {
     if bytes.len() < BLOCK {
         let gap = BLOCK - bytes.len();
-        return place_behind(&filled(bytes), gap + from, byte) - gap;
+        return place_behind(&fill_block(bytes), gap + from, byte) - gap;
     }
     let last = bytes.len() - BLOCK;
     let mut at = from;
@@ -93,7 +93,7 @@ pub(crate) fn are_plain(bytes: &[u8]) -> bool
     ensures { result ≡ list_all is_plain bytes.now }
 {
     if bytes.len() < BLOCK {
-        return is_plain_block(&filled(bytes), 0);
+        return is_plain_block(&fill_block(bytes), 0);
     }
     let last = bytes.len() - BLOCK;
     let mut at = 0;
@@ -119,7 +119,7 @@ fn is_plain_block(bytes: &[u8], at: usize) -> bool
 }
 
 /// At most 16 bytes as a block, after spaces: a short text then needs no loop over its bytes.
-fn filled(bytes: &[u8]) -> [u8; BLOCK]
+fn fill_block(bytes: &[u8]) -> [u8; BLOCK]
     requires { length bytes.now ≤ 16 }
     ensures { result ≡ replicate (16 - length bytes.now) 32 ++ bytes.now }
 {

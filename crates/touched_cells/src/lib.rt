@@ -3,4 +3,4 @@
 
 mod touched;
 
-pub use touched::{Change, changes, lying, reweighing};
+pub use touched::{Change, cell_of_fact, changes, reweighing_changes};

@@ -21,7 +21,7 @@ pub type Change = (u64, CellStat, CellStat);
 
 /// What a fact of these values adds to the sum of its cell: the value of the measure by whose sum cells weigh, which is not
 /// below 0, or 0 where there is no such measure.
-fn added(shape: &Shape, cols: Cols) -> u64
+fn adds_of(shape: &Shape, cols: Cols) -> u64
     requires shape { IsShape shape.now }
     requires values { cols_refusal shape.now cols ≡ None }
     ensures adds { result ≡ adds_of shape.now cols }
@@ -45,7 +45,7 @@ fn distance_at(cols: Cols, i: u32) -> u64
 }
 
 /// The cell of a fact whose region is one cell, if there is one, with what it adds there.
-pub fn lying(space: &Space, shape: &Shape, fact: Option<Fact>) -> Option<(u64, u64)>
+pub fn cell_of_fact(space: &Space, shape: &Shape, fact: Option<Fact>) -> Option<(u64, u64)>
     requires shape { IsShape shape.now }
     requires fact { IfSome fact (IsFactOf shape.now space.now) }
     ensures lying { result ≡ lying_of space.now (adds_of shape.now) fact }
@@ -53,7 +53,7 @@ pub fn lying(space: &Space, shape: &Shape, fact: Option<Fact>) -> Option<(u64, u
 {
     match fact {
         Some(fact) => match space.cell_code(fact.region) {
-            Some(cell) => Some((cell, added(shape, fact.cols))),
+            Some(cell) => Some((cell, adds_of(shape, fact.cols))),
             None => None,
         },
         None => None,
@@ -61,7 +61,7 @@ pub fn lying(space: &Space, shape: &Shape, fact: Option<Fact>) -> Option<(u64, u
 }
 
 /// How many facts that brings to a cell, and how much.
-fn brought(lying: Option<(u64, u64)>, cell: u64) -> (u64, u64)
+fn part_at_cell(lying: Option<(u64, u64)>, cell: u64) -> (u64, u64)
     ensures number { result.0 ≡ number_at lying cell }
     ensures added { result.1 ≡ added_at lying cell }
     ensures one { result.0 ≤ 1 }
@@ -85,8 +85,8 @@ fn change_at(
     ensures { result ≡ change_at (stat_at stats.now) taken given cell }
 {
     let stat = stats.stat(cell);
-    let (fewer, less) = brought(taken, cell);
-    let (more, added) = brought(given, cell);
+    let (fewer, less) = part_at_cell(taken, cell);
+    let (more, added) = part_at_cell(given, cell);
     let after = CellStat {
         count: stat.count + more - fewer,
         sum: stat.sum + added - less,
@@ -159,7 +159,7 @@ fn changes_at(
 }
 
 /// Those of the changes that make a cell weigh otherwise.
-pub fn reweighing<P: WeightPolicy>(
+pub fn reweighing_changes<P: WeightPolicy>(
     alloc: Global,
     policy: &P,
     changes: &[Change],

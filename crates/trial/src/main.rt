@@ -13,7 +13,7 @@ fn main(rt: HostRuntime) -> ExitCode {
         Ok(words) => run_without_store(&rt, &words),
         Err(end) => end,
     };
-    let (status, line) = end.told();
+    let (status, line) = end.report();
     if let Some(line) = line {
         let _ = writeln!(rt.stderr(), "{line}");
     }

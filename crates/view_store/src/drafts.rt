@@ -352,7 +352,7 @@ fn left_over(
 }
 
 /// What changes make of the entries of a view that they change, by region code.
-fn remade(
+fn remake_entries(
     alloc: Global,
     space: &Space,
     depths: &[u8],
@@ -396,7 +396,7 @@ pub fn make_entries(
     ensures distinct { IfOk result (λ made. AreOfDifferentKeys made.1.items) }
     ensures whole { IfOk result (λ made. AreWhole columns made.1.items) }
 {
-    let drafts = remade(alloc, space, depths, columns, entries, changes)?;
+    let drafts = remake_entries(alloc, space, depths, columns, entries, changes)?;
     let codes = drafts.keys()?;
     let made = entries_of(alloc, drafts, codes.as_slice())?;
     Ok((codes, made))

@@ -57,7 +57,7 @@ impl View {
     }
 
     /// A view with the same cuts and columns, without entries.
-    pub fn emptied(&self) -> Result<View, Memory>
+    pub fn without_entries(&self) -> Result<View, Memory>
         ensures { IfOk result (λ view. view ≡ without_entries self.now) }
     {
         let depths = Vec::from_slice(self.alloc, self.depths.as_slice())?;

@@ -23,7 +23,7 @@ use std::marker::Model;
 /// The views of a cube, each the terms of the regions of a product of cuts that have any. Contracts see the number of columns,
 /// and for each view the depths of its cuts and a map from region codes to terms.
 ///
-/// All calls but `new`, `emptied` and `install` are made with a space that has as many dimensions as each view has depths, and
+/// All calls but `new`, `without_entries` and `install` are made with a space that has as many dimensions as each view has depths, and
 /// in which the entries are of regions, as those are that `stage` makes with it.
 #[derive(Drop)]
 pub struct Views {
@@ -78,12 +78,12 @@ impl Views {
     }
 
     /// Views with the same cuts and columns, all without entries.
-    pub fn emptied(&self) -> Result<Self, Memory>
+    pub fn without_entries(&self) -> Result<Self, Memory>
         ensures { IfOk result (λ views. views ≡ record { columns = self.now.columns; views = map without_entries self.now.views }) }
     {
         let mut views = Vec::with_capacity(self.alloc, self.views.len())?;
         for view in &self.views {
-            views.push(view.emptied()?)?;
+            views.push(view.without_entries()?)?;
         }
         Ok(Views {
             alloc: self.alloc,

@@ -20,15 +20,15 @@ loop-cell-init g c =
     let stats = stat_at c.args.stats.now in
     let weigh = g.P.WeightPolicy.weigh c.args.policy.now in
     let cells = cells_of c.args.space.now c.args.r in
-    let limit = sum-limit weigh stats cells (g.met.P.WeightPolicy.bound c.args.policy.now) c.weighted-total.ensures.possible c.requires.few c.requires.counted in
-    let stepped = Stepped-start weigh stats cells c.args.changed.now c.args.old.now _ _ c.requires.several c.requires.before limit c.weighted-total.ensures.total c.weighted-total.ensures.rows in
-    Passing-start weigh stats c.args.space.now c.args.r c.args.changed.now c.weighted-total.result.0 c.in_ok-rows.rows.items c.weighted-total.result.1.now c.in_ok-rows.ensures.items stepped
+    let limit = sum-limit weigh stats cells (g.met.P.WeightPolicy.bound c.args.policy.now) c.rows_by_weight-total.ensures.possible c.requires.few c.requires.counted in
+    let stepped = Stepped-start weigh stats cells c.args.changed.now c.args.old.now _ _ c.requires.several c.requires.before limit c.rows_by_weight-total.ensures.total c.rows_by_weight-total.ensures.rows in
+    Passing-start weigh stats c.args.space.now c.args.r c.args.changed.now c.rows_by_weight-total.result.0 c.in_ok-rows.rows.items c.rows_by_weight-total.result.1.now c.in_ok-rows.ensures.items stepped
 
 -- the old statistics of a changed cell are kept ones
 pub weight-requires : goal.weight-requires
 weight-requires g c =
     let kept = c.requires.changes.from c.loop-cell.cell-index no_change c.loop-cell-test.true in
-    rw kept (c.weighted-total.ensures.possible (get_or c.args.changed.now c.loop-cell.cell-index no_change).0)
+    rw kept (c.rows_by_weight-total.ensures.possible (get_or c.args.changed.now c.loop-cell.cell-index no_change).0)
 
 pub overflow_sub-total : goal.overflow_sub-total
 overflow_sub-total g c =
@@ -53,7 +53,7 @@ settle-requires-clause-weighed g c some =
     let cells = cells_of c.args.space.now c.args.r in
     let rows = c.extend_from_slice.new.self.items in
     let all = Passing-all weigh (stat_at c.args.stats.now) cells c.args.changed.now c.loop-cell.cell-index c.loop-cell.total c.loop-cell.rows.items c.loop-cell.rest.now rows c.loop-cell-test.false c.loop-cell.invariant c.in_ok-extend_from_slice.ensures.items in
-    let possible = λ (cell : ℕ). stat_after-possible (stat_at c.args.stats.now) c.args.changed.now cell (c.weighted-total.ensures.possible cell) c.requires.changes.possible in
+    let possible = λ (cell : ℕ). stat_after-possible (stat_at c.args.stats.now) c.args.changed.now cell (c.rows_by_weight-total.ensures.possible cell) c.requires.changes.possible in
     let limit = sum-limit weigh stats cells (g.met.P.WeightPolicy.bound c.args.policy.now) possible c.requires.few c.requires.counted_after in
     IsAllocation-weighed (λ cell. weigh (stats cell)) c.args.space.now c.args.r c.loop-cell.total rows all.0 all.1 some (omega (arith, all.0, limit))
 

@@ -19,4 +19,4 @@ returns c =
     let part = c.part_of-rows.ensures ∙ ap (λ (rows : List (ℕ × ℕ)). take c.args.most (drop c.args.from rows)) c.rows.ensures.rows in
     let written = all-written c.new_writer-out.result c.write_some_rows.new.out _ c.new_writer-out.ensures.empty c.in_ok-write_some_rows.ensures in
     let same = ap (λ (den : ℕ). records_text (records den c.part_of-rows.result.now)) c.den.ensures.den ∙ ap (λ (rows : List (ℕ × ℕ)). records_text (records c.args.spread.now.den rows)) part in
-    IfOk-weaker c.written.result _ _ (λ text is. is ∙ written ∙ same) c.written.ensures
+    IfOk-weaker c.written_text.result _ _ (λ text is. is ∙ written ∙ same) c.written_text.ensures

@@ -12,10 +12,10 @@ write_fact_rows-requires-clause-writing c = c.in_ok-write_row.ensures.writing
 
 pub returns-clause-text : goal.returns-clause-text
 returns-clause-text c =
-    IfOk-weaker c.written.result _ _
+    IfOk-weaker c.written_text.result _ _
     (λ text is. is ∙ file-written c.args.s.now c.args.facts.now.facts c.new_writer-out.result c.write_row.new.out c.write_fact_rows.new.out _ c.new_writer-out.ensures.empty c.in_ok-header.ensures.header
     c.in_ok-write_row.ensures c.in_ok-write_fact_rows.ensures)
-    c.written.ensures
+    c.written_text.ensures
 
 pub returns-clause-reads : goal.returns-clause-reads
 returns-clause-reads c =
@@ -23,4 +23,4 @@ returns-clause-reads c =
     file-written c.args.s.now c.args.facts.now.facts c.new_writer-out.result c.write_row.new.out c.write_fact_rows.new.out _ c.new_writer-out.ensures.empty c.in_ok-header.ensures.header
     c.in_ok-write_row.ensures c.in_ok-write_fact_rows.ensures in
     let again = file-again c.args.s.now c.args.facts.now.facts c.header_row.ensures.schema c.requires in
-    IfOk-weaker c.written.result _ _ (λ text is. subst (λ t. facts_in c.args.s.now (records_of t) ≡ record { facts = c.args.facts.now.facts; bad = None }) (sym (is ∙ file)) again) c.written.ensures
+    IfOk-weaker c.written_text.result _ _ (λ text is. subst (λ t. facts_in c.args.s.now (records_of t) ≡ record { facts = c.args.facts.now.facts; bad = None }) (sym (is ∙ file)) again) c.written_text.ensures

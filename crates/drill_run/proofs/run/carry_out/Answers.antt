@@ -11,4 +11,4 @@ returns-clause-line c =
 
 pub returns-clause-refused : goal.returns-clause-refused
 returns-clause-refused c =
-    c.refused.ensures ∙ ap (λ t. t.refused) (drill-done c.args.n c.put_all.new.self c.withdraw_thirds.new.self c.in_ok-put_all.ensures.done c.in_ok-withdraw_thirds.ensures)
+    c.refused_count.ensures ∙ ap (λ t. t.refused) (drill-done c.args.n c.put_all.new.self c.withdraw_thirds.new.self c.in_ok-put_all.ensures.done c.in_ok-withdraw_thirds.ensures)

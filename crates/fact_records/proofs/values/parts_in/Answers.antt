@@ -41,11 +41,11 @@ loop-part-preserved c =
     let turn = YieldsList-turn road c.loop-part.yielded _ c.loop-part.yielded_by _ _ c.in-Some.part c.in-Some.is c.next.ensures.steps in
     let here : c.in-Some.part.now ≡ get_or (texts_of c.args.field.now) c.loop-part.read c.in-Some.part.now = rw c.loop-part.invariant.1 turn.1 in
     let given : c.number_in.result ≡ number_in 0 c.args.scale c.in-Some.part.now = rw (← c.from.ensures, ← c.as_bytes.ensures.value) c.number_in.ensures in
-    let part : part_in c.args.scale c.in-Some.part.now ≡ Some c.signed.result =
-    part_in-Some c.args.scale c.in-Some.part.now c.in_ok-number_in.field-0 (sym given ∙ c.in_ok-number_in.was) ∙ ap (λ v. Some v) (sym c.signed.ensures) in
-    let fits : FitsSigned w64 c.signed.result = search rules in
-    rw (to_z-of_z w64 c.signed.result fits) (
-      AreRead-more c.args.scale c.args.field.now c.loop-part.read c.loop-part.parts c.in-Some.part.now c.signed.result c.loop-part.invariant.0 (omega arith) here (omega arith) part,
+    let part : part_in c.args.scale c.in-Some.part.now ≡ Some c.to_value.result =
+    part_in-Some c.args.scale c.in-Some.part.now c.in_ok-number_in.field-0 (sym given ∙ c.in_ok-number_in.was) ∙ ap (λ v. Some v) (sym c.to_value.ensures) in
+    let fits : FitsSigned w64 c.to_value.result = search rules in
+    rw (to_z-of_z w64 c.to_value.result fits) (
+      AreRead-more c.args.scale c.args.field.now c.loop-part.read c.loop-part.parts c.in-Some.part.now c.to_value.result c.loop-part.invariant.0 (omega arith) here (omega arith) part,
       omega (arith, length_push c.loop-part.yielded c.in-Some.part),
       omega arith,
     )

@@ -19,6 +19,6 @@ returns-in-Ok c =
 
 pub returns-in-Err-Code : goal.returns-in-Err-Code
 returns-in-Err-Code c =
-    rw c.refused.ensures (λ base.
+    rw c.refuse_line.ensures (λ base.
     (rw c.is_base_line.ensures at (c.in_ok-judge_place.ensures (base_line_judged base c.args.number c.args.schema.now c.args.facts.now (feed_line_of c.args.schema.now c.args.line.now))))
     ∙ ap (base_line_judged base c.args.number c.args.schema.now c.args.facts.now) (rw c.in-Err-Code.field-0-is at c.in-Err-Code.ensures.refused))

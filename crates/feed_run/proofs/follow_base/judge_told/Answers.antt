@@ -9,13 +9,13 @@ pub returns-in-Ok : goal.returns-in-Ok
 returns-in-Ok c = rw c.in-Fact.is (judges-fact c.args.schema.now c.args.facts.now c.args.number c.in-Fact.fact c.requires.facts (rw c.in-Fact.is at c.requires.within) (rw c.space.ensures.dims at c.in-Ok.ensures))
 
 pub returns-in-Err : goal.returns-in-Err
-returns-in-Err c = rw (c.in-Fact.is, c.refused.ensures) (judges-refused c.args.schema.now c.args.facts.now c.args.number c.in-Fact.fact c.in-Err.code (rw c.space.ensures.dims at c.in-Err.ensures))
+returns-in-Err c = rw (c.in-Fact.is, c.refuse_line.ensures) (judges-refused c.args.schema.now c.args.facts.now c.args.number c.in-Fact.fact c.in-Err.code (rw c.space.ensures.dims at c.in-Err.ensures))
 
 pub returns-in-Based : goal.returns-in-Based
 returns-in-Based c = λ base. rw c.in-Based.is refl
 
 pub returns-in-Batch : goal.returns-in-Batch
-returns-in-Batch c = rw (c.in-Batch.is, c.refused-in-Batch.ensures) (λ base. refl)
+returns-in-Batch c = rw (c.in-Batch.is, c.refuse_line-in-Batch.ensures) (λ base. refl)
 
 pub returns-in-Other : goal.returns-in-Other
-returns-in-Other c = rw (c.in-Other.is, c.refused-in-Other.ensures) (λ base. refl)
+returns-in-Other c = rw (c.in-Other.is, c.refuse_line-in-Other.ensures) (λ base. refl)

@@ -5,7 +5,7 @@ use Rattle.feed_run.proofs.BatchCubes.{batch-refused, batch-rows, batch-taken}
 use Rattle.feed_run.proofs.follow_batches.do_batch.Goals as goal
 
 pub returns-in-Err-clause-takes : goal.returns-in-Err-clause-takes
-returns-in-Err-clause-takes c = λ work at. rw (c.in-Err.is, c.refused.ensures) refl
+returns-in-Err-clause-takes c = λ work at. rw (c.in-Err.is, c.refuse_line.ensures) refl
 
 pub do_caught-requires : goal.do_caught-requires
 do_caught-requires c = rw c.in_default.is ((rw c.in_default.is at c.requires).there)
@@ -23,7 +23,7 @@ pub returns-in-None-clause-takes : goal.returns-in-None-clause-takes
 returns-in-None-clause-takes c = λ work at.
     let is = (rw c.in_default.is at c.requires).there in
     let none = rw c.in_default.is at (ap option_to_list (sym c.in-None.is) ∙ c.in_ok-reply.ensures.batch) in
-    rw (c.in_default.is, c.refused-in-None.ensures, c.refusal_in-code.ensures) (batch-refused work c.args.cube.now at c.args.number c.in_default.field-0 is c.in_ok-reply.field-0.reply none (rw c.in_default.is at c.in_ok-reply.ensures.reply))
+    rw (c.in_default.is, c.refuse_line-in-None.ensures, c.refusal_in-code.ensures) (batch-refused work c.args.cube.now at c.args.number c.in_default.field-0 is c.in_ok-reply.field-0.reply none (rw c.in_default.is at c.in_ok-reply.ensures.reply))
 
 pub returns-in-Some-clause-rows : goal.returns-in-Some-clause-rows
 returns-in-Some-clause-rows c =

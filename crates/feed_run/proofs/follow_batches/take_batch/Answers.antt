@@ -27,8 +27,8 @@ pub returns-in-Err-Code-clause-takes : goal.returns-in-Err-Code-clause-takes
 returns-in-Err-Code-clause-takes c = λ work at applied.
     let may = rw c.is_batch_line.ensures at (c.in_ok-judge_place.ensures (batch_line_judged c.args.number work (feed_line_of (schema_at work.schema work.state) c.args.line.now))) in
     let refused = rw c.schema.ensures at c.in-Err-Code.ensures.refused in
-    let stops : c.refused.result ≡ Feed (Bad c.args.number c.in-Err-Code.code) = rw c.in-Err-Code.field-0-is at c.refused.ensures in
-    line-refused work c.args.cube.now at c.args.number c.args.line.now c.in-Err-Code.field-0 refused may c.in-Err-Code.code c.in-Err-Code.field-0-is c.refused.result stops
+    let stops : c.refuse_line.result ≡ Feed (Bad c.args.number c.in-Err-Code.code) = rw c.in-Err-Code.field-0-is at c.refuse_line.ensures in
+    line-refused work c.args.cube.now at c.args.number c.args.line.now c.in-Err-Code.field-0 refused may c.in-Err-Code.code c.in-Err-Code.field-0-is c.refuse_line.result stops
 
 pub returns-in-Err-Memory-clause-takes : goal.returns-in-Err-Memory-clause-takes
 returns-in-Err-Memory-clause-takes c = λ work at applied. refl

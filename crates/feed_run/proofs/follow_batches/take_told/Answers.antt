@@ -22,10 +22,10 @@ returns-after-got-applied-clause-rows c = elim c.if-got-applied.branch [
 ]
 
 pub returns-in-Fact-clause-takes : goal.returns-in-Fact-clause-takes
-returns-in-Fact-clause-takes c = λ work at applied. rw (c.in-Fact.is, c.refused.ensures) refl
+returns-in-Fact-clause-takes c = λ work at applied. rw (c.in-Fact.is, c.refuse_line.ensures) refl
 
 pub returns-in-Based-clause-takes : goal.returns-in-Based-clause-takes
-returns-in-Based-clause-takes c = λ work at applied. rw (c.in-Based.is, c.refused-in-Based.ensures) refl
+returns-in-Based-clause-takes c = λ work at applied. rw (c.in-Based.is, c.refuse_line-in-Based.ensures) refl
 
 pub returns-in-Other-clause-takes : goal.returns-in-Other-clause-takes
-returns-in-Other-clause-takes c = λ work at applied. rw (c.in-Other.is, c.refused-in-Other.ensures) refl
+returns-in-Other-clause-takes c = λ work at applied. rw (c.in-Other.is, c.refuse_line-in-Other.ensures) refl

@@ -3,9 +3,9 @@ use Rattle.std.proofs.Common.{◌∙◌, sym}
 use Rattle.script_answers.proofs.Many.{component-few, component-many}
 use Rattle.script_answers.proofs.depending.component_answer.Goals as goal
 
-pub returns-in_ok-counted-in-Ok-clause-answer : goal.returns-in_ok-counted-in-Ok-clause-answer
-returns-in_ok-counted-in-Ok-clause-answer c =
-    component-few _ c.args.id c.space.result.now c.space.ensures.dims (sym c.if-not-has_fact.false ∙ c.has_fact.ensures) _ _ c.in-Ok.ensures.few (c.as_slice.ensures ∙ c.in-Ok.ensures.ids) c.in_ok-counted-in-Ok.ensures
+pub returns-in_ok-count_and_ids-in-Ok-clause-answer : goal.returns-in_ok-count_and_ids-in-Ok-clause-answer
+returns-in_ok-count_and_ids-in-Ok-clause-answer c =
+    component-few _ c.args.id c.space.result.now c.space.ensures.dims (sym c.if-not-has_fact.false ∙ c.has_fact.ensures) _ _ c.in-Ok.ensures.few (c.as_slice.ensures ∙ c.in-Ok.ensures.ids) c.in_ok-count_and_ids-in-Ok.ensures
 
 pub returns-in-Err-Many-clause-answer : goal.returns-in-Err-Many-clause-answer
 returns-in-Err-Many-clause-answer c =

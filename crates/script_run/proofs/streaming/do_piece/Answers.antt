@@ -17,7 +17,7 @@ pub returns-in-Err-clause-does : goal.returns-in-Err-clause-does
 returns-in-Err-clause-does g c =
     let before : Outside = outside_of g.S.Source.tells g.K.Sink.tells g.Q.Keeper.tells c.args.source.now c.args.out.now c.args.keeper.now in
     let after : Outside = outside_of g.S.Source.tells g.K.Sink.tells g.Q.Keeper.tells c.feed_next.new.source c.do_and_send.new.out c.do_and_send.new.keeper in
-    rw (c.at.ensures, c.done.ensures)
+    rw (c.at.ensures, c.lines_done.ensures)
     (does_piece-no_piece weigh_of before after c.args.pieces.now c.feed_next.new.self c.args.lines.now.lines c.do_and_send.new.lines.lines c.feed_next.new.cutter.lines c.args.run.now c.do_and_send.new.run _
     c.in_ok-do_and_send.ensures.rest c.in_ok-do_and_send.ensures.sent c.in_ok-do_and_send.ensures.does c.in-Err.stop c.in-Err.ensures.stopped)
 

@@ -9,7 +9,7 @@ use Rattle.text_lines.proofs.blocks.are_plain.Goals as goal
 
 pub returns-then-bytes-lt-BLOCK : goal.returns-then-bytes-lt-BLOCK
 returns-then-bytes-lt-BLOCK c =
-    c.is_plain_block.ensures ∙ ap (λ block. list_all is_plain (chunk 0 16 block)) c.filled.ensures ∙ list_all-filled c.args.bytes.now (omega arith)
+    c.is_plain_block.ensures ∙ ap (λ block. list_all is_plain (chunk 0 16 block)) c.fill_block.ensures ∙ list_all-filled c.args.bytes.now (omega arith)
 
 pub returns-then-not-is_plain_block : goal.returns-then-not-is_plain_block
 returns-then-not-is_plain_block c =

@@ -12,7 +12,7 @@ use Rattle.text_lines.proofs.blocks.place_of.Goals as goal
 pub returns-then-bytes-lt-BLOCK-clause-place : goal.returns-then-bytes-lt-BLOCK-clause-place
 returns-then-bytes-lt-BLOCK-clause-place c =
     let gap = 16 - length c.args.bytes.now in
-    let rest = ap (drop (gap + c.args.from)) c.filled.ensures ∙ drop-filled gap c.args.from c.args.bytes.now in
+    let rest = ap (drop (gap + c.args.from)) c.fill_block.ensures ∙ drop-filled gap c.args.from c.args.bytes.now in
     omega (arith, c.place_behind.ensures.place, ap (λ l. prefix_len (λ b. not (eqb b c.args.byte)) l) rest)
 
 pub returns-then-marks-ne0-clause-place : goal.returns-then-marks-ne0-clause-place

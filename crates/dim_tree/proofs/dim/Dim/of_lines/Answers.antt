@@ -15,12 +15,12 @@ returns-in_err-names-clause-refused c =
     let given = err_from_is_err_and c.from_residual.result c.from_residual.ensures.1 in
     rw (given.1, given.2, tree_fault_first c.args.lines.now (omega arith) c.requires.few) (subst (λ ls. IsDimCause (first_fault [] 0 ls) c.in_err-names.field-0.0) (map-id c.args.lines.now) c.in_err-names.ensures.refused)
 
-pub indexed-requires-clause-outline : goal.indexed-requires-clause-outline
-indexed-requires-clause-outline c =
+pub of_places-requires-clause-outline : goal.of_places-requires-clause-outline
+of_places-requires-clause-outline c =
     rw (c.deref.ensures.value, c.deref-2.ensures.value, c.in_ok-numbers.ensures) (IsOutline_lines c.args.lines.now _ _ c.in_ok-depths.ensures (c.in_ok-names.ensures.names ∙ ap (map (λ line. line.name)) (map-id c.args.lines.now)) (tree_fault_first c.args.lines.now (omega arith) c.requires.few ∙ ap (first_fault [] 0) (sym (map-id c.args.lines.now)) ∙ c.in_ok-names.ensures.accepted) (ap (list_all (λ line. is_name line.name)) (sym (map-id c.args.lines.now)) ∙ c.in_ok-names.ensures.are_names))
 
-pub indexed-requires-clause-places : goal.indexed-requires-clause-places
-indexed-requires-clause-places c = rw (c.deref-2.ensures.value, c.in_ok-numbers.ensures, c.in_ok-places.ensures) (ArePlaces_range (length c.args.lines.now))
+pub of_places-requires-clause-places : goal.of_places-requires-clause-places
+of_places-requires-clause-places c = rw (c.deref-2.ensures.value, c.in_ok-numbers.ensures, c.in_ok-places.ensures) (ArePlaces_range (length c.args.lines.now))
 
 pub returns-clause-built : goal.returns-clause-built
 returns-clause-built c = rw (c.in_ok-dim.ensures, c.deref.ensures.value, c.deref-2.ensures.value, c.in_ok-numbers.ensures) (entries_of_lines c.args.lines.now _ _ c.in_ok-depths.ensures (c.in_ok-names.ensures.names ∙ ap (map (λ line. line.name)) (map-id c.args.lines.now)))

@@ -18,8 +18,8 @@ returns-in_err-places-clause-refused c =
     let given = err_from_is_err_and c.from_residual-in_err-places.result c.from_residual-in_err-places.ensures.1 in
     rw (given.1, given.2) (IsCause_of _ _ (λ fault is. numbers_fault c.args.lines.now c.deref.result.now c.deref-2.result.now (c.deref.ensures.value ∙ c.in_ok-depths.ensures) (c.deref-2.ensures.value ∙ c.in_ok-numbers.ensures) (omega arith) c.requires.few c.in_ok-names.ensures.accepted ∙ is) _ c.in_err-places.ensures.refused)
 
-pub indexed-requires-clause-outline : goal.indexed-requires-clause-outline
-indexed-requires-clause-outline c =
+pub of_places-requires-clause-outline : goal.of_places-requires-clause-outline
+of_places-requires-clause-outline c =
     let ordered = numbers_judged c.args.lines.now c.deref.result.now c.deref-2.result.now (c.deref.ensures.value ∙ c.in_ok-depths.ensures) (c.deref-2.ensures.value ∙ c.in_ok-numbers.ensures) c.in_ok-names.ensures.accepted ∙ c.in_ok-places.ensures.accepted in
     IsOutline_entries c.args.lines.now c.deref-3.result.now _ c.deref-4.result.now (c.deref-3.ensures.value ∙ c.in_ok-depths.ensures) c.in_ok-names.ensures.names (c.deref-4.ensures.value ∙ c.in_ok-numbers.ensures) (lines_accepted c.args.lines.now (omega arith) c.requires.few c.in_ok-names.ensures.accepted) c.in_ok-names.ensures.are_names ordered
 

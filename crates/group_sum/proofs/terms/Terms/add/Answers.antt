@@ -7,11 +7,11 @@ use Rattle.group_sum.proofs.Merged.{is_merge_of}
 use Rattle.group_sum.proofs.terms.Terms.add.Goals as goal
 
 -- terms ascend
-pub missing-requires-clause-own : goal.missing-requires-clause-own
-missing-requires-clause-own c = record { each = ascends _ 1 _ c.self.invariant.terms }
+pub count_missing-requires-clause-own : goal.count_missing-requires-clause-own
+count_missing-requires-clause-own c = record { each = ascends _ 1 _ c.self.invariant.terms }
 
-pub missing-requires-clause-other : goal.missing-requires-clause-other
-missing-requires-clause-other c = record { each = ascends _ 1 _ c.other.invariant.terms }
+pub count_missing-requires-clause-other : goal.count_missing-requires-clause-other
+count_missing-requires-clause-other c = record { each = ascends _ 1 _ c.other.invariant.terms }
 
 -- terms that have the numerators of both are both merged
 pub returns-clause-ok : goal.returns-clause-ok

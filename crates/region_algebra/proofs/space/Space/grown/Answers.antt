@@ -16,4 +16,4 @@ returns-clause-refused c =
     let are : c.in_ok-dims.dims.items ≡ grown_dims c.args.self.now c.args.d c.args.parent c.args.name = c.in_ok-dims.ensures ∙ ap (λ dims. grown_dims dims c.args.d c.args.parent c.args.name) same_too in
     let trees : All IsTree c.args.self.now = subst (λ dims. All IsTree dims) c.self.view_is c.self.invariant.cells.trees in
     let accepted : space_fault c.args.self.now ≡ None = subst (λ dims. space_fault dims ≡ None) c.self.view_is c.self.invariant.accepted in
-    λ _. grown-refused c.args.self.now c.args.d c.args.parent c.args.name own c.in_ok-dims.dims.items c.in-Err.field-0 c.requires.dim c.requires.parent trees accepted are c.stepped.ensures.trees c.in-Err.ensures.refused
+    λ _. grown-refused c.args.self.now c.args.d c.args.parent c.args.name own c.in_ok-dims.dims.items c.in-Err.field-0 c.requires.dim c.requires.parent trees accepted are c.with_steps.ensures.trees c.in-Err.ensures.refused

@@ -12,8 +12,8 @@ use Rattle.region_index.proofs.walk.Walk.+code_at.Goals as goal
 pub node-requires : goal.node-requires
 node-requires t c = leaf-there _ _ _ _ c.requires (λ end. c.if-d-dims.false (end ∙ sym c.dims.ensures.count))
 
-pub lifted-requires : goal.lifted-requires
-lifted-requires t c = node-within c.args.self.now.space.now c.args.self.now.leaves c.args.d c.dim-dim.result.now c.node.result c.requires.named c.dim-dim.ensures c.node.ensures
+pub climb_to_depth-requires : goal.climb_to_depth-requires
+climb_to_depth-requires t c = node-within c.args.self.now.space.now c.args.self.now.leaves c.args.d c.dim-dim.result.now c.node.result c.requires.named c.dim-dim.ensures c.node.ensures
 
 pub with_node-requires-clause-small : goal.with_node-requires-clause-small
 with_node-requires-clause-small t c =

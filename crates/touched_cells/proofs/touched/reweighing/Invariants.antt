@@ -1,7 +1,0 @@
--- Of the changes before this one, those that reweigh are kept.
-use Rattle.std.proofs.Common.{◌≡◌, take}
-use Rattle.touched_cells.specs.Touched.{reweighing}
-use Rattle.touched_cells.proofs.touched.reweighing.Given as goal
-
-abbrev pub invariant-loop-change : goal.invariant-loop-change
-invariant-loop-change g l = l.some.items ≡ reweighing (g.P.WeightPolicy.weigh l.policy) (take l.change-index l.changes)
