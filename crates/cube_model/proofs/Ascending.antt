@@ -1,9 +1,11 @@
--- Lists that ascend by a key: their parts, what is left of them, what is made of each item, and the cells of a region.
-use Rattle.std.proofs.Common.{◌≡◌, ℕ, zero, suc, ◌+◌, ◌<◌, ◌≤◌, Bool, true, false, List, [], ◌∷◌, ◌++◌, get_or, length, map, filter, refl, arith}
+-- Lists that ascend by a key: their parts, what is left of them, what is made of each item, and the cells of a region. Lists of
+-- numbers that ascend, by their members.
+use Rattle.std.proofs.Common.{◌≡◌, ℕ, zero, suc, ◌+◌, ◌<◌, ◌≤◌, Bool, true, false, List, [], ◌∷◌, ◌++◌, get_or, length, map, filter, refl, ap, arith}
 use Rattle.std.proofs.lemmas.Bool.Decides.{nat_tests}
-use Rattle.std.specs.Prelude.{All, if◌then◌else◌}
+use Rattle.std.specs.Prelude.{All, ◌==◌, if◌then◌else◌}
+use Rattle.std.specs.List.Sorted.{IsStrictlyIncreasing}
 use Rattle.cube_model.specs.Ascending.{ascends_from}
-use Rattle.cube_model.specs.Cells.{all_cells, cells_of, is_inside, places_from}
+use Rattle.cube_model.specs.Cells.{all_cells, cells_of, is_among, is_inside, places_from}
 use Rattle.cube_model.specs.Tree.{Dimension}
 
 -- what ascends says of the first and of the others
@@ -73,3 +75,36 @@ ascends_places p k (x ∷ xs) = either_ascends (λ place. place) (p x) k k (plac
 pub ascends_cells : (dims : List Dimension) (region : List ℕ) → ascends_from (λ cell. cell) 0 (cells_of dims region) ≡ true
 unfolding cells_of
 ascends_cells dims region = ascends_places (is_inside dims region) 0 (all_cells dims)
+
+-- numbers of which each is below the next ascend
+pub ascends_increasing : (least : ℕ) (xs : List ℕ) → IsStrictlyIncreasing xs → (0 < length xs → least ≤ get_or xs 0 0) → ascends_from (λ x. x) least xs ≡ true
+ascends_increasing least [] rising from = refl
+ascends_increasing least (x ∷ xs) rising from =
+    ascends_cons (λ x. x) least x xs (record {
+      from = from (omega arith);
+      others = ascends_increasing (x + 1) xs
+          (λ k within. grind (arith, rising (suc k) (omega arith)))
+          (λ some. let next : x < get_or xs 0 0 = grind (arith, rising 0 (omega arith)) in omega (arith, next));
+    })
+
+-- no number is among those that ascend from a greater one
+pub not_among_lower : (least k : ℕ) (xs : List ℕ) → ascends_from (λ x. x) least xs ≡ true → k < least → is_among xs k ≡ false
+not_among_lower least k [] ascends lower = refl
+not_among_lower least k (x ∷ xs) ascends lower =
+    let first = ascends_first (λ x. x) least x xs ascends in
+    let rest : is_among xs k ≡ false = not_among_lower (x + 1) k xs first.others (omega (arith, first.from)) in
+    grind (arith, nat_tests, rest, first.from)
+
+-- lists that ascend are one where the same numbers are in them
+pub same_members : (a b : ℕ) (xs ys : List ℕ) → ascends_from (λ x. x) a xs ≡ true → ascends_from (λ x. x) b ys ≡ true → ((k : ℕ) → is_among xs k ≡ is_among ys k) → xs ≡ ys
+same_members a b [] [] first second same = refl
+same_members a b [] (y ∷ ys) first second same = absurd (grind (arith, nat_tests, same y))
+same_members a b (x ∷ xs) [] first second same = absurd (grind (arith, nat_tests, same x))
+same_members a b (x ∷ xs) (y ∷ ys) first second same =
+    let above_x = (ascends_first (λ x. x) a x xs first).others in
+    let above_y = (ascends_first (λ x. x) b y ys second).others in
+    let no_x : (k : ℕ) → k < x + 1 → is_among xs k ≡ false = λ k lower. not_among_lower (x + 1) k xs above_x lower in
+    let no_y : (k : ℕ) → k < y + 1 → is_among ys k ≡ false = λ k lower. not_among_lower (y + 1) k ys above_y lower in
+    let one : x ≡ y = grind (arith, nat_tests, same x, same y, no_x y, no_y x) in
+    let rest : (k : ℕ) → is_among xs k ≡ is_among ys k = λ k. grind (arith, nat_tests, same k, no_x k, no_y k, one) in
+    rw one (ap (λ zs. y ∷ zs) (same_members (x + 1) (y + 1) xs ys above_x above_y rest))

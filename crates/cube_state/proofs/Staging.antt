@@ -14,7 +14,7 @@ use Rattle.cube_model.specs.Allocation.{Policy, stat_of}
 use Rattle.cube_model.specs.Cells.{is_among}
 use Rattle.cube_model.specs.Facts.{after, is_precise}
 use Rattle.cube_model.specs.Tree.{Dimension}
-use Rattle.cube_model.proofs.Ascending.{ascends_filter, ascends_map}
+use Rattle.cube_model.proofs.Ascending.{ascends_filter, ascends_map, same_members}
 use Rattle.region_algebra.specs.Space.{code_of}
 use Rattle.staged_map.specs.Staged.{Places, have_places, value_at}
 use Rattle.staged_map.proofs.Entries.{keys_of-made, staged_entry-made}
@@ -28,7 +28,7 @@ use Rattle.view_store.proofs.Ascending.{IsDistinct-ascending}
 use Rattle.fact_groups.specs.Changes.{touched_cells}
 use Rattle.fact_groups.specs.Edits.{edited_id, given, taken}
 use Rattle.fact_groups.specs.Groups.{Group, group_at}
-use Rattle.fact_groups.proofs.Ascending.{ascends-from_pairs, same_members}
+use Rattle.fact_groups.proofs.Ascending.{ascends-from_pairs}
 use Rattle.fact_groups.proofs.Edits.{find-after, pairs-after}
 use Rattle.fact_groups.proofs.Groups.{first-passes}
 use Rattle.fact_groups.proofs.Refreshing.{among-kept, any-found}

@@ -16,13 +16,12 @@ use Rattle.cube_model.specs.Cells.{is_among}
 use Rattle.cube_model.specs.Difference.{refreshed}
 use Rattle.cube_model.specs.Facts.{after}
 use Rattle.cube_model.specs.Tree.{Dimension, IsTree}
-use Rattle.cube_model.proofs.Ascending.{ascends_filter, ascends_map}
+use Rattle.cube_model.proofs.Ascending.{ascends_filter, ascends_map, same_members}
 use Rattle.region_algebra.specs.Space.{IsRegion, code_of}
 use Rattle.region_index.specs.Content.{AreAscending}
 use Rattle.fact_groups.specs.Edits.{edited_id, given}
 use Rattle.fact_groups.specs.Groups.{group_at}
 use Rattle.fact_groups.specs.Refreshed.{imprecise_ids, is_new_or_moved}
-use Rattle.fact_groups.proofs.Ascending.{same_members}
 use Rattle.fact_groups.proofs.Edits.{find-after}
 use Rattle.fact_groups.proofs.Refreshing.{ascends-refreshed}
 use Rattle.fact_groups.proofs.Respreading.{among-respread}

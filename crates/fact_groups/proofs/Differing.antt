@@ -13,10 +13,10 @@ use Rattle.cube_model.specs.Answer.{count_at, sum_at, total_by}
 use Rattle.cube_model.specs.Ascending.{ascends_from}
 use Rattle.cube_model.specs.Cells.{is_among}
 use Rattle.cube_model.specs.Tree.{Dimension, IsTree}
-use Rattle.cube_model.proofs.Ascending.{ascends_cons, ascends_filter}
+use Rattle.cube_model.proofs.Ascending.{ascends_cons, ascends_filter, same_members}
 use Rattle.region_algebra.specs.Space.{IsRegion, code_of}
 use Rattle.fact_groups.specs.Groups.{AreGrouped, Group, HaveSameGroupsBut, count_in, group_at, group_rows, groups_at, sum_in}
-use Rattle.fact_groups.proofs.Ascending.{ascends-from_increasing, once_among, same_members}
+use Rattle.fact_groups.proofs.Ascending.{ascends-from_increasing, once_among}
 use Rattle.fact_groups.proofs.Groups.{count-grouped, count_in-sum, count_over, rows-grouped, sum-grouped, sum_by-filter_map, sum_in-total, sum_over, total_by-filter_map}
 use Rattle.fact_groups.proofs.Partition.{sum_by-filter, total_by-filter}
 use Rattle.fact_groups.proofs.Statistics.{among-filter}

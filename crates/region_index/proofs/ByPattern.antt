@@ -12,7 +12,7 @@ use Rattle.region_index.specs.Content.{AreAscending, Content, held_codes, holds_
 use Rattle.region_index.specs.Over.{codes_over}
 use Rattle.region_index.specs.Patterns.{HasPatterns, Patterns, codes_of_pattern, codes_of_patterns, pattern_of, patterns_in_use}
 use Rattle.region_index.specs.Walk.{Probes, codes_of_leaves}
-use Rattle.region_index.proofs.Ascent.{ascending-same}
+use Rattle.cube_model.proofs.Ascending.{same_members}
 use Rattle.region_index.proofs.Changing.{among-filter}
 use Rattle.region_index.proofs.Places.{among-places}
 use Rattle.region_index.proofs.Walking.{AreAscending-held, any-flat_map, codes_over-leaves}
@@ -134,7 +134,7 @@ module _ (content : Content) (dims : List Dimension) (leaves : List ℕ) (patter
   pub held_codes-found : (inside : Content) (cell : ℕ) (found codes : List ℕ) (m n : ℕ) → inside ≡ content → slice_get (all_cells dims) cell ≡ Some leaves
       → Probes inside (codes_of_patterns dims leaves (patterns_in_use patterns)) [] found m n → AreAscending codes → ((code : ℕ) → is_among codes code ≡ is_among found code) → codes ≡ held_codes content (codes_over dims cell)
   held_codes-found inside cell found codes m n same at probes ascending members =
-      ascending-same 0 codes (held_codes content (codes_over dims cell)) ascending (AreAscending-held content dims cell) (λ code.
+      same_members 0 0 codes (held_codes content (codes_over dims cell)) ascending (AreAscending-held content dims cell) (λ code.
       members code
       ∙ ap (λ xs. is_among xs code) (probes.found ∙ ap (λ held. held_codes held (codes_of_patterns dims leaves (patterns_in_use patterns))) same)
       ∙ among-filter (holds_ids content) (codes_of_patterns dims leaves (patterns_in_use patterns)) code

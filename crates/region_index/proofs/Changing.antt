@@ -12,12 +12,12 @@ use Rattle.std.proofs.lemmas.Map.Keys.{IsDistinct-from_apart}
 use Rattle.std.proofs.lemmas.Map.Views.{any-filter_same}
 use Rattle.cube_model.specs.Ascending.{ascends_from}
 use Rattle.cube_model.specs.Cells.{is_among}
-use Rattle.cube_model.proofs.Ascending.{AscendsFrom, ascends_cons, ascends_filter, ascends_first, ascends_later}
+use Rattle.cube_model.proofs.Ascending.{AscendsFrom, ascends_cons, ascends_filter, ascends_first, ascends_later, same_members}
 use Rattle.staged_map.specs.Staged.{Entries, Places, PutsAll, Reserves, ReservesSome, staged_entry, value_at}
 use Rattle.staged_map.proofs.Entries.{have_places-reserved, keys_of-made, staged_entry-made}
 use Rattle.region_index.specs.Changes.{Applies, AreByCode, IsStagedFor, IsUnchanged, Pair, Staging, changed_entry, entry_ids, ids_after, is_named, some_ids, staging, with_id, with_puts, without}
 use Rattle.region_index.specs.Content.{AreAscending, Content, IsContent, ids_at}
-use Rattle.region_index.proofs.Ascent.{ascending-same, filters-above}
+use Rattle.region_index.proofs.Ascent.{filters-above}
 
 -- a number is among those that pass where it was there and passes
 pub among-filter : (p : ℕ → Bool) (ids : List ℕ) (id : ℕ) → is_among (filter p ids) id ≡ (p id && is_among ids id)
@@ -102,7 +102,7 @@ pub changed-is : (puts drops : List Pair) (code : ℕ) (before put dropped ids :
     → put ≡ map (λ pair. pair.1) (filter (λ pair. pair.0 == code) puts) → dropped ≡ map (λ pair. pair.1) (filter (λ pair. pair.0 == code) drops)
     → ((id : ℕ) → is_among ids id ≡ (is_among put id || (is_among before id && not (is_among dropped id)))) → ids ≡ ids_after puts drops code before
 changed-is puts drops code before put dropped ids ascends ascending put_is dropped_is members =
-    ascending-same 0 ids (ids_after puts drops code before) ascending (ascends-after puts drops code before ascends) (λ id.
+    same_members 0 0 ids (ids_after puts drops code before) ascending (ascends-after puts drops code before ascends) (λ id.
     members id
     ∙ rw (put_is, dropped_is, among-named puts code id, among-named drops code id) refl
     ∙ sym (among-after puts drops code before id))

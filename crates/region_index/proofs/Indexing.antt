@@ -9,14 +9,13 @@ use Rattle.cube_model.specs.Ascending.{ascends_from}
 use Rattle.cube_model.specs.Cells.{cells_of, is_among}
 use Rattle.cube_model.specs.Facts.{is_precise}
 use Rattle.cube_model.specs.Tree.{Dimension, IsTree}
-use Rattle.cube_model.proofs.Ascending.{ascends_filter, ascends_map}
+use Rattle.cube_model.proofs.Ascending.{ascends_filter, ascends_map, same_members}
 use Rattle.region_algebra.specs.Space.{IsRegion, all_regions, code_of}
 use Rattle.region_algebra.proofs.Tuples.{region-at_code}
 use Rattle.region_index.specs.Changes.{Applies, Pair, is_named}
 use Rattle.region_index.specs.Content.{AreAscending, AreIdsAt, Content, ids_at}
 use Rattle.region_index.specs.Indexed.{Indexes, covers, has_at, ids_that_cover, is_indexed_at}
 use Rattle.region_index.specs.Over.{codes_over}
-use Rattle.region_index.proofs.Ascent.{ascending-same}
 use Rattle.region_index.proofs.Changing.{among-after, ascends-after}
 use Rattle.region_index.proofs.Places.{among-places}
 
@@ -73,7 +72,7 @@ any-same p q (x ∷ xs) each = rw (each x, any-same p q xs each) refl
 pub ids-cover : (dims : List Dimension) (facts : List Fact) (content : Content) (cell : ℕ) (ids : List ℕ) → All IsTree dims → All (λ fact. IsRegion dims fact.region) facts
     → ascends_from (λ fact. fact.id) 0 facts ≡ true → Indexes dims facts content → AreIdsAt content (codes_over dims cell) ids → ids ≡ ids_that_cover dims cell facts
 ids-cover dims facts content cell ids trees named ascends indexes are =
-    ascending-same 0 ids (ids_that_cover dims cell facts) are.ascending
+    same_members 0 0 ids (ids_that_cover dims cell facts) are.ascending
     (ascends_map (λ id. id) (λ (fact : Fact). fact.id) 0 (filter (covers dims cell) facts) ∙ ascends_filter (λ (fact : Fact). fact.id) (covers dims cell) 0 facts ascends)
     (λ id.
     are.exact id
@@ -94,7 +93,7 @@ Indexes-applied dims before after old new puts drops ascends rises follow indexe
   ids = λ code.
       let was : AreAscending (ids_at old code) = rw (indexes.ids code) (ascends-at dims before code ascends) in
       let is : AreAscending (ids_at new code) = rw (applies.ids code) (ascends-after puts drops code (ids_at old code) was) in
-      ascending-same 0 (ids_at new code) (map (λ fact. fact.id) (filter (is_indexed_at dims code) after)) is (ascends-at dims after code rises) (λ id.
+      same_members 0 0 (ids_at new code) (map (λ fact. fact.id) (filter (is_indexed_at dims code) after)) is (ascends-at dims after code rises) (λ id.
       let held : is_among (ids_at old code) id ≡ has_at dims code id before = ap (λ ids. is_among ids id) (indexes.ids code) ∙ among-ids (is_indexed_at dims code) before id in
       ap (λ ids. is_among ids id) (applies.ids code)
       ∙ among-after puts drops code (ids_at old code) id

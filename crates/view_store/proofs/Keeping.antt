@@ -7,8 +7,9 @@ use Rattle.std.proofs.lemmas.Bool.Decides.{nat_tests}
 use Rattle.std.proofs.lemmas.List.{map-append, take_more}
 use Rattle.group_sum.specs.Terms.{TermList}
 use Rattle.staged_map.specs.Staged.{AreKeys, Entries, Places, Removes, value_at}
+use Rattle.cube_model.proofs.Ascending.{ascends_increasing}
 use Rattle.view_store.specs.Drafts.{kept, kept_drafts}
-use Rattle.view_store.proofs.Ascending.{ascends-increasing, has, not_among-behind}
+use Rattle.view_store.proofs.Ascending.{has, not_among-behind}
 
 -- What is staged for the codes before a place; the drafts of the others are there.
 pub record AreKept (drafts : Places TermList) (codes : List ℕ) (i : ℕ) (entries : Entries TermList) (now : Places TermList) : Type 0 where
@@ -32,7 +33,7 @@ AreKept-next drafts codes i entries more now new terms within before found remov
       done = is ∙ ap (λ es. es ++ (code, kept (Some terms)) ∷ []) before.done ∙ ap (λ o. kept_drafts drafts (take i codes) ++ (code, kept o) ∷ []) (sym draft) ∙ sym next;
       ahead = λ k among. elim (cases_eq k code) [
         | inl same ↦
-            let ascends = ascends-increasing 0 codes before.keys.ascending (λ some. omega arith) in
+            let ascends = ascends_increasing 0 codes before.keys.ascending (λ some. omega arith) in
             let behind : has (drop (i + 1) codes) k ≡ false = ap (has (drop (i + 1) codes)) same ∙ not_among-behind 0 codes i ascends within in
             absurd (grind (arith, among, behind))
         | inr other ↦

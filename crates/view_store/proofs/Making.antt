@@ -11,11 +11,12 @@ use Rattle.group_sum.specs.Terms.{TermList}
 use Rattle.staged_map.specs.Staged.{AreKeys, AreOfDifferentKeys, staged_entry, value_at}
 use Rattle.staged_map.specs.Staged.{Places}
 use Rattle.staged_map.proofs.Entries.{keys_of-made, staged_entry-made}
+use Rattle.cube_model.proofs.Ascending.{ascends_increasing}
 use Rattle.view_store.specs.declared.change.ViewChange.{ViewChange}
 use Rattle.view_store.specs.Changes.{AreWhole, IsMadeAnew, IsMadeFor, facts_put, facts_taken_away, shares, staged_at}
 use Rattle.view_store.specs.Drafts.{AreOver, AreRemade, draft_at, kept, kept_drafts}
 use Rattle.view_store.specs.Views.{held_at, is_in_view, IsEntry, IsOver, no_terms}
-use Rattle.view_store.proofs.Ascending.{IsDistinct-ascending, ascends-increasing}
+use Rattle.view_store.proofs.Ascending.{IsDistinct-ascending}
 
 module _ (columns : ℕ) (drafts : Places TermList) (codes : List ℕ) (keys : AreKeys drafts codes) where
   staged-of : (code : ℕ) → staged_entry (kept_drafts drafts codes) code ≡ cond (is_some (value_at drafts code)) (Some (kept (value_at drafts code))) None
@@ -25,7 +26,7 @@ module _ (columns : ℕ) (drafts : Places TermList) (codes : List ℕ) (keys : A
   codes-made = keys_of-made (λ c. kept (value_at drafts c)) codes
 
   pub distinct-made : AreOfDifferentKeys (kept_drafts drafts codes)
-  distinct-made = subst (IsDistinct eqb) (sym codes-made) (IsDistinct-ascending 0 codes (ascends-increasing 0 codes keys.ascending (λ some. omega arith)))
+  distinct-made = subst (IsDistinct eqb) (sym codes-made) (IsDistinct-ascending 0 codes (ascends_increasing 0 codes keys.ascending (λ some. omega arith)))
 
   pub whole-made : AreOver columns drafts → AreWhole columns (kept_drafts drafts codes)
   whole-made over = each codes
