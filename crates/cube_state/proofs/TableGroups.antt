@@ -22,7 +22,7 @@ use Rattle.region_algebra.specs.Space.{IsRegion, all_regions, region_total}
 use Rattle.region_index.specs.Touching.{codes_touching}
 use Rattle.staged_map.specs.Staged.{Places}
 use Rattle.view_store.proofs.CutRegions.{inside-inside}
-use Rattle.view_store.proofs.LeafTuples.{is_among-inside}
+use Rattle.region_algebra.proofs.LeafTuples.{is_among-inside}
 use Rattle.view_store.proofs.OfFacts.{answers-alike}
 use Rattle.fact_indexes.specs.Anew.{AreGroupsOf}
 use Rattle.fact_indexes.proofs.SplitGroups.{counts-split, others_of, sums-split}

@@ -6,6 +6,7 @@ pub mod Judging
 pub mod Kept
 pub mod Leaves
 pub mod MoreLeaves
+pub mod NearestParents
 pub mod NewKey
 pub mod NewLeaf
 pub mod Nodes

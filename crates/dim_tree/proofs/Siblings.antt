@@ -7,9 +7,10 @@ use Rattle.std.proofs.lemmas.List.{length-map}
 use Rattle.cube_model.specs.declared.tree.NodeLine.{NodeLine}
 use Rattle.cube_model.specs.Tree.{Entry, numbered, numbered_from, first_fault, parent}
 use Rattle.cube_model.specs.Cut.{behind, children, first_child, next_sibling}
-use Rattle.dim_tree.specs.Places.{count_deeper, nearest_parent, parents_from, ends_from}
-use Rattle.dim_tree.proofs.Climbing.{stands, is_rising, rises_on, depths_of, node_at, both, together}
+use Rattle.dim_tree.specs.Places.{count_deeper, parents_from, ends_from}
+use Rattle.dim_tree.proofs.Climbing.{depths_of}
 use Rattle.dim_tree.proofs.Rising.{first_fault-rises_on}
+use Rattle.dim_tree.proofs.NearestParents.{ends_from-deeper, nearest_at}
 use Rattle.dim_tree.proofs.Parents.{parents_from-below, child-next}
 use Rattle.dim_tree.proofs.Nodes.{ends_from-above, ends_from-within, is_under-end, is_under-parent, parent-place}
 
@@ -59,88 +60,18 @@ behind-next p k to (line ∷ lines) x o end from within passes is = elim (cases_
   | inr there ↦ ap (λ ks. slice_get ks 0) (behind-cond (p k) k x (filter p (numbers (numbered_from (k + 1) lines))) (ne_eqb k x there)) ∙ behind-next p (k + 1) to lines x o (omega arith) (omega (arith, there)) within passes is
 ]
 
--- whether each of these depths, the nearest first, is that of its place
-abbrev follows : (ℕ → ℕ) → List ℕ → Bool
-follows depth [] = true
-follows depth (d ∷ ds) = depth (length ds) == d && follows depth ds
-
--- the nearest parent lies less deep by one
-nearest_parent-depth : (depth : ℕ → ℕ) (d : ℕ) (e : Entry) (es : List Entry) → is_rising (e ∷ es) ≡ true → follows depth (map (λ p. p.depth) (e ∷ es)) ≡ true → 1 ≤ d → d ≤ e.depth + 1 → depth (nearest_parent d (map (λ p. p.depth) (e ∷ es))) + 1 ≡ d
-nearest_parent-depth depth d e [] rising follow deep near = grind (arith, nat_tests)
-nearest_parent-depth depth d e (b ∷ es) rising follow deep near =
-    let rising' : is_rising (b ∷ es) ≡ true = (both (stands (b ∷ es) e.depth) (is_rising (b ∷ es)) rising).1 in
-    let near' : e.depth ≤ b.depth + 1 = grind (arith, nat_tests) in
-    let ds = map (λ (p : Entry). p.depth) (b ∷ es) in
-    let follow' : follows depth ds ≡ true = (both (depth (length ds) == e.depth) (follows depth ds) follow).1 in
-    grind (arith, nat_tests, λ (h : d ≤ b.depth + 1). nearest_parent-depth depth d b es rising' follow' deep h)
-
--- and none nearer does
-nearest_parent-nearest : (depth : ℕ → ℕ) (d : ℕ) (ds : List ℕ) (y : ℕ) → follows depth ds ≡ true → nearest_parent d ds < y → y < length ds → depth y + 1 ≡ d → ⊥
-nearest_parent-nearest depth d [] y follow above within same = omega arith
-nearest_parent-nearest depth d (e ∷ ds) y follow above within same =
-    let parts = both (depth (length ds) == e) (follows depth ds) follow in
-    elim (cases_eq (length ds) y) [
-      | inl here ↦
-          let at : (depth (length ds) == e) ≡ true = parts.0 in
-          let its : depth (length ds) ≡ depth y = ap depth here in
-          grind (arith, nat_tests, at, its)
-      | inr there ↦
-          let inside : y < length ds = omega (arith, there) in
-          grind (arith, nat_tests, inside, λ (h : nearest_parent d ds < y). nearest_parent-nearest depth d ds y parts.1 h inside same)
-    ]
-
--- what is said of the parent q of the node at place z
-record IsNearest (depth : ℕ → ℕ) (z q : ℕ) : Type 0 where
-  pub depth_above : depth q + 1 ≡ depth z
-  pub nearest : (y : ℕ) → q < y → y < z → depth y + 1 ≡ depth z → ⊥
-
--- what is kept as a node's parent is the nearest that lies less deep by one
-parents_from-nearest : (depth : ℕ → ℕ) (lines : List NodeLine) (es : List Entry) (k i z : ℕ) → k ≡ length es → z ≡ k + i → i < length lines → 0 < z → is_rising es ≡ true → rises_on es (numbered_from k lines) ≡ true → follows depth (map (λ p. p.depth) es) ≡ true
-    → ((j y : ℕ) → y ≡ k + j → j < length lines → depth y ≡ get_or (depths_of lines) j 0)
-    → IsNearest depth z (get_or (parents_from (map (λ p. p.depth) es) (depths_of lines)) i 0)
-parents_from-nearest depth [] es k i z start at within some rising rises follow is = absurd (omega arith)
-parents_from-nearest depth (line ∷ lines) [] k zero z start at within some rising rises follow is = absurd (omega arith)
-parents_from-nearest depth (line ∷ lines) (e ∷ es) k zero z start at within some rising rises follow is =
-    let stand : stands (e ∷ es) line.depth ≡ true = (both (stands (e ∷ es) line.depth) (rises_on (node_at k line ∷ e ∷ es) (numbered_from (k + 1) lines)) rises).0 in
-    let deep : 1 ≤ line.depth = grind (arith, nat_tests) in
-    let near : line.depth ≤ e.depth + 1 = grind (arith, nat_tests) in
-    let its : depth z ≡ line.depth = is 0 z at within in
-    let count = length-map (e ∷ es) (λ (p : Entry). p.depth) in
-    record {
-      depth_above = nearest_parent-depth depth line.depth e es rising follow deep near ∙ sym its;
-      nearest = λ y above before same. nearest_parent-nearest depth line.depth (map (λ p. p.depth) (e ∷ es)) y follow above (omega (arith, count)) (same ∙ its);
-    }
-parents_from-nearest depth (line ∷ lines) es k (suc i) z start at within some rising rises follow is =
-    let next = both (stands es line.depth) (rises_on (node_at k line ∷ es) (numbered_from (k + 1) lines)) rises in
-    let count = length-map es (λ (p : Entry). p.depth) in
-    let its : depth (length (map (λ (p : Entry). p.depth) es)) ≡ line.depth = is 0 (length (map (λ (p : Entry). p.depth) es)) (omega (arith, count)) (omega arith) in
-    parents_from-nearest depth lines (node_at k line ∷ es) (k + 1) i z (omega arith) (omega arith) (omega arith) some (together next.0 rising) next.1 (together (eq-eqb _ _ its) follow) (λ j y there inside. is (suc j) y (omega arith) (omega arith))
-
 -- the first has none
 parents_from-first : (ds : List ℕ) → get_or (parents_from [] ds) 0 0 ≡ 0
 parents_from-first [] = refl
 parents_from-first (d ∷ ds) = refl
 
--- what is counted as deeper lies deeper
-count_deeper-deeper : (f : ℕ) (ds : List ℕ) (j : ℕ) → j < count_deeper f ds → f < get_or ds j 0
-count_deeper-deeper f [] j counted = absurd (omega arith)
-count_deeper-deeper f (d ∷ ds) zero counted = grind (arith, nat_tests)
-count_deeper-deeper f (d ∷ ds) (suc j) counted = grind (arith, nat_tests, λ (h : j < count_deeper f ds). count_deeper-deeper f ds j h)
-
--- and what follows does not
+-- what follows the deeper ones does not lie deeper
 count_deeper-stops : (f : ℕ) (ds : List ℕ) (j : ℕ) → j ≡ count_deeper f ds → j < length ds → get_or ds j 0 ≤ f
 count_deeper-stops f [] j counted within = absurd (omega arith)
 count_deeper-stops f (d ∷ ds) zero counted within = grind (arith, nat_tests)
 count_deeper-stops f (d ∷ ds) (suc j) counted within = grind (arith, nat_tests, λ (h : j ≡ count_deeper f ds). count_deeper-stops f ds j h (omega arith))
 
--- behind a node and before its end, nodes lie deeper
-ends_from-deeper : (k : ℕ) (ds : List ℕ) (i j : ℕ) → i < length ds → i < j → k + j < get_or (ends_from k ds) i 0 → get_or ds i 0 < get_or ds j 0
-ends_from-deeper k [] i j within order inside = absurd (omega arith)
-ends_from-deeper k (d ∷ ds) i zero within order inside = absurd (omega arith)
-ends_from-deeper k (d ∷ ds) zero (suc j) within order inside = count_deeper-deeper d ds j (omega arith)
-ends_from-deeper k (d ∷ ds) (suc i) (suc j) within order inside = ends_from-deeper (k + 1) ds i j (omega arith) (omega arith) (omega arith)
-
--- at its end, none does
+-- at the end of a node, none lies deeper
 ends_from-stops : (k : ℕ) (ds : List ℕ) (i j : ℕ) → i < length ds → k + j ≡ get_or (ends_from k ds) i 0 → j < length ds → get_or ds j 0 ≤ get_or ds i 0
 ends_from-stops k [] i j within at inside = absurd (omega arith)
 ends_from-stops k (d ∷ ds) zero zero within at inside = absurd (omega arith)
@@ -168,10 +99,6 @@ module _ (lines : List NodeLine) (accepted : first_fault [] 0 lines ≡ None) wh
   -- the lines are counted by their depths
   count : length (depths_of lines) ≡ length lines
   count = length-map lines (λ (line : NodeLine). line.depth)
-
-  -- the parent of a node that is not the first
-  nearest_at : (x : ℕ) → x < length lines → 0 < x → IsNearest depth_at x (parent_at x)
-  nearest_at x within some = parents_from-nearest depth_at lines [] 0 x x refl (omega arith) within some refl (first_fault-rises_on [] 0 lines accepted) refl (λ j y at inside. ap (λ n. get_or (depths_of lines) n 0) (at ∙ omega arith))
 
   -- a node's parent lies before it
   parent-before : (x : ℕ) → x < length lines → 0 < x → parent_at x < x
@@ -207,7 +134,7 @@ module _ (lines : List NodeLine) (accepted : first_fault [] 0 lines ≡ None) wh
   -- a node under p that lies deeper by one is its child
   parent-one_deeper : (p x : ℕ) → p < x → x < end_at p → x < length lines → depth_at x ≡ depth_at p + 1 → parent_at x ≡ p
   parent-one_deeper p x before inside within deeper =
-      let near = nearest_at x within (omega arith) in
+      let near = nearest_at lines accepted x within (omega arith) in
       let q = parent_at x in
       let not_before : q < p → ⊥ = λ h. near.nearest p h before (sym deeper) in
       let not_behind : p < q → ⊥ = λ h.
@@ -240,7 +167,7 @@ module _ (lines : List NodeLine) (accepted : first_fault [] 0 lines ≡ None) wh
   none_between : (x z : ℕ) → x < length lines → 0 < x → x < z → z < end_at x → z < length lines → is_child (parent_at x) z ≡ false
   none_between x z within some behind_it inside room = no_child (parent_at x) z room (λ above same.
       let its : depth_at (parent_at z) ≡ depth_at (parent_at x) = ap depth_at same in
-      omega (arith, its, (nearest_at x within some).depth_above, (nearest_at z room above).depth_above, ends_from-deeper 0 (depths_of lines) x z (omega (arith, count)) behind_it (omega arith)))
+      omega (arith, its, (nearest_at lines accepted x within some).depth_above, (nearest_at lines accepted z room above).depth_above, ends_from-deeper 0 (depths_of lines) x z (omega (arith, count)) behind_it (omega arith)))
 
   -- its end is the next with its parent, where it is still under the parent
   next_at_end : (x : ℕ) → x < length lines → 0 < x → end_at x < end_at (parent_at x) → IsNext (is_child (parent_at x)) (x + 1) (length lines) (Some (end_at x))
@@ -252,7 +179,7 @@ module _ (lines : List NodeLine) (accepted : first_fault [] 0 lines ≡ None) wh
       let room : e < length lines = omega (arith, count, ends_from-within 0 (depths_of lines) p (omega (arith, count))) in
       let lower : depth_at p < depth_at e = ends_from-deeper 0 (depths_of lines) p e (omega (arith, count)) (omega arith) (omega arith) in
       let upper : depth_at e ≤ depth_at x = ends_from-stops 0 (depths_of lines) x e (omega (arith, count)) (omega arith) (omega (arith, count)) in
-      let its : parent_at e ≡ p = parent-one_deeper p e (omega arith) more room (omega (arith, lower, upper, (nearest_at x within some).depth_above)) in
+      let its : parent_at e ≡ p = parent-one_deeper p e (omega arith) more room (omega (arith, lower, upper, (nearest_at lines accepted x within some).depth_above)) in
       (omega arith, room, is_child-place p e room ∙ grind (arith, nat_tests, its), λ z from inside. none_between x z within some (omega arith) inside (omega arith))
 
   -- else there is none

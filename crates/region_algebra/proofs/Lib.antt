@@ -10,4 +10,5 @@ pub mod InsideDigits
 pub mod Spaces
 pub mod Growing
 pub mod Children
+pub mod LeafTuples
 pub mod Partition

@@ -19,7 +19,7 @@ use Rattle.view_store.specs.Facts.{IsViewOfFacts}
 use Rattle.view_store.specs.Rolling.{is_below, rolled_up, serves, term_lists_below}
 use Rattle.view_store.specs.Views.{ViewMap, entry_at, is_in_view, no_terms, region_at}
 use Rattle.view_store.proofs.CutsOver.{code-over}
-use Rattle.view_store.proofs.LeafTuples.{is_among-inside}
+use Rattle.region_algebra.proofs.LeafTuples.{is_among-inside}
 use Rattle.view_store.proofs.Weighing.{merge-weighed, weighed, weighed-nothing, weighed-same, weighed-without, weights-add_up, weights_among-none}
 
 -- a test that none passes, and one that a number alone passes

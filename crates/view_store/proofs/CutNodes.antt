@@ -17,7 +17,7 @@ use Rattle.dim_tree.proofs.Queries.{depth-read}
 use Rattle.dim_tree.proofs.Renumbering.{accepted_lines, are_numbers, entry_of-number_at, is_leaf-number_at, kept_parent, number_at, number_at-place_at, number_at-read, number_at-within, place_at, place_at-number_at, place_at-root, place_at-within, plain}
 use Rattle.dim_tree.proofs.Rising.{first_fault-parts}
 use Rattle.dim_tree.proofs.Siblings.{parent_at-within}
-use Rattle.view_store.proofs.NearestParents.{ends_from-deeper, nearest_at}
+use Rattle.dim_tree.proofs.NearestParents.{ends_from-deeper, nearest_at}
 use Rattle.region_algebra.proofs.Intervals.{end_of, end_of-above, end_of-nested, is_under-interval, nested_or_apart}
 use Rattle.region_algebra.proofs.Numbers.{is_under-plain}
 use Rattle.view_store.specs.Cuts.{IsCutNode, reaches_cut}

@@ -16,7 +16,7 @@ use Rattle.dim_tree.proofs.Renumbering.{are_numbers, length-numbers, number_at, 
 use Rattle.region_algebra.specs.Space.{all_regions, code_of, is_region, region_total}
 use Rattle.region_algebra.proofs.Codes.{length-all_regions, slice_get-blocks}
 use Rattle.region_algebra.proofs.Numbers.{found-passes, number-at}
-use Rattle.view_store.proofs.LeafTuples.{are_leaves, cells-are, is_among-inside, is_node_leaf}
+use Rattle.region_algebra.proofs.LeafTuples.{are_leaves, cells-are, is_among-inside, is_node_leaf}
 use Rattle.region_algebra.proofs.Spaces.{uncode-region}
 use Rattle.region_algebra.proofs.Turns.{is_region-length, region_total-some}
 use Rattle.view_store.specs.Cuts.{HoldsCells, HoldsRegion, IsCodeOver, IsCutNode}

@@ -16,7 +16,7 @@ use Rattle.view_store.specs.Cuts.{IsCodeOver}
 use Rattle.view_store.specs.Rolling.{is_below, serves}
 use Rattle.view_store.proofs.CutNodes.{depth_is, depth_of, some_in_cut, under-from_cut}
 use Rattle.view_store.proofs.CutRegions.{IsLifted, over_cell, region_at-is}
-use Rattle.view_store.proofs.LeafTuples.{are_leaves, cells-are, is_among-inside, is_node_leaf}
+use Rattle.region_algebra.proofs.LeafTuples.{are_leaves, cells-are, is_among-inside, is_node_leaf}
 
 -- the node of a region that is served lies no deeper than the cut
 served-depth : (found : Option Entry) (deep depth : ℕ) → option_map (λ e. e.depth) found ≡ Some deep → option_map_or (λ e. nat_le e.depth depth) found false ≡ true → deep ≤ depth

@@ -1,7 +1,5 @@
 pub mod ChangeFacts
 pub mod Shares
-pub mod NearestParents
-pub mod LeafTuples
 pub mod CutNodes
 pub mod CutRegions
 pub mod Reaching

@@ -8,7 +8,7 @@ use Rattle.dim_tree.proofs.Climbing.{both, together}
 use Rattle.region_algebra.specs.Space.{is_region}
 use Rattle.region_algebra.proofs.Turns.{drop-at, is_region-length}
 use Rattle.view_store.specs.Cuts.{reaches_cut, reaches_cuts}
-use Rattle.view_store.proofs.LeafTuples.{are_leaves, is_node_leaf}
+use Rattle.region_algebra.proofs.LeafTuples.{are_leaves, is_node_leaf}
 
 module _ (dims : List Dimension) (depths nodes : List ℕ) (d : ℕ) (dim : Dimension) (node : ℕ) (is : slice_get dims d ≡ Some dim) (within : d < length depths) (at : slice_get nodes d ≡ Some node) where
   reaches-here : reaches_cuts (drop d dims) (drop d depths) (drop d nodes) ≡ (reaches_cut dim (get_or depths d 0) node && reaches_cuts (drop (d + 1) dims) (drop (d + 1) depths) (drop (d + 1) nodes))

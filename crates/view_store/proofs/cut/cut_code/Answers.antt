@@ -2,7 +2,7 @@
 use Rattle.cube_model.specs.Cells.{all_cells}
 use Rattle.region_algebra.proofs.Numbers.{found-passes}
 use Rattle.view_store.proofs.CutRegions.{holds-own_cell}
-use Rattle.view_store.proofs.LeafTuples.{are_leaves, cells-are}
+use Rattle.region_algebra.proofs.LeafTuples.{are_leaves, cells-are}
 use Rattle.view_store.proofs.Reaching.{leaves-reach}
 use Rattle.view_store.proofs.cut.cut_code.Goals as goal
 
