@@ -1,5 +1,5 @@
 //! Where contents are kept. A keeper counts its loads and its faults, and may tell what it keeps and which store it opened.
-ghost use Rattle.std.specs.Prelude.{◌≡◌, ◌++◌, ◌∷◌, [], IfOk, IfSome, IsTrue, OnOk, OnErr, option_map};
+ghost use Rattle.std.specs.Prelude.{◌≡◌, ◌++◌, ◌∷◌, [], false, None, IfOk, IfSome, IsTrue, OnOk, OnErr, option_map};
 ghost use Rattle.cube_base.specs.Outside.{next_count};
 ghost use Rattle.fact_keeper.specs.Batch.{apply_batch};
 ghost use Rattle.fact_keeper.specs.Keeper.{CountsKeepFault, KeeperTold, StaysOpen};
@@ -47,6 +47,12 @@ pub trait Keeper {
     /// What it tells: its content, all batches that were committed to it, and the name of the store that was opened last, each where it
     /// knows it; the count of loads that were asked for; whether it may be committed to; and the count of its faults. No count falls.
     ghost tells: { Self → KeeperTold };
+
+    /// Whether it keeps what is committed. One that does not tells no content and no journal, so that nothing need be made for it. It
+    /// takes no memory.
+    fn keeps(&self) -> bool
+        ensures content { result ≡ false → (tells self.now).content ≡ None }
+        ensures journal { result ≡ false → (tells self.now).journal ≡ None };
 
     /// Opens the store of that name and gives its content, which stays as it is, and so does the journal. A load that is answered opens the
     /// keeper for good, and an error leaves the name that it tells. `Failed` comes at a fault of the outside alone, and `Memory` is counted

@@ -84,6 +84,12 @@ impl MemKeeper {
 impl Keeper for MemKeeper {
     ghost tells = { λ k. record { content = Some k.content; journal = Some k.journal; name = k.name; loads = k.loads; is_open = k.is_open; faults = k.faults } };
 
+    fn keeps(&self) -> bool
+        ensures all { result ≡ true }
+    {
+        true
+    }
+
     /// The content, whatever the name, of which it keeps a copy.
     fn load(&mut self, _alloc: Global, name: &str) -> Result<Stored, KeepError>
         // What every keeper says.

@@ -1,5 +1,5 @@
 //! A keeper that keeps nothing.
-ghost use Rattle.std.specs.Prelude.{◌≡◌, None, Ok, true, IsOk};
+ghost use Rattle.std.specs.Prelude.{◌≡◌, None, Ok, false, true, IsOk};
 ghost use Rattle.cube_base.specs.Outside.{next_count};
 ghost use Rattle.fact_keeper.specs.Batch.{empty_content};
 
@@ -23,6 +23,12 @@ impl NoKeeper {
 
 impl Keeper for NoKeeper {
     ghost tells = { λ k. record { content = None; journal = None; name = None; loads = k.loads; is_open = true; faults = 0 } };
+
+    fn keeps(&self) -> bool
+        ensures none { result ≡ false }
+    {
+        false
+    }
 
     /// The empty content, always. It takes no memory.
     fn load(&mut self, alloc: Global, _name: &str) -> Result<Stored, KeepError>

@@ -63,6 +63,12 @@ impl Keeper for BatchCatcher {
 
     ghost tells = { λ k. record { content = None; journal = Some k.caught; name = None; loads = k.loads; is_open = true; faults = 0 } };
 
+    fn keeps(&self) -> bool
+        ensures all { result ≡ true }
+    {
+        true
+    }
+
     /// The empty content, always. It takes no memory.
     fn load(&mut self, alloc: Global, _name: &str) -> Result<Stored, KeepError>
         ensures given { result ≡ Ok empty_content }

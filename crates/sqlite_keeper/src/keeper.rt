@@ -179,6 +179,12 @@ impl<'rt> SqlKeeper<'rt> {
 impl Keeper for SqlKeeper<'_> {
     ghost tells = { λ k. record { content = None; journal = None; name = k.name; loads = k.loads; is_open = k.is_open; faults = k.faults } };
 
+    fn keeps(&self) -> bool
+        ensures all { result ≡ true }
+    {
+        true
+    }
+
     /// Opens the file whose path is the name; where nothing is kept there yet, the first batch makes it. The file that was open is closed
     /// first, and an error leaves none open: each commit is then a fault, until a load is answered.
     fn load(&mut self, alloc: Global, name: &str) -> Result<Stored, KeepError>
