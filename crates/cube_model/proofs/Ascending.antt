@@ -3,6 +3,7 @@
 use Rattle.std.proofs.Common.{◌≡◌, ℕ, zero, suc, ◌+◌, ◌<◌, ◌≤◌, Bool, true, false, List, [], ◌∷◌, ◌++◌, get_or, length, map, filter, refl, ap, arith}
 use Rattle.std.proofs.lemmas.Bool.Decides.{nat_tests}
 use Rattle.std.specs.Prelude.{All, ◌==◌, if◌then◌else◌}
+use Rattle.std.specs.List.{list_any}
 use Rattle.std.specs.List.Sorted.{IsStrictlyIncreasing}
 use Rattle.cube_model.specs.Ascending.{ascends_from}
 use Rattle.cube_model.specs.Cells.{all_cells, cells_of, is_among, is_inside, places_from}
@@ -108,3 +109,8 @@ same_members a b (x ∷ xs) (y ∷ ys) first second same =
     let one : x ≡ y = grind (arith, nat_tests, same x, same y, no_x y, no_y x) in
     let rest : (k : ℕ) → is_among xs k ≡ is_among ys k = λ k. grind (arith, nat_tests, same k, no_x k, no_y k, one) in
     rw one (ap (λ zs. y ∷ zs) (same_members (x + 1) (y + 1) xs ys above_x above_y rest))
+
+-- what is among numbers, the test turned round
+pub any-turned : (n : ℕ) (xs : List ℕ) → list_any (λ x. n == x) xs ≡ is_among xs n
+any-turned n [] = refl
+any-turned n (x ∷ xs) = grind (arith, nat_tests, any-turned n xs)

@@ -15,7 +15,7 @@ use Rattle.cube_model.specs.Allocation.{Allocation, Policy, allocation, spread, 
 use Rattle.cube_model.specs.Answer.{weight_inside}
 use Rattle.cube_model.specs.Cells.{cells_of, is_among}
 use Rattle.cube_model.specs.Tree.{Dimension, IsTree}
-use Rattle.cube_model.proofs.Ascending.{ascends_places}
+use Rattle.cube_model.proofs.Ascending.{any-turned, ascends_places}
 use Rattle.region_algebra.specs.Space.{IsRegion, all_regions, code_of}
 use Rattle.region_algebra.proofs.Tuples.{region-at_code}
 use Rattle.region_index.specs.Touching.{codes_touching}
@@ -139,10 +139,6 @@ module _ (policy : Policy) (columns : ℕ) (dims : List Dimension) (facts : List
             let other : (c == k) ≡ false = ne_eqb c k (λ same. absurd (true≢false (sym is ∙ ap (is_among (codes_touching dims region)) (sym same) ∙ apart))) in
             omega (arith, sum_by-cons (λ k. if c == k then 1 else 0) k ks, ap {B = ℕ} (λ b. if b then 1 else 0) other, rest)
         by false is rest = omega (arith, sum_by-cons (λ k. if c == k then 1 else 0) k ks, sum_by-cons (λ k. if c == k then 1 else 0) k (filter is_other ks), rest)
-
-    any-turned : (c : ℕ) (codes : List ℕ) → list_any (λ k. c == k) codes ≡ is_among codes c
-    any-turned c [] = refl
-    any-turned c (k ∷ ks) = grind (arith, nat_tests, any-turned c ks)
 
     count-touching : (c : ℕ) → count_by (λ k. c == k) (codes_touching dims region) ≡ (if is_among (codes_touching dims region) c then 1 else 0)
     unfolding codes_touching

@@ -13,7 +13,7 @@ use Rattle.cube_model.specs.Ascending.{ascends_from}
 use Rattle.cube_model.specs.Cells.{is_among}
 use Rattle.cube_model.specs.Facts.{after}
 use Rattle.cube_model.specs.Tree.{Dimension}
-use Rattle.cube_model.proofs.Ascending.{ascends_filter, ascends_first, ascends_later, ascends_map}
+use Rattle.cube_model.proofs.Ascending.{any-turned, ascends_filter, ascends_first, ascends_later, ascends_map}
 use Rattle.staged_map.specs.Staged.{Entries, staged_entry}
 use Rattle.staged_map.proofs.Entries.{staged_entry-made}
 use Rattle.fact_groups.specs.Groups.{Group, group_at}
@@ -22,7 +22,6 @@ use Rattle.edit_plan.specs.Refreshing.{AscendByCode, group_now}
 use Rattle.cube_state.specs.Regrouped.{IsRegrouped}
 use Rattle.cube_state.specs.Regrouped.{HoldChanged, group_is_respread, groups_after, is_edited_at, regrouped}
 use Rattle.cube_state.proofs.LeftOut.{groups-left_out}
-use Rattle.edit_plan.proofs.OtherPairs.{any-turned}
 
 -- a code and its group
 abbrev pub Entry : Type 0

@@ -12,7 +12,7 @@ use Rattle.cube_model.specs.declared.edit.Fact.{Fact}
 use Rattle.cube_model.specs.Ascending.{ascends_from}
 use Rattle.cube_model.specs.Cells.{is_among}
 use Rattle.cube_model.specs.Tree.{Dimension}
-use Rattle.cube_model.proofs.Ascending.{ascends_filter, ascends_map}
+use Rattle.cube_model.proofs.Ascending.{any-turned, ascends_filter, ascends_map}
 use Rattle.region_algebra.specs.Space.{code_of}
 use Rattle.region_index.specs.Content.{AreAscending}
 use Rattle.region_index.specs.Indexed.{is_indexed_at}
@@ -25,10 +25,6 @@ use Rattle.fact_groups.proofs.Statistics.{among-filter}
 use Rattle.cube_state.specs.State.{ids_with}
 use Rattle.edit_plan.specs.Refreshing.{others_at, others_with}
 use Rattle.edit_plan.proofs.FlatLists.{All-flat, any-alike, any-flat, sum_by-flat}
-
--- what is among numbers, the test turned round
-pub any-turned : (n : ℕ) (xs : List ℕ) → list_any (λ x. n == x) xs ≡ is_among xs n
-any-turned n xs = any-alike (λ (x : ℕ). n == x) (λ x. x == n) xs (λ x. grind (arith, nat_tests))
 
 pub any-map : {X Y : Type 0} (p : Y → Bool) (h : X → Y) (xs : List X) → list_any p (map h xs) ≡ list_any (λ x. p (h x)) xs
 any-map p h [] = refl

@@ -1,25 +1,20 @@
 -- Lists of numbers that ascend.
-use Rattle.std.proofs.Common.{◌≡◌, ℕ, zero, suc, ◌+◌, ◌<◌, Bool, true, false, List, [], ◌∷◌, ◌∙◌, eqb, length, get_or, drop, refl, arith}
+use Rattle.std.proofs.Common.{◌≡◌, ℕ, zero, suc, ◌+◌, ◌<◌, Bool, true, false, List, [], ◌∷◌, ◌∙◌, eqb, length, get_or, drop, arith}
 use Rattle.std.specs.Prelude.{◌==◌}
 use Rattle.std.specs.List.{AllByRecursion, IsDistinct, list_any}
 use Rattle.std.proofs.lemmas.Map.Keys.{IsDistinct-cons}
 use Rattle.std.proofs.lemmas.Bool.Decides.{nat_tests}
 use Rattle.cube_model.specs.Ascending.{ascends_from}
-use Rattle.cube_model.specs.Cells.{is_among}
-use Rattle.cube_model.proofs.Ascending.{ascends_first, not_among_lower}
+use Rattle.cube_model.proofs.Ascending.{any-turned, ascends_first, not_among_lower}
 
 -- a number is one of these
 abbrev pub has : List ℕ → ℕ → Bool
 has xs k = list_any (λ x. k == x) xs
 
-pub has-among : (xs : List ℕ) (k : ℕ) → has xs k ≡ is_among xs k
-has-among [] k = refl
-has-among (x ∷ xs) k = grind (arith, nat_tests, has-among xs k)
-
 -- no number that ascends is among those behind it
 pub not_among-behind : (least : ℕ) (xs : List ℕ) (i : ℕ) → ascends_from (λ x. x) least xs ≡ true → i < length xs → has (drop (i + 1) xs) (get_or xs i 0) ≡ false
 not_among-behind least [] i ascends within = absurd (omega arith)
-not_among-behind least (x ∷ xs) zero ascends within = has-among xs x ∙ not_among_lower (x + 1) x xs (ascends_first (λ x. x) least x xs ascends).others (omega arith)
+not_among-behind least (x ∷ xs) zero ascends within = any-turned x xs ∙ not_among_lower (x + 1) x xs (ascends_first (λ x. x) least x xs ascends).others (omega arith)
 not_among-behind least (x ∷ xs) (suc i) ascends within =
     let next : suc i + 1 ≡ suc (i + 1) = omega arith in
     rw next (not_among-behind (x + 1) xs i (ascends_first (λ x. x) least x xs ascends).others (omega arith))

@@ -7,7 +7,7 @@ use Rattle.std.proofs.lemmas.Bool.Decides.{nat_tests}
 use Rattle.std.proofs.lemmas.List.{map-append, take_more}
 use Rattle.std.proofs.lemmas.List.Elements.{filter-append}
 use Rattle.cube_model.specs.Ascending.{ascends_from}
-use Rattle.cube_model.proofs.Ascending.{ascends_cons, ascends_increasing, same_members}
+use Rattle.cube_model.proofs.Ascending.{any-turned, ascends_cons, ascends_increasing, same_members}
 use Rattle.cube_model.specs.Cells.{is_inside}
 use Rattle.cube_model.specs.Tree.{Dimension}
 use Rattle.group_sum.specs.Terms.{TermList}
@@ -15,7 +15,7 @@ use Rattle.region_algebra.specs.Space.{region_total}
 use Rattle.staged_map.specs.Staged.{AreKeys, value_at}
 use Rattle.view_store.specs.Rolling.{is_below}
 use Rattle.view_store.specs.Views.{IsViewOf, ViewMap, codes_of, entry_at, no_terms, region_at}
-use Rattle.view_store.proofs.Ascending.{has, has-among}
+use Rattle.view_store.proofs.Ascending.{has}
 
 -- the numbers of a range that pass ascend, and are those of it that pass
 ascends-from : (p : ℕ → Bool) (from n least : ℕ) → least ≤ from → ascends_from (λ x. x) least (filter p (range_with_len from n)) ≡ true
@@ -53,7 +53,7 @@ pub keys-are : (dims : List Dimension) (view : ViewMap) (keys : List ℕ) → Is
 keys-are dims view keys of are =
     same_members 0 0 keys (codes_of dims view) (ascends_increasing 0 keys are.ascending (λ some. omega arith))
     (ascends-from (λ code. is_some (value_at view.entries code)) 0 (region_total dims) 0 (omega arith))
-    (λ k. sym (has-among keys k) ∙ are.among k ∙ by k (is_some (value_at view.entries k)) refl ∙ sym (has-range (λ code. is_some (value_at view.entries code)) 0 (region_total dims) k) ∙ has-among (codes_of dims view) k)
+    (λ k. sym (any-turned k keys) ∙ are.among k ∙ by k (is_some (value_at view.entries k)) refl ∙ sym (has-range (λ code. is_some (value_at view.entries code)) 0 (region_total dims) k) ∙ any-turned k (codes_of dims view))
   where
     by : (k : ℕ) (b : Bool) → is_some (value_at view.entries k) ≡ b → b ≡ (b && (nat_le 0 k && nat_lt k (0 + region_total dims)))
     by k true is = let below : k < region_total dims = of.regions k is in grind (arith, nat_tests, below)
