@@ -1,5 +1,5 @@
 //! The cube.
-ghost use Rattle.std.specs.Prelude.{◌≡◌, ◌+◌, ◌++◌, ◌∷◌, ◌<◌, ◌≤◌, [], None, true, All, length, option_map, IfErr, IfOk, IfSome, IsTrue, OnErr, OnOk};
+ghost use Rattle.std.specs.Prelude.{◌≡◌, ◌+◌, ◌++◌, ◌∷◌, ◌<◌, ◌≤◌, [], None, true, All, length, option_map, IfErr, IfOk, IfSome, IsSome, IsTrue, OnErr, OnOk};
 ghost use Rattle.std.specs.Option.{option_copied};
 ghost use Rattle.alloc_rows.specs.Alloc.{IsAllocation};
 ghost use Rattle.cube_model.specs.Allocation.{allocation_of, row_count};
@@ -24,7 +24,7 @@ ghost use Rattle.cube_core.specs.Expected.{AreExpected};
 ghost use Rattle.cube_core.specs.View.{view_in};
 ghost use Rattle.cube_core.specs.WorldSums.{IsWorldFault, placed_in, world_sum_in};
 
-use crate::carrying::carry_out;
+use crate::carrying::{carry_out, detail_for};
 use crate::place::{PlacedList, place};
 use crate::{EditFault, ImportFault};
 use alloc_rows::Alloc;
@@ -32,7 +32,7 @@ use cell_weight::WeightPolicy;
 use cube_base::{Ids, Memory};
 use cube_model::{Edit, Region};
 use cube_state::{State, look_up};
-use edit_plan::{plan, plan_all};
+use edit_plan::{Detail, PlanLists, plan, plan_all};
 use fact_keeper::{Keeper, Stored};
 use fact_records::{FactList, FactSeq, judge_seq};
 use group_sum::Terms;
@@ -52,6 +52,19 @@ pub struct Receipt {
     pub refreshed: Ids,
     /// The id that was withdrawn, if the edit withdrew one.
     pub removed: Option<u64>,
+}
+
+/// The receipt of a plan that has lists.
+fn receipt_of(lists: Option<PlanLists>, removed: Option<u64>) -> Receipt
+    requires { IsSome lists }
+    ensures refreshed { IfSome lists (λ lists. result.refreshed ≡ lists.refreshed) }
+    ensures removed { result.removed ≡ removed }
+{
+    let Some(PlanLists { refreshed, batch }) = lists else {
+        unreachable!()
+    };
+    drop(batch);
+    Receipt { refreshed, removed }
 }
 
 /// A schema with the state of a cube over it: a policy, and facts with all that is kept of them, so that an edit costs what it touches.
@@ -223,10 +236,41 @@ impl<P: WeightPolicy + Drop> Cube<P> {
         ensures same_journal { OnErr result ((K.tells keeper.new).journal ≡ (K.tells keeper.old).journal) }
         ensures steps { steps.new ≤ steps.old + step_bound_in P.weigh self.old edit.now }
     {
-        let plan = plan(self.alloc, &mut self.state, edit, steps)?;
+        let plan = plan(self.alloc, &mut self.state, edit, Detail::Lists, steps)?;
         let removed = plan.removed();
-        let refreshed = carry_out(&mut self.state, plan, keeper)?;
-        Ok(Receipt { refreshed, removed })
+        let lists = carry_out(&mut self.state, plan, keeper)?;
+        Ok(receipt_of(lists, removed))
+    }
+
+    /// Does an edit as `edit` does, and answers only how many facts are new or have an allocation that changed. Where the keeper keeps
+    /// nothing, neither their ids nor a batch is made.
+    pub fn edit_and_count<K: Keeper, L: Ledger>(
+        &mut self,
+        edit: &Edit,
+        keeper: &mut K,
+        steps: &mut Steps<L>,
+    ) -> Result<u64, EditFault>
+        requires over { IsEditOver self.old.schema.dims edit.now }
+        requires open { IsTrue (K.tells keeper.old).is_open }
+        ensures facts { OnOk result (self.new ≡ edited edit.now self.old) }
+        ensures accepted { OnOk result (cube_judgement P.weigh self.old edit.now ≡ None) }
+        ensures refreshed { IfOk result (λ refreshed. refreshed ≡ length (cube_refreshed P.weigh self.old edit.now)) }
+        ensures content { OnOk result ((K.tells keeper.new).content ≡ option_map (apply_batch (difference_in P.weigh self.old edit.now)) (K.tells keeper.old).content) }
+        ensures journal { OnOk result ((K.tells keeper.new).journal ≡ option_map (λ batches. batches ++ difference_in P.weigh self.old edit.now ∷ []) (K.tells keeper.old).journal) }
+        ensures stays_open { StaysOpen (K.tells keeper.old) (K.tells keeper.new) }
+        ensures count { CountsEditFault (K.tells keeper.old).faults (K.tells keeper.new).faults result }
+        ensures fault { IfErr result (IsFaultOf P.weigh self.old edit.now) }
+        ensures same { OnErr result (self.new ≡ self.old) }
+        ensures same_content { OnErr result ((K.tells keeper.new).content ≡ (K.tells keeper.old).content) }
+        ensures same_journal { OnErr result ((K.tells keeper.new).journal ≡ (K.tells keeper.old).journal) }
+        ensures steps { steps.new ≤ steps.old + step_bound_in P.weigh self.old edit.now }
+    {
+        let detail = detail_for(keeper);
+        let plan = plan(self.alloc, &mut self.state, edit, detail, steps)?;
+        let refreshed = plan.count();
+        let lists = carry_out(&mut self.state, plan, keeper)?;
+        drop(lists);
+        Ok(refreshed)
     }
 
     /// Puts the facts of a file, all or none: judges them in the order of the file, plans them together, commits what they change to
@@ -267,11 +311,8 @@ impl<P: WeightPolicy + Drop> Cube<P> {
             return Err(ImportFault::BadRecord(bad));
         }
         let plan = plan_all(self.alloc, &self.state, &seq.facts)?;
-        let refreshed = carry_out(&mut self.state, plan, keeper)?;
-        Ok(Receipt {
-            refreshed,
-            removed: None,
-        })
+        let lists = carry_out(&mut self.state, plan, keeper)?;
+        Ok(receipt_of(lists, None))
     }
 
     /// What the facts add up to inside `r`, which must be a region of the space: for each denominator among the

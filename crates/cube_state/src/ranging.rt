@@ -118,7 +118,7 @@ impl<P: WeightPolicy + Drop> State<P> {
                 greatest: i128::from(group.members),
             };
         }
-        either_ends(facts, self.imprecise_ids(code), column)
+        either_ends(facts, self.ids_at(code), column)
     }
 }
 

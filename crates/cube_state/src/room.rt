@@ -1,5 +1,5 @@
 //! Room for what an edit will set.
-ghost use Rattle.std.specs.Prelude.{◌≡◌, ℕ, IfOk, IfSome, OnOk, true};
+ghost use Rattle.std.specs.Prelude.{◌≡◌, ◌+◌, ◌≤◌, ℕ, IfOk, IfSome, OnOk, true};
 ghost use Rattle.std.specs.Option.{option_to_list};
 ghost use Rattle.alloc_rows.specs.Changed.{new_stats};
 ghost use Rattle.cell_weight.specs.Stats.{have_stat_places, stat_at};
@@ -24,9 +24,10 @@ use cube_base::{Memory, PlainList};
 use cube_model::Fact;
 use fact_records::FactList;
 use region_algebra::Space;
-use region_index::{RegionIndex, RegionStage};
+use region_index::{RegionIndex, RegionStage, Steps};
 use staged_map::Staged;
 use std::alloc::{AllocError, Global};
+use std::sync::ledger::Ledger;
 use touched_cells::Change;
 use view_store::{ViewChange, ViewStage};
 
@@ -39,24 +40,31 @@ struct Stages {
 }
 
 impl<P: WeightPolicy + Drop> State<P> {
-    /// Makes room for what an edit sets, and answers all that is to be set, of which `regroup` made the groups. The content stays. The one
-    /// error is running out of memory.
-    pub fn stage_all(&mut self, moves: &Moves, regrouped: Regrouped) -> Result<Sets, Memory>
+    /// Makes room for what an edit sets, and answers all that is to be set, of which `regroup` made the groups. The content stays. Each
+    /// region at which an id is put into the index or dropped from it is a step. The one error is running out of memory.
+    pub fn stage_all<L: Ledger>(
+        &mut self,
+        moves: &Moves,
+        regrouped: Regrouped,
+        steps: &mut Steps<L>,
+    ) -> Result<Sets, Memory>
         requires moves { AreMoves (policy_in P.weigh self.old) self.old.shape self.old.dims self.old.facts moves.now }
         requires regrouped { IsRegrouped (policy_in P.weigh self.old) (width_of_all self.old.shape.measures) self.old.dims moves.now.edit self.old.facts regrouped }
         ensures same { HaveSameContent self.old self.new }
         ensures sets { IfOk result (AreSetsFor P.weigh self.new moves.now.edit) }
+        ensures steps { steps.new ≤ steps.old + 2 }
     {
         let changes = self.view_changes(moves, &regrouped)?;
-        self.make_room(moves, regrouped, &changes)
+        self.make_room(moves, regrouped, &changes, steps)
     }
 
     /// Makes room for what an edit sets, and all that is to be set. The content stays.
-    fn make_room(
+    fn make_room<L: Ledger>(
         &mut self,
         moves: &Moves,
         regrouped: Regrouped,
         changes: &[ViewChange],
+        steps: &mut Steps<L>,
     ) -> Result<Sets, Memory>
         requires moves { AreMoves (policy_in P.weigh self.old) self.old.shape self.old.dims self.old.facts moves.now }
         requires regrouped { IsRegrouped (policy_in P.weigh self.old) (width_of_all self.old.shape.measures) self.old.dims moves.now.edit self.old.facts regrouped }
@@ -64,17 +72,19 @@ impl<P: WeightPolicy + Drop> State<P> {
         requires fit { FitsViews self.old.dims changes.now self.old.kept.views }
         ensures same { HaveSameContent self.old self.new }
         ensures sets { IfOk result (AreSetsFor P.weigh self.new moves.now.edit) }
+        ensures steps { steps.new ≤ steps.old + 2 }
     {
-        let stages = self.stage(moves, &regrouped, changes)?;
+        let stages = self.stage(moves, &regrouped, changes, steps)?;
         Ok(sets_of(stages, regrouped))
     }
 
     /// Makes room for what an edit sets, and what is to be set beside the groups. The content stays.
-    fn stage(
+    fn stage<L: Ledger>(
         &mut self,
         moves: &Moves,
         regrouped: &Regrouped,
         changes: &[ViewChange],
+        steps: &mut Steps<L>,
     ) -> Result<Stages, Memory>
         requires moves { AreMoves (policy_in P.weigh self.old) self.old.shape self.old.dims self.old.facts moves.now }
         requires regrouped { IsRegrouped (policy_in P.weigh self.old) (width_of_all self.old.shape.measures) self.old.dims moves.now.edit self.old.facts regrouped.now }
@@ -82,6 +92,7 @@ impl<P: WeightPolicy + Drop> State<P> {
         requires fit { FitsViews self.old.dims changes.now self.old.kept.views }
         ensures same { HaveSameContent self.old self.new }
         ensures sets { IfOk result (λ stages. AreSetsFor P.weigh self.new moves.now.edit (record { stats = stages.stats; index = stages.index; groups = regrouped.now.groups; views = stages.views })) }
+        ensures steps { steps.new ≤ steps.old + 2 }
     {
         let _ = self.shape.columns();
         reserve(
@@ -96,6 +107,7 @@ impl<P: WeightPolicy + Drop> State<P> {
             &mut self.index,
             &self.space,
             moves,
+            steps,
         )?;
         let views = self.views.stage(&self.space, changes)?;
         Ok(Stages {
@@ -174,12 +186,13 @@ fn reserve_groups(
 }
 
 /// Makes ready what an edit changes in the statistics and in the index.
-fn stage_facts(
+fn stage_facts<L: Ledger>(
     alloc: Global,
     stats: &mut StatIndex,
     index: &mut RegionIndex,
     space: &Space,
     moves: &Moves,
+    steps: &mut Steps<L>,
 ) -> Result<(PlainList<(u64, CellStat)>, RegionStage), Memory>
     requires lost { IfSome moves.now.taken (λ f. IsRegion space.now f.region) }
     requires won { IfSome moves.now.given (λ f. IsRegion space.now f.region) }
@@ -190,9 +203,10 @@ fn stage_facts(
     ensures drops { IfOk result (λ staged. staged.1.drops ≡ option_to_list (indexed_as space.now moves.now.taken)) }
     ensures puts { IfOk result (λ staged. staged.1.puts ≡ option_to_list (indexed_as space.now moves.now.given)) }
     ensures ready { IfOk result (λ staged. IsStagedFor index.new staged.1) }
+    ensures steps { steps.new ≤ steps.old + 2 }
 {
     let changes = stage_stats(alloc, stats, moves.touched.as_slice())?;
-    let stage = stage_index(index, space, moves.taken, moves.given)?;
+    let stage = stage_index(index, space, moves.taken, moves.given, steps)?;
     Ok((changes, stage))
 }
 
@@ -221,12 +235,13 @@ fn new_stats(alloc: Global, changes: &[Change]) -> Result<Vec<(u64, CellStat)>, 
         .collect(alloc)
 }
 
-/// Makes ready what an edit changes in the index: its old fact is dropped, and its new fact is put.
-fn stage_index(
+/// Makes ready what an edit changes in the index: its old fact is dropped, and its new fact is put, each of which is a step.
+fn stage_index<L: Ledger>(
     index: &mut RegionIndex,
     space: &Space,
     lost: Option<Fact>,
     won: Option<Fact>,
+    steps: &mut Steps<L>,
 ) -> Result<RegionStage, Memory>
     requires lost { IfSome lost (λ f. IsRegion space.now f.region) }
     requires won { IfSome won (λ f. IsRegion space.now f.region) }
@@ -234,9 +249,11 @@ fn stage_index(
     ensures drops { IfOk result (λ stage. stage.drops ≡ option_to_list (indexed_as space.now lost)) }
     ensures puts { IfOk result (λ stage. stage.puts ≡ option_to_list (indexed_as space.now won)) }
     ensures staged { IfOk result (IsStagedFor index.new) }
+    ensures steps { steps.new ≤ steps.old + 2 }
 {
     let dropped = indexed_as(space, lost);
     let put = indexed_as(space, won);
+    steps.add(looks_at(dropped) + looks_at(put));
     index.stage(put.as_slice(), dropped.as_slice())
 }
 
@@ -250,5 +267,15 @@ fn indexed_as(space: &Space, fact: Option<Fact>) -> Option<(u64, u64)>
             Some((space.code(fact.region), fact.id))
         }
         _ => None,
+    }
+}
+
+/// How many regions of an index a pair is looked for in.
+fn looks_at(pair: Option<(u64, u64)>) -> u64
+    ensures { result ≤ 1 }
+{
+    match pair {
+        Some(_) => 1,
+        None => 0,
     }
 }

@@ -220,8 +220,17 @@ impl<P: WeightPolicy + Drop> State<P> {
         Some(&group.spread)
     }
 
-    /// The ids of the imprecise facts whose region has a code, ascending. It takes no memory.
-    pub fn imprecise_ids(&self, code: u64) -> &[u64]
+    /// The ids of the imprecise facts whose region has a code, ascending. It is one step, and takes no memory.
+    pub fn imprecise_ids<L: Ledger>(&self, code: u64, steps: &mut Steps<L>) -> &[u64]
+        ensures ids { result.now ≡ ids_with self.now.dims self.now.facts code }
+        ensures steps { steps.new ≡ steps.old + 1 }
+    {
+        steps.add(1);
+        self.ids_at(code)
+    }
+
+    /// The same, uncounted.
+    pub(crate) fn ids_at(&self, code: u64) -> &[u64]
         ensures { result.now ≡ ids_with self.now.dims self.now.facts code }
     {
         self.index.ids(code)

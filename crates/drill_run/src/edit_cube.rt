@@ -30,10 +30,10 @@ pub fn edit_cube<L: Ledger>(
     ensures few { IfOk result (λ count. IfSome count (λ size. size ≤ MAX_FACTS)) }
 {
     let mut steps = Steps::<L>::new(blank);
-    match cube.edit(edit, &mut NoKeeper::new(), &mut steps) {
-        Ok(receipt) => {
+    match cube.edit_and_count(edit, &mut NoKeeper::new(), &mut steps) {
+        Ok(refreshed) => {
             let _ = cube.facts();
-            Ok(Some(receipt.refreshed.as_slice().len() as u64))
+            Ok(Some(refreshed))
         }
         Err(EditFault::Code(_) | EditFault::Rows { .. }) => Ok(None),
         Err(EditFault::KeepFault) => unreachable!(),

@@ -20,6 +20,7 @@ use Rattle.fact_indexes.specs.declared.kept.FactsKept.{FactsKept}
 use Rattle.region_algebra.specs.Space.{code_of}
 use Rattle.cube_state.specs.Sets.{AreAllFor}
 use Rattle.edit_plan.specs.Refreshing.{is_same_spread}
+use Rattle.edit_plan.specs.declared.plan_lists.PlanLists.{PlanLists}
 use Rattle.cube_state.specs.State.{StateValue, policy_in}
 use Rattle.edit_plan.specs.Whole.{difference_with, facts_with_new, ids_otherwise, lay_so, new_kept, refreshed_by, rows_otherwise}
 use Rattle.cube_state.proofs.Accepting.{AreValid-new}
@@ -59,10 +60,9 @@ module _ {P : Type 0} (weigh : P → CellStat → ℕ) (state : StateValue P) (n
   pub ids-planned : (ids : List ℕ) → ids ≡ ids_otherwise (policy_in weigh state) state.dims state.facts later later → ids ≡ refreshed_by weigh state new
   ids-planned ids ids_are = ids_are ∙ ap (λ fs. ids_otherwise (policy_in weigh state) state.dims state.facts fs fs) is ∙ ids-refreshed (policy_in weigh state) state.dims state.facts (facts_with_new state new) all-valid.ascending
 
-  pub ids-ascend : (ids : List ℕ) → ids ≡ ids_otherwise (policy_in weigh state) state.dims state.facts later later → ascends_from (λ id. id) 1 ids ≡ true
-  ids-ascend ids ids_are =
-      subst (λ xs. ascends_from (λ id. id) 1 xs ≡ true) (sym (ids-planned ids ids_are))
-      (ascend-refreshed (policy_in weigh state) state.dims state.facts (facts_with_new state new) all-valid.ascending (All-weaker (IsValid state.shape state.dims) (λ f. 1 ≤ f.id) (λ f one. one.accepted.placed.id.least) (facts_with_new state new) all-valid.each))
+  pub new-ascend : ascends_from (λ id. id) 1 (refreshed_by weigh state new) ≡ true
+  new-ascend =
+      ascend-refreshed (policy_in weigh state) state.dims state.facts (facts_with_new state new) all-valid.ascending (All-weaker (IsValid state.shape state.dims) (λ f. 1 ≤ f.id) (λ f one. one.accepted.placed.id.least) (facts_with_new state new) all-valid.each)
 
   abbrev batch_of : List KeptFact → List KeptRows → Batch
   batch_of facts rows = record { schema = None; gone = []; facts = facts; rows = rows }
@@ -74,3 +74,8 @@ module _ {P : Type 0} (weigh : P → CellStat → ℕ) (state : StateValue P) (n
       ∙ ap (λ fs. batch_of fs rows) (facts_are ∙ ap (new_kept state.facts) is ∙ new-stored state.shape state.dims new state.facts are all-valid.ascending)
       ∙ ap (batch_of (difference_with (policy_in weigh state) state.dims new state.facts).facts)
       (rows_are ∙ ap (λ fs. rows_otherwise (policy_in weigh state) state.dims state.facts fs fs) is ∙ rows-refreshed (policy_in weigh state) state.dims state.facts (facts_with_new state new) all-valid.ascending)
+
+-- lists are those of their parts
+pub same-lists : (lists : PlanLists) (refreshed : List ℕ) (batch : Batch) → lists.refreshed ≡ refreshed → lists.batch ≡ batch → Some lists ≡ Some (record { refreshed = refreshed; batch = batch })
+same-lists lists refreshed batch ids changes =
+    ap (λ (r : List ℕ). Some (record { refreshed = r; batch = lists.batch })) ids ∙ ap (λ (b : Batch). Some (record { refreshed = refreshed; batch = b })) changes

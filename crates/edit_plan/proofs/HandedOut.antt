@@ -1,10 +1,11 @@
--- The ids of the regions that are spread anew are no more than the pairs of a changed cell and an imprecise fact that covers it.
+-- The ids of the regions that are spread anew, and these regions, are no more than the pairs of a changed cell and an imprecise fact that covers it.
 use Rattle.std.proofs.Common.{◌≡◌, ℕ, ◌<◌, ◌≤◌, Bool, true, false, List, [], ◌∷◌, get_or, length, refl, ap, sym, ◌∙◌, arith}
-use Rattle.std.specs.Prelude.{All, AllPairs, Some, None, filter, not, ◌&&◌, ◌==◌, if◌then◌else◌}
+use Rattle.std.specs.Prelude.{All, AllPairs, IfSome, Option, Some, None, filter, find, not, ◌&&◌, ◌==◌, if◌then◌else◌}
 use Rattle.std.specs.List.{count_by, list_any, sum_by}
 use Rattle.std.proofs.lemmas.Bool.Decides.{nat_tests}
 use Rattle.std.proofs.lemmas.List.{length-map}
-use Rattle.std.proofs.lemmas.List.Elements.{filter_passes}
+use Rattle.std.proofs.lemmas.List.Elements.{All-head, All-tail, filter_passes}
+use Rattle.std.proofs.lemmas.List.Folds.{list_any_at}
 use Rattle.std.proofs.lemmas.List.Sums.{length-filter, sum_by-cons, sum_by-le-sum_by}
 use Rattle.cube_model.specs.declared.edit.Edit.{Edit}
 use Rattle.cube_model.specs.declared.edit.Fact.{Fact}
@@ -15,12 +16,13 @@ use Rattle.cube_model.specs.Tree.{Dimension, IsTree}
 use Rattle.region_algebra.specs.Space.{IsRegion, code_of}
 use Rattle.region_index.specs.Indexed.{covers, is_indexed_at}
 use Rattle.fact_groups.specs.Changes.{covers_any, holds_any, reweighed_cells}
-use Rattle.fact_groups.specs.Groups.{Group, column_sums, facts_with, group_at, spread_at}
+use Rattle.fact_groups.specs.Groups.{Group, column_sums, facts_with, group_at, has_code, spread_at}
 use Rattle.fact_groups.specs.Refreshed.{is_spread_otherwise}
 use Rattle.fact_groups.proofs.Ascending.{once_among}
 use Rattle.fact_groups.proofs.Groups.{group_at-region}
 use Rattle.fact_groups.proofs.Refreshing.{otherwise}
 use Rattle.fact_groups.proofs.Statistics.{sum-reweighed}
+use Rattle.cube_state.proofs.ViewAnswers.{find-all}
 use Rattle.edit_plan.specs.Bound.{covering_pairs}
 use Rattle.edit_plan.specs.Refreshing.{id_count_at}
 use Rattle.cube_state.specs.State.{ids_with}
@@ -103,6 +105,42 @@ module _ (policy : Policy) (columns : ℕ) (dims : List Dimension) (edit : Edit)
             (λ code. covers-reweighed fact named code) in
             omega (arith, few, one, least (list_any (λ code. c == code) anew), some-counted (λ cell. covers dims cell fact) reweighed covered)
 
+    -- each region that is spread anew has an imprecise fact
+    has-one : (code : ℕ) → spreads_anew code ≡ true → 1 ≤ length (ids_with dims facts code)
+    has-one code anew =
+        omega (
+          arith,
+          length-map (filter (is_indexed_at dims code) facts) (λ (f : Fact). f.id),
+          length-filter (is_indexed_at dims code) facts,
+          either (find (has_code dims code) facts) refl (find-all (λ f. IsRegion dims f.region × (is_indexed_at dims code f ≡ true → 1 ≤ count_by (is_indexed_at dims code) facts)) (has_code dims code) facts each),
+        )
+      where
+        each : All (λ f. IsRegion dims f.region × (is_indexed_at dims code f ≡ true → 1 ≤ count_by (is_indexed_at dims code) facts)) facts
+        each k d within = (regions k d within, λ passes. some-counted (is_indexed_at dims code) facts (list_any_at (is_indexed_at dims code) facts k d within passes))
+
+        both : (a b : Bool) → a ≡ true → b ≡ true → (a && b) ≡ true
+        both a b is other = rw is other
+
+        either : (found : Option Fact) → find (has_code dims code) facts ≡ found → IfSome found (λ f. (IsRegion dims f.region × (is_indexed_at dims code f ≡ true → 1 ≤ count_by (is_indexed_at dims code) facts)) × (has_code dims code f ≡ true))
+            → 1 ≤ count_by (is_indexed_at dims code) facts
+        either None none held = cc
+        either (Some fact) is held =
+            let its : code ≡ code_of dims fact.region = grind (arith, nat_tests, held.1) in
+            let moved = spread-otherwise fact.region held.0.0 (ap spreads_anew (sym its) ∙ anew) in
+            let spread = parts (covers_any dims reweighed fact) (is_spread_otherwise policy dims edit facts fact.region fact.region) (sym (otherwise policy dims edit facts up fact) ∙ moved) in
+            let holds = parts (not (is_precise dims fact)) (holds_any dims fact.region reweighed) spread.0 in
+            held.0.1 (both (has_code dims code fact) (not (is_precise dims fact)) held.1 holds.0)
+
+    held-some : (some : List ℕ) → All (λ code. spreads_anew code ≡ true) some → length some ≤ id_count_at dims facts some
+    held-some [] each = omega arith
+    held-some (code ∷ some) each =
+        omega (
+          arith,
+          sum_by-cons (λ code. length (ids_with dims facts code)) code some,
+          has-one code (All-head (λ code. spreads_anew code ≡ true) code some each),
+          held-some some (All-tail (λ code. spreads_anew code ≡ true) code some each),
+        )
+
     counted : (some : List ℕ) → id_count_at dims facts some ≡ sum_by (λ code. count_by (is_indexed_at dims code) facts) some
     counted [] = refl
     counted (code ∷ some) =
@@ -123,3 +161,7 @@ module _ (policy : Policy) (columns : ℕ) (dims : List Dimension) (edit : Edit)
           sums-le (λ code fact. is_indexed_at dims code fact) (λ cell fact. covers dims cell fact) anew reweighed facts (λ k d within. once (get_or facts k d) (regions k d within)),
           sum-reweighed policy dims edit facts (λ cell. count_by (covers dims cell) facts),
         )
+
+    -- and so are these regions
+    pub few-anew : length anew ≤ covering_pairs policy dims edit facts
+    few-anew = omega (arith, held-some anew (filter_passes spreads_anew codes), handed-out)

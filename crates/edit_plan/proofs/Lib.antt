@@ -3,6 +3,7 @@ pub mod AllSeen
 pub mod AllStored
 pub mod ByKeys
 pub mod Copying
+pub mod Counted
 pub mod CountedOnce
 pub mod FactsLeft
 pub mod FlatLists

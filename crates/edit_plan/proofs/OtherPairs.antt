@@ -44,7 +44,7 @@ module _ (dims : List Dimension) (facts : List Fact) (up : AllPairs (λ f g. f.i
   among-with : (code n : ℕ) → is_among (ids_with dims facts code) n ≡ option_map_or (is_indexed_at dims code) (find (λ f. f.id == n) facts) false
   among-with code n = among-kept n (is_indexed_at dims code) facts ∙ any-found n (is_indexed_at dims code) facts up
 
-  ascends-with : (code : ℕ) → ascends_from (λ n. n) 0 (ids_with dims facts code) ≡ true
+  pub ascends-with : (code : ℕ) → ascends_from (λ n. n) 0 (ids_with dims facts code) ≡ true
   ascends-with code =
       ascends_map (λ (n : ℕ). n) (λ (f : Fact). f.id) 0 (filter (is_indexed_at dims code) facts)
       ∙ ascends_filter (λ (f : Fact). f.id) (is_indexed_at dims code) 0 facts (ascends-from_pairs (λ (f : Fact). f.id) 0 facts up (λ k d within. omega arith))

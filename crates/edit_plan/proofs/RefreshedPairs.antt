@@ -1,11 +1,12 @@
 -- The ids that an edit refreshes, each with the code of its fact's region, are those of the regions that are spread anew, but for the
 -- id of the edit, and that one where its fact is new or lies otherwise.
-use Rattle.std.proofs.Common.{◌≡◌, ℕ, ◌<◌, ◌≤◌, Bool, true, false, List, [], ◌++◌, map, refl, ap, sym, ◌∙◌, arith}
+use Rattle.std.proofs.Common.{◌≡◌, ℕ, ◌+◌, ◌<◌, ◌≤◌, Bool, true, false, List, [], ◌++◌, length, map, refl, ap, sym, ◌∙◌, arith}
 use Rattle.std.specs.Prelude.{All, AllPairs, IfSome, Option, Some, None, find, ◌==◌, if◌then◌else◌}
 use Rattle.std.specs.List.{count_by}
 use Rattle.std.specs.List.Sorted.{IsNonDecreasingBy, IsPermutation}
 use Rattle.std.specs.Option.{option_and_then, option_map, option_map_or, option_to_list}
 use Rattle.std.proofs.lemmas.Bool.Decides.{nat_tests}
+use Rattle.std.proofs.lemmas.List.{length-append, length-map}
 use Rattle.std.proofs.lemmas.List.Elements.{All-append, All-cons, All-nil}
 use Rattle.std.proofs.lemmas.List.Sorted.{All-permutation, list_any-IsPermutation, sum_by-IsPermutation}
 use Rattle.cube_model.specs.declared.edit.Edit.{Edit}
@@ -23,11 +24,13 @@ use Rattle.fact_groups.specs.Edits.{edited_id, given}
 use Rattle.fact_groups.specs.Groups.{group_at}
 use Rattle.fact_groups.specs.Refreshed.{imprecise_ids, is_new_or_moved}
 use Rattle.fact_groups.proofs.Edits.{find-after}
+use Rattle.fact_groups.proofs.Groups.{sum_by-map}
 use Rattle.fact_groups.proofs.Refreshing.{ascends-refreshed}
 use Rattle.fact_groups.proofs.Respreading.{among-respread}
 use Rattle.edit_plan.specs.Refreshing.{AreOfFacts, others_at, own_pair}
 use Rattle.cube_state.specs.Regrouped.{HoldChanged, group_is_respread, spread_anew}
 use Rattle.edit_plan.proofs.ByKeys.{ascends-sorted}
+use Rattle.edit_plan.proofs.Counted.{as-many}
 use Rattle.edit_plan.proofs.OtherPairs.{All-others, among-all, any-map, once-all}
 
 -- the fact that an edit gives has the edit's id
@@ -129,3 +132,28 @@ module _ (policy : Policy) (dims : List Dimension) (edit : Edit) (facts : List F
               ∙ among-all dims facts up (edited_id edit) n anew (own_pair policy dims edit facts) own-has
               ∙ ap (λ b. if edited_id edit == n then b else is_among (imprecise_ids dims facts anew) n) own-there
               ∙ sym (among-respread policy dims edit facts up columns codes trees regions later_regions hold.others n)
+
+    -- so they are as many
+    pub refreshed-counted : All IsTree dims → All (λ f. IsRegion dims f.region) facts → All (λ f. IsRegion dims f.region) later
+        → length (others_at dims facts (edited_id edit) anew) + option_map_or (λ pair. 1) (own_pair policy dims edit facts) 0 ≡ length (refreshed policy dims facts later)
+    refreshed-counted trees regions later_regions =
+        omega (
+          arith,
+          length-append (others_at dims facts (edited_id edit) anew) (option_to_list (own_pair policy dims edit facts)),
+          one (own_pair policy dims edit facts),
+          length-map all (λ (pair : ℕ × ℕ). pair.0),
+          as-many (map (λ (pair : ℕ × ℕ). pair.0) all) (refreshed policy dims facts later) (ascends-refreshed policy dims edit facts up 0 (λ k d within. omega arith)) once members,
+        )
+      where
+        one : (own : Option (ℕ × ℕ)) → length (option_to_list own) ≡ option_map_or (λ pair. 1) own 0
+        one None = refl
+        one (Some pair) = refl
+
+        once : (n : ℕ) → count_by (λ m. n == m) (map (λ (pair : ℕ × ℕ). pair.0) all) ≤ 1
+        once n = omega (arith, sum_by-map (λ (m : ℕ). if n == m then 1 else 0) (λ (pair : ℕ × ℕ). pair.0) all, once-all dims facts up (edited_id edit) anew ascends-anew (own_pair policy dims edit facts) own-has n)
+
+        members : (n : ℕ) → is_among (map (λ pair. pair.0) all) n ≡ is_among (refreshed policy dims facts later) n
+        members n =
+            among-all dims facts up (edited_id edit) n anew (own_pair policy dims edit facts) own-has
+            ∙ ap (λ b. if edited_id edit == n then b else is_among (imprecise_ids dims facts anew) n) own-there
+            ∙ sym (among-respread policy dims edit facts up columns codes trees regions later_regions hold.others n)

@@ -1,14 +1,16 @@
 -- What a state hands out as the ids that an edit refreshes.
-use Rattle.std.proofs.Common.{◌≡◌, ℕ, ◌+◌, ◌≤◌, List, ◌++◌, map, ap, ◌∙◌, subst, arith}
+use Rattle.std.proofs.Common.{◌≡◌, ℕ, ◌+◌, ◌*◌, ◌≤◌, List, ◌++◌, length, map, ap, ◌∙◌, subst, arith}
 use Rattle.std.specs.Prelude.{All, Option}
 use Rattle.std.specs.List.Sorted.{IsNonDecreasingBy, IsPermutation}
-use Rattle.std.specs.Option.{option_to_list}
+use Rattle.std.specs.Option.{option_map_or, option_to_list}
 use Rattle.cube_model.specs.declared.edit.Fact.{Fact}
 use Rattle.cube_model.specs.declared.statistic.CellStat.{CellStat}
+use Rattle.cube_model.specs.Ascending.{ascends_from}
 use Rattle.cube_model.specs.Difference.{refreshed}
 use Rattle.cube_model.specs.Facts.{after}
 use Rattle.cube_model.specs.Tree.{IsTree}
 use Rattle.region_algebra.specs.Space.{IsRegion}
+use Rattle.region_index.specs.Content.{AreAscending}
 use Rattle.fact_groups.specs.Edits.{edited_id}
 use Rattle.fact_records.specs.Shape.{width_of_all}
 use Rattle.fact_records.specs.Valid.{AreValid}
@@ -21,9 +23,9 @@ use Rattle.cube_state.specs.Regrouped.{IsRegrouped}
 use Rattle.cube_state.specs.Regrouped.{spread_anew}
 use Rattle.cube_state.specs.State.{StateValue, policy_in}
 use Rattle.cube_state.proofs.Accepting.{AreValid-after, allowed}
-use Rattle.edit_plan.proofs.HandedOut.{handed-out}
+use Rattle.edit_plan.proofs.HandedOut.{few-anew, handed-out}
 use Rattle.fact_indexes.proofs.ValidFacts.{valid-regions}
-use Rattle.edit_plan.proofs.RefreshedPairs.{codes-sorted, ids-sorted}
+use Rattle.edit_plan.proofs.RefreshedPairs.{ascends-anew, codes-sorted, ids-sorted, refreshed-counted}
 
 module _ {P : Type 0} (weigh : P → CellStat → ℕ) (state : StateValue P) (valid : AreValid state.shape state.dims state.facts) (moves : Moves)
     (are : AreMoves (policy_in weigh state) state.shape state.dims state.facts moves) where
@@ -40,15 +42,38 @@ module _ {P : Type 0} (weigh : P → CellStat → ℕ) (state : StateValue P) (v
   later-regions = valid-regions state.shape state.dims later later-valid
 
   module _ (regrouped : Regrouped) (is : IsRegrouped (policy_in weigh state) (width_of_all state.shape.measures) state.dims moves.edit state.facts regrouped) (trees : All IsTree state.dims) where
-    -- the ids that are handed out are few
-    pub handed-seen : (codes : List ℕ) (before now : ℕ) → codes ≡ regrouped.spread_anew → now ≤ before + id_count_at state.dims state.facts codes → now ≤ before + covering_pairs (policy_in weigh state) state.dims moves.edit state.facts
+    -- the regions that are spread anew are few, and so are the ids that are handed out of them
+    pub looked-seen : (codes : List ℕ) → codes ≡ regrouped.spread_anew → length codes ≤ covering_pairs (policy_in weigh state) state.dims moves.edit state.facts
+    looked-seen codes codes_are =
+        omega (
+          arith,
+          ap {B = ℕ} length (codes_are ∙ is.anew),
+          few-anew (policy_in weigh state) (width_of_all state.shape.measures) state.dims moves.edit state.facts valid.ascending trees regions later-regions is.codes is.hold,
+        )
+
+    pub handed-seen : (codes : List ℕ) (before now : ℕ) → codes ≡ regrouped.spread_anew → now ≤ before + (length codes + id_count_at state.dims state.facts codes)
+        → now ≤ before + 2 * covering_pairs (policy_in weigh state) state.dims moves.edit state.facts
     handed-seen codes before now codes_are few =
         omega (
           arith,
           few,
+          looked-seen codes codes_are,
           ap (id_count_at state.dims state.facts) (codes_are ∙ is.anew),
           handed-out (policy_in weigh state) (width_of_all state.shape.measures) state.dims moves.edit state.facts valid.ascending trees regions later-regions is.codes is.hold,
         )
+
+    -- so many ids are refreshed
+    pub count-seen : (id : ℕ) (codes : List ℕ) (count : ℕ) (own : Option (ℕ × ℕ)) → id ≡ edited_id moves.edit → codes ≡ regrouped.spread_anew → count ≡ length (others_at state.dims state.facts id codes)
+        → own ≡ own_pair (policy_in weigh state) state.dims moves.edit state.facts
+        → count + option_map_or (λ pair. 1) own 0 ≡ length (refreshed (policy_in weigh state) state.dims state.facts later)
+    count-seen id codes count own id_is codes_are count_is own_is =
+        ap (λ n. n + option_map_or (λ pair. 1) own 0) (count_is ∙ ap (λ i. length (others_at state.dims state.facts i codes)) id_is ∙ ap (λ cs. length (others_at state.dims state.facts (edited_id moves.edit) cs)) (codes_are ∙ is.anew))
+        ∙ ap (λ o. length (others_at state.dims state.facts (edited_id moves.edit) (spread_anew (policy_in weigh state) (width_of_all state.shape.measures) state.dims moves.edit state.facts is.codes)) + option_map_or (λ pair. 1) o 0) own_is
+        ∙ refreshed-counted (policy_in weigh state) state.dims moves.edit state.facts valid.ascending (width_of_all state.shape.measures) is.codes is.hold trees regions later-regions
+
+    -- the codes ascend
+    pub anew-ascend : (codes : List ℕ) → codes ≡ regrouped.spread_anew → AreAscending codes
+    anew-ascend codes codes_are = ap (λ cs. ascends_from (λ (c : ℕ). c) 0 cs) (codes_are ∙ is.anew) ∙ ascends-anew (policy_in weigh state) state.dims moves.edit state.facts valid.ascending (width_of_all state.shape.measures) is.codes is.hold
 
     module _ (id : ℕ) (codes : List ℕ) (others pairs sorted : List (ℕ × ℕ)) (own : Option (ℕ × ℕ)) (id_is : id ≡ edited_id moves.edit) (codes_are : codes ≡ regrouped.spread_anew)
         (others_are : others ≡ others_at state.dims state.facts id codes)

@@ -1,4 +1,5 @@
--- How many steps the plan of an edit takes: a look at each region over a cell that weighs otherwise, and each id that is handed out.
+-- How many steps the plan of an edit takes: a look at each region over a cell that weighs otherwise, a look at each that is spread anew,
+-- each id that is handed out, and each region where the index is staged.
 use Rattle.std.proofs.Common.{ℕ, ◌+◌, ◌*◌, ◌≤◌, List, length, ap, arith}
 use Rattle.std.specs.Prelude.{All}
 use Rattle.std.proofs.Math.Nat.{mul-le-mul_right}
@@ -50,6 +51,6 @@ module _ {P : Type 0} (weigh : P → CellStat → ℕ) (state : StateValue P) (m
   pub codes-within : between ≤ before + step_bound weigh state moves.edit
   codes-within = omega (arith, probed, ap (probes_over state.dims) are.reweighs, probes-few (policy_in weigh state) state.dims moves.edit state.facts trees)
 
-  -- and once the ids are handed out
-  pub plan-within : (now : ℕ) → now ≤ between + covering_pairs (policy_in weigh state) state.dims moves.edit state.facts → now ≤ before + step_bound weigh state moves.edit
+  -- and once the ids are counted or handed out
+  pub plan-within : (now : ℕ) → now ≤ between + (2 * covering_pairs (policy_in weigh state) state.dims moves.edit state.facts + 2) → now ≤ before + step_bound weigh state moves.edit
   plan-within now handed = omega (arith, handed, probed, ap (probes_over state.dims) are.reweighs, probes-few (policy_in weigh state) state.dims moves.edit state.facts trees)

@@ -17,6 +17,9 @@ use Rattle.fact_groups.specs.Edits.{given}
 use Rattle.fact_records.specs.Judge.{fact_refusal}
 use Rattle.cube_state.specs.Sets.{AreAllFor, IsEditFor}
 use Rattle.cube_state.specs.State.{StateValue, judge_in, rows_after, withdrawn}
+use Rattle.edit_plan.specs.declared.plan_lists.Detail.{Detail}
+use Rattle.edit_plan.specs.declared.plan_lists.Detail.TheVariants as detail
+use Rattle.edit_plan.specs.declared.plan_lists.PlanLists.{PlanLists}
 use Rattle.edit_plan.specs.declared.plan_change.PlanChange.{PlanChange}
 use Rattle.edit_plan.specs.declared.plan_change.PlanChange.TheVariants as plan_change
 use Rattle.edit_plan.specs.declared.fault.PlanFault.{PlanFault}
@@ -39,11 +42,16 @@ difference policy dims edit facts = record {
   rows = map kept_rows (filter (λ e. is_among (refreshed policy dims facts (after edit facts)) e.id) (extended policy dims (after edit facts)));
 }
 
--- a plan: what it does, the ids that it refreshes, and its batch
+-- a plan: what it does, how many ids it refreshes, and its lists, if it has them
 pub record PlanValue : Type 0 where
   pub change : PlanChange
-  pub refreshed : List ℕ
-  pub batch : Batch
+  pub count : ℕ
+  pub lists : Option PlanLists
+
+-- the lists that a plan has of the ids that it refreshes and of its batch
+abbrev pub lists_for : Detail → List ℕ → Batch → Option PlanLists
+lists_for detail.Number refreshed batch = None
+lists_for detail.Lists refreshed batch = Some (record { refreshed = refreshed; batch = batch })
 
 -- the edit that a plan does, if it does one
 abbrev pub edit_in : PlanChange → Option Edit

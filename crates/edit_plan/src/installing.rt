@@ -14,13 +14,11 @@ pub fn install<P: WeightPolicy + Drop>(state: &mut State<P>, plan: Plan)
     ensures { HasFacts (facts_after plan.change state.old.facts) state.old state.new }
 {
     let Plan {
-        alloc: _,
         change,
-        refreshed,
-        batch,
+        count: _,
+        lists,
     } = plan;
-    drop(refreshed);
-    drop(batch);
+    drop(lists);
     match change {
         PlanChange::Edit { edit, sets, rows } => state.set(edit, sets, rows),
         PlanChange::All { all } => state.replace(all),

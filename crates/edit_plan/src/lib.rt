@@ -1,9 +1,11 @@
 //! Edits of a cube, planned: an edit is judged and prepared over a state, and its plan is installed without memory.
 #![tactic(auto)]
 
+mod counting;
 mod fault;
 mod installing;
 mod plan_change;
+mod plan_lists;
 mod planning;
 mod prepared;
 mod refreshed;
@@ -14,6 +16,7 @@ mod whole;
 
 pub use fault::{PlanAllFault, PlanFault};
 pub use installing::install;
+pub use plan_lists::{Detail, PlanLists};
 pub use planning::plan;
 pub use prepared::Plan;
 pub use refreshed::Refreshed;

@@ -1,5 +1,5 @@
 //! An edit, planned.
-ghost use Rattle.std.specs.Prelude.{◌≡◌, ◌+◌, ◌≤◌, true, All, None, Some, IfErr, IfOk, OnOk, map};
+ghost use Rattle.std.specs.Prelude.{◌≡◌, ◌+◌, ◌*◌, ◌≤◌, true, All, None, Some, IfErr, IfOk, OnOk, length, map};
 ghost use Rattle.cube_model.specs.Allocation.{row_count};
 ghost use Rattle.cube_model.specs.Ascending.{ascends_from};
 ghost use Rattle.cube_model.specs.Tree.{IsTree};
@@ -8,19 +8,19 @@ ghost use Rattle.fact_records.specs.Valid.{AreValid, IsEditOver};
 ghost use Rattle.edit_plan.specs.Bound.{covering_pairs, step_bound};
 ghost use Rattle.cube_state.specs.Covering.{probes_over};
 ghost use Rattle.cube_state.specs.Moves.{AreMoves};
-ghost use Rattle.edit_plan.specs.Plan.{IsPlanFaultOf, IsPlanFor, difference, edit_in};
+ghost use Rattle.edit_plan.specs.Plan.{IsPlanFaultOf, IsPlanFor, difference, edit_in, lists_for};
 ghost use Rattle.cube_state.specs.Regrouped.{IsRegrouped};
 ghost use Rattle.cube_state.specs.State.{HaveSameContent, judge_in, policy_in, refreshed_in, rows_after};
 
+use crate::counting::count_refreshed;
 use crate::plan_change::PlanChange;
 use crate::refreshing::refreshed;
 use crate::storing::batch;
-use crate::{Plan, PlanFault};
+use crate::{Detail, Plan, PlanFault, PlanLists};
 use cell_weight::WeightPolicy;
 use cube_base::{Ids, Memory};
 use cube_model::{Edit, MAX_ROWS};
 use cube_state::{Moves, Regrouped, State};
-use fact_keeper::Batch;
 use fact_records::judge_fact;
 use region_index::Steps;
 use std::alloc::Global;
@@ -31,7 +31,8 @@ use std::sync::ledger::Ledger;
 /// `Code` with `Value` or `Parts`, the values of the fact are none of the measures; `Exists`, a put's id is there; `Missing`, the id of
 /// a change or a withdrawal is not; `Region`, the region has more than 2^20 cells; `Facts`, a put finds 2^20 facts; and `Rows`, the
 /// facts after the edit have more than 2^21 rows, with their number. `Memory` means out of memory: no code that is judged before the
-/// rows refuses the edit.
+/// rows refuses the edit. The plan tells how many facts the edit refreshes. It lists these, and what changes in a store, where the
+/// detail asks for it, and makes no list where not.
 ///
 /// A step is one look at a region of the index, or one id that it hands out. With P the product over the dimensions of the largest
 /// depth and one, and f the number of pairs of a cell whose statistics the edit changes and an imprecise fact before it that covers
@@ -40,15 +41,16 @@ pub fn plan<P: WeightPolicy + Drop, L: Ledger>(
     alloc: Global,
     state: &mut State<P>,
     edit: &Edit,
+    detail: Detail,
     steps: &mut Steps<L>,
 ) -> Result<Plan, PlanFault>
     requires { IsEditOver state.old.dims edit.now }
     ensures same { HaveSameContent state.old state.new }
     ensures edit { IfOk result (λ plan. edit_in plan.change ≡ Some edit.now) }
     ensures fits { IfOk result (IsPlanFor P.weigh state.new) }
-    ensures refreshed { IfOk result (λ plan. plan.refreshed ≡ refreshed_in P.weigh state.old edit.now) }
-    ensures ascending { IfOk result (λ plan. ascends_from (λ id. id) 1 plan.refreshed ≡ true) }
-    ensures batch { IfOk result (λ plan. plan.batch ≡ difference (policy_in P.weigh state.old) state.old.dims edit.now state.old.facts) }
+    ensures count { IfOk result (λ plan. plan.count ≡ length (refreshed_in P.weigh state.old edit.now)) }
+    ensures lists { IfOk result (λ plan. plan.lists ≡ lists_for detail (refreshed_in P.weigh state.old edit.now) (difference (policy_in P.weigh state.old) state.old.dims edit.now state.old.facts)) }
+    ensures ascending { OnOk result (ascends_from (λ id. id) 1 (refreshed_in P.weigh state.old edit.now) ≡ true) }
     ensures accepted { OnOk result (judge_in P.weigh state.old edit.now ≡ None) }
     ensures fault { IfErr result (IsPlanFaultOf P.weigh state.old edit.now) }
     ensures steps { steps.new ≤ steps.old + step_bound P.weigh state.old edit.now }
@@ -61,7 +63,7 @@ pub fn plan<P: WeightPolicy + Drop, L: Ledger>(
             return Err(fault);
         }
     };
-    let plan = plan_of(alloc, state, &moves, regrouped, steps);
+    let plan = plan_of(alloc, state, &moves, regrouped, detail, steps);
     drop(moves);
     Ok(plan?)
 }
@@ -72,6 +74,7 @@ fn plan_of<P: WeightPolicy + Drop, L: Ledger>(
     state: &mut State<P>,
     moves: &Moves,
     regrouped: Regrouped,
+    detail: Detail,
     steps: &mut Steps<L>,
 ) -> Result<Plan, Memory>
     requires moves { AreMoves (policy_in P.weigh state.old) state.old.shape state.old.dims state.old.facts moves.now }
@@ -81,35 +84,33 @@ fn plan_of<P: WeightPolicy + Drop, L: Ledger>(
     ensures same { HaveSameContent state.old state.new }
     ensures edit { IfOk result (λ plan. edit_in plan.change ≡ Some moves.now.edit) }
     ensures fits { IfOk result (IsPlanFor P.weigh state.new) }
-    ensures refreshed { IfOk result (λ plan. plan.refreshed ≡ refreshed_in P.weigh state.old moves.now.edit) }
-    ensures batch { IfOk result (λ plan. plan.batch ≡ difference (policy_in P.weigh state.old) state.old.dims moves.now.edit state.old.facts) }
-    ensures steps { steps.new ≤ steps.old + covering_pairs (policy_in P.weigh state.old) state.old.dims moves.now.edit state.old.facts }
+    ensures count { IfOk result (λ plan. plan.count ≡ length (refreshed_in P.weigh state.old moves.now.edit)) }
+    ensures lists { IfOk result (λ plan. plan.lists ≡ lists_for detail (refreshed_in P.weigh state.old moves.now.edit) (difference (policy_in P.weigh state.old) state.old.dims moves.now.edit state.old.facts)) }
+    ensures steps { steps.new ≤ steps.old + (2 * covering_pairs (policy_in P.weigh state.old) state.old.dims moves.now.edit state.old.facts + 2) }
 {
     let rows = regrouped.rows;
-    let (refreshed, batch) = match kept_changes(alloc, state, moves, &regrouped, steps) {
-        Ok(changes) => changes,
+    let (count, lists) = match tell_refreshed(alloc, state, moves, &regrouped, detail, steps) {
+        Ok(told) => told,
         Err(fault) => {
             drop(regrouped);
             return Err(fault);
         }
     };
-    let sets = match state.stage_all(moves, regrouped) {
+    let sets = match state.stage_all(moves, regrouped, steps) {
         Ok(sets) => sets,
         Err(fault) => {
-            drop(refreshed);
-            drop(batch);
+            drop(lists);
             return Err(fault);
         }
     };
     Ok(Plan {
-        alloc,
         change: PlanChange::Edit {
             edit: moves.edit,
             sets,
             rows,
         },
-        refreshed,
-        batch,
+        count,
+        lists,
     })
 }
 
@@ -151,24 +152,48 @@ fn regroup_few<P: WeightPolicy + Drop, L: Ledger>(
     Ok(regrouped)
 }
 
+/// How many facts an edit refreshes, and the lists of a plan, where the detail asks for them.
+fn tell_refreshed<P: WeightPolicy + Drop, L: Ledger>(
+    alloc: Global,
+    state: &State<P>,
+    moves: &Moves,
+    regrouped: &Regrouped,
+    detail: Detail,
+    steps: &mut Steps<L>,
+) -> Result<(u64, Option<PlanLists>), Memory>
+    requires moves { AreMoves (policy_in P.weigh state.now) state.now.shape state.now.dims state.now.facts moves.now }
+    requires regrouped { IsRegrouped (policy_in P.weigh state.now) (width_of_all state.now.shape.measures) state.now.dims moves.now.edit state.now.facts regrouped.now }
+    ensures count { IfOk result (λ told. told.0 ≡ length (refreshed_in P.weigh state.now moves.now.edit)) }
+    ensures lists { IfOk result (λ told. told.1 ≡ lists_for detail (refreshed_in P.weigh state.now moves.now.edit) (difference (policy_in P.weigh state.now) state.now.dims moves.now.edit state.now.facts)) }
+    ensures steps { steps.new ≤ steps.old + 2 * covering_pairs (policy_in P.weigh state.now) state.now.dims moves.now.edit state.now.facts }
+{
+    match detail {
+        Detail::Number => Ok((count_refreshed(state, moves, regrouped, steps), None)),
+        Detail::Lists => {
+            let lists = list_changes(alloc, state, moves, regrouped, steps)?;
+            Ok((lists.refreshed.as_slice().len() as u64, Some(lists)))
+        }
+    }
+}
+
 /// The ids that an edit refreshes, and what it changes in a store.
-fn kept_changes<P: WeightPolicy + Drop, L: Ledger>(
+fn list_changes<P: WeightPolicy + Drop, L: Ledger>(
     alloc: Global,
     state: &State<P>,
     moves: &Moves,
     regrouped: &Regrouped,
     steps: &mut Steps<L>,
-) -> Result<(Ids, Batch), Memory>
+) -> Result<PlanLists, Memory>
     requires moves { AreMoves (policy_in P.weigh state.now) state.now.shape state.now.dims state.now.facts moves.now }
     requires regrouped { IsRegrouped (policy_in P.weigh state.now) (width_of_all state.now.shape.measures) state.now.dims moves.now.edit state.now.facts regrouped.now }
-    ensures ids { IfOk result (λ made. made.0 ≡ refreshed_in P.weigh state.now moves.now.edit) }
-    ensures batch { IfOk result (λ made. made.1 ≡ difference (policy_in P.weigh state.now) state.now.dims moves.now.edit state.now.facts) }
-    ensures steps { steps.new ≤ steps.old + covering_pairs (policy_in P.weigh state.now) state.now.dims moves.now.edit state.now.facts }
+    ensures refreshed { IfOk result (λ lists. lists.refreshed ≡ refreshed_in P.weigh state.now moves.now.edit) }
+    ensures batch { IfOk result (λ lists. lists.batch ≡ difference (policy_in P.weigh state.now) state.now.dims moves.now.edit state.now.facts) }
+    ensures steps { steps.new ≤ steps.old + 2 * covering_pairs (policy_in P.weigh state.now) state.now.dims moves.now.edit state.now.facts }
 {
     let pairs = refreshed(alloc, state, moves, regrouped, steps)?;
-    let ids = ids_of(alloc, &pairs)?;
+    let refreshed = ids_of(alloc, &pairs)?;
     let batch = batch(alloc, state, moves, regrouped, &pairs)?;
-    Ok((ids, batch))
+    Ok(PlanLists { refreshed, batch })
 }
 
 /// The ids of pairs of an id and a code.

@@ -2,21 +2,18 @@
 ghost use Rattle.std.specs.Prelude.{◌≡◌};
 ghost use Rattle.cube_state.specs.State.{withdrawn};
 
+use crate::PlanLists;
 use crate::plan_change::PlanChange;
-use cube_base::Ids;
 use cube_model::Edit;
-use fact_keeper::Batch;
-use std::alloc::Global;
 use std::marker::Model;
 
-/// An edit that was judged and prepared, or all facts at once: which ids it refreshes, what it changes in a store, and what it will
-/// set in the state. It is installed by `install`.
+/// An edit that was judged and prepared, or all facts at once: how many facts it refreshes, their ids and what it changes in a store
+/// where these were asked for, and what it will set in the state. It is installed by `install`.
 #[derive(Drop)]
 pub struct Plan {
-    pub(crate) alloc: Global,
     pub(crate) change: PlanChange,
-    pub(crate) refreshed: Ids,
-    pub(crate) batch: Batch,
+    pub(crate) count: u64,
+    pub(crate) lists: Option<PlanLists>,
 }
 
 impl Model for Plan {
@@ -26,29 +23,36 @@ impl Model for Plan {
 
     ghost view = { λ p. record {
       change = p.change;
-      refreshed = p.refreshed;
-      batch = p.batch;
+      count = p.count;
+      lists = p.lists;
     } };
 }
 
 impl Plan {
-    ghost use Rattle.std.specs.Prelude.{◌≡◌, []};
+    ghost use Rattle.std.specs.Prelude.{◌≡◌, None};
+    ghost use Rattle.std.specs.Option.{option_copied};
     ghost use Rattle.edit_plan.specs.Plan.{withdrawn_in};
 
-    /// The ids of the facts that are new or whose allocation changed, ascending. It takes no memory.
-    pub fn refreshed(&self) -> &Ids
-        ensures { result.now ≡ self.now.refreshed }
+    /// How many facts are new or have an allocation that changed. It takes no memory.
+    pub fn count(&self) -> u64
+        ensures { result ≡ self.now.count }
     {
-        &self.refreshed
+        self.count
     }
 
-    /// These ids, taken out of the plan, which keeps none. It takes no memory.
-    pub fn take_refreshed(&mut self) -> Ids
-        ensures ids { result ≡ self.old.refreshed }
-        ensures rest { self.new ≡ record self.old { refreshed = [] } }
+    /// The ids of these facts, and what the plan changes in a store, where they were asked for. It takes no memory.
+    pub fn lists(&self) -> Option<&PlanLists>
+        ensures { option_copied result ≡ self.now.lists }
     {
-        let none = Ids::new(self.alloc);
-        std::mem::replace(&mut self.refreshed, none)
+        self.lists.as_ref()
+    }
+
+    /// The same, taken out of the plan, which has none then. It takes no memory.
+    pub fn take_lists(&mut self) -> Option<PlanLists>
+        ensures lists { result ≡ self.old.lists }
+        ensures rest { self.new ≡ record self.old { lists = None } }
+    {
+        self.lists.take()
     }
 
     /// The id that the plan withdraws, if it is of an edit that withdraws one. It takes no memory.
@@ -59,13 +63,6 @@ impl Plan {
             PlanChange::Edit { edit, .. } => withdrawn_id(edit),
             PlanChange::All { .. } => None,
         }
-    }
-
-    /// What the plan changes in a store. It takes no memory.
-    pub fn batch(&self) -> &Batch
-        ensures { result.now ≡ self.now.batch }
-    {
-        &self.batch
     }
 }
 

@@ -1,5 +1,5 @@
 //! Which facts an edit refreshes.
-ghost use Rattle.std.specs.Prelude.{◌≡◌, ◌++◌, ◌+◌, ◌≤◌, IfOk, OnOk, Some, false, map};
+ghost use Rattle.std.specs.Prelude.{◌≡◌, ◌++◌, ◌+◌, ◌*◌, ◌≤◌, IfOk, OnOk, Some, false, length, map};
 ghost use Rattle.std.specs.List.Sorted.{IsNonDecreasingBy, IsPermutation};
 ghost use Rattle.std.specs.Option.{option_copied, option_map_or};
 ghost use Rattle.cube_model.specs.Difference.{refreshed};
@@ -22,8 +22,8 @@ use region_index::Steps;
 use std::alloc::Global;
 use std::sync::ledger::Ledger;
 
-/// The ids that an edit refreshes, ascending, each with the code of its fact's region after the edit. Each id of a region that is
-/// spread anew is a step.
+/// The ids that an edit refreshes, ascending, each with the code of its fact's region after the edit. Each region that is spread anew is
+/// a step, and so is each id there.
 pub fn refreshed<P: WeightPolicy + Drop, L: Ledger>(
     alloc: Global,
     state: &State<P>,
@@ -35,7 +35,7 @@ pub fn refreshed<P: WeightPolicy + Drop, L: Ledger>(
     requires regrouped { IsRegrouped (policy_in P.weigh state.now) (width_of_all state.now.shape.measures) state.now.dims moves.now.edit state.now.facts regrouped.now }
     ensures ids { IfOk result (λ pairs. map (λ pair. pair.0) pairs.items ≡ refreshed (policy_in P.weigh state.now) state.now.dims state.now.facts (after moves.now.edit state.now.facts)) }
     ensures codes { IfOk result (λ pairs. AreOfFacts state.now.dims (after moves.now.edit state.now.facts) pairs.items) }
-    ensures steps { steps.new ≤ steps.old + covering_pairs (policy_in P.weigh state.now) state.now.dims moves.now.edit state.now.facts }
+    ensures steps { steps.new ≤ steps.old + 2 * covering_pairs (policy_in P.weigh state.now) state.now.dims moves.now.edit state.now.facts }
 {
     let _ = state.facts();
     let edited = edited_id(&moves.edit);
@@ -52,8 +52,8 @@ pub fn refreshed<P: WeightPolicy + Drop, L: Ledger>(
     Ok(by_id(pairs))
 }
 
-/// The ids of the imprecise facts whose regions have these codes, but for one id, each with the code, code by code. Each id is a
-/// step, that one too.
+/// The ids of the imprecise facts whose regions have these codes, but for one id, each with the code, code by code. Each code is a step,
+/// and so is each id, that one too.
 fn others_at<P: WeightPolicy + Drop, L: Ledger>(
     alloc: Global,
     state: &State<P>,
@@ -62,11 +62,11 @@ fn others_at<P: WeightPolicy + Drop, L: Ledger>(
     steps: &mut Steps<L>,
 ) -> Result<Vec<(u64, u64)>, Memory>
     ensures pairs { IfOk result (λ pairs. pairs.items ≡ others_at state.now.dims state.now.facts id codes.now) }
-    ensures steps { steps.new ≤ steps.old + id_count_at state.now.dims state.now.facts codes.now }
+    ensures steps { steps.new ≤ steps.old + (length codes.now + id_count_at state.now.dims state.now.facts codes.now) }
 {
     let mut pairs = Vec::new(alloc);
     for code in codes {
-        let ids = state.imprecise_ids(*code);
+        let ids = state.imprecise_ids(*code, steps);
         steps.add(ids.len() as u64);
         add_others(&mut pairs, ids, *code, id)?;
     }
@@ -74,7 +74,7 @@ fn others_at<P: WeightPolicy + Drop, L: Ledger>(
 }
 
 /// The id of an edit's new fact with the code of its region, where its id is new or its allocation changed.
-fn own_pair<P: WeightPolicy + Drop>(
+pub fn own_pair<P: WeightPolicy + Drop>(
     state: &State<P>,
     moves: &Moves,
     regrouped: &Regrouped,

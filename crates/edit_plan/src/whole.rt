@@ -1,5 +1,5 @@
 //! New facts, planned all at once.
-ghost use Rattle.std.specs.Prelude.{◌≡◌, ◌++◌, ◌∷◌, ◌≤◌, [], true, None, Some, IfErr, IfOk, Ok, OnOk, option_map};
+ghost use Rattle.std.specs.Prelude.{◌≡◌, ◌++◌, ◌∷◌, ◌≤◌, [], true, None, Some, IfErr, IfOk, OnOk, length, option_map};
 ghost use Rattle.std.specs.Option.{option_copied};
 ghost use Rattle.cube_model.specs.Allocation.{allocation, row_count};
 ghost use Rattle.cube_model.specs.Ascending.{ascends_from};
@@ -16,7 +16,7 @@ ghost use Rattle.edit_plan.specs.Whole.{IsAllFaultOf, difference_with, facts_wit
 use crate::plan_change::PlanChange;
 use crate::spread::is_same_spread;
 use crate::storing::kept_fact;
-use crate::{Plan, PlanAllFault, Refreshed};
+use crate::{Plan, PlanAllFault, PlanLists, Refreshed};
 use alloc_rows::Alloc;
 use cell_weight::WeightPolicy;
 use cube_base::{Ids, Memory};
@@ -39,51 +39,48 @@ pub fn plan_all<P: WeightPolicy + Drop>(
     requires { AreNew state.now.shape state.now.dims state.now.facts facts.now }
     ensures facts { IfOk result (λ plan. facts_after plan.change state.now.facts ≡ facts_with_new state.now facts.now) }
     ensures fits { IfOk result (IsPlanFor P.weigh state.now) }
-    ensures refreshed { IfOk result (λ plan. plan.refreshed ≡ refreshed_by P.weigh state.now facts.now) }
-    ensures ascending { IfOk result (λ plan. ascends_from (λ id. id) 1 plan.refreshed ≡ true) }
-    ensures batch { IfOk result (λ plan. plan.batch ≡ difference_with (policy_in P.weigh state.now) state.now.dims facts.now state.now.facts) }
+    ensures count { IfOk result (λ plan. plan.count ≡ length (refreshed_by P.weigh state.now facts.now)) }
+    ensures lists { IfOk result (λ plan. plan.lists ≡ Some (record {
+      refreshed = refreshed_by P.weigh state.now facts.now;
+      batch = difference_with (policy_in P.weigh state.now) state.now.dims facts.now state.now.facts;
+    })) }
+    ensures ascending { OnOk result (ascends_from (λ id. id) 1 (refreshed_by P.weigh state.now facts.now) ≡ true) }
     ensures accepted { OnOk result (row_count (rows_with_new P.weigh state.now facts.now) ≤ MAX_ROWS) }
     ensures fault { IfErr result (IsAllFaultOf P.weigh state.now facts.now) }
 {
     let _ = state.facts();
     let all = state.kept_with(facts.as_slice())?;
-    let made = kept_of_all(alloc, state, &all);
-    Ok(plan_of_all(alloc, all, made)?)
-}
-
-/// The plan that puts all facts, of which these ids are refreshed and this is changed in a store, if that was made.
-fn plan_of_all(
-    alloc: Global,
-    all: FactsKept,
-    made: Result<(Ids, Batch), Memory>,
-) -> Result<Plan, Memory>
-    ensures change { IfOk result (λ plan. plan.change ≡ plan_change.All all) }
-    ensures made { IfOk result (λ plan. made ≡ Ok (plan.refreshed, plan.batch)) }
-{
-    let (refreshed, batch) = match made {
-        Ok(changes) => changes,
+    match list_all(alloc, state, &all) {
+        Ok(lists) => Ok(plan_of_all(all, lists)),
         Err(fault) => {
             drop(all);
-            return Err(fault);
+            Err(PlanAllFault::from(fault))
         }
-    };
-    Ok(Plan {
-        alloc,
+    }
+}
+
+/// The plan that puts all facts, which has these lists.
+fn plan_of_all(all: FactsKept, lists: PlanLists) -> Plan
+    ensures change { result.change ≡ plan_change.All all }
+    ensures count { result.count ≡ length lists.refreshed }
+    ensures lists { result.lists ≡ Some lists }
+{
+    Plan {
         change: PlanChange::All { all },
-        refreshed,
-        batch,
-    })
+        count: lists.refreshed.as_slice().len() as u64,
+        lists: Some(lists),
+    }
 }
 
 /// Of all facts the ids of those that are new or whose allocation changed, and what they change in a store.
-fn kept_of_all<P: WeightPolicy + Drop>(
+fn list_all<P: WeightPolicy + Drop>(
     alloc: Global,
     state: &State<P>,
     all: &FactsKept,
-) -> Result<(Ids, Batch), Memory>
+) -> Result<PlanLists, Memory>
     requires { AreAllFor P.weigh state.now all.now }
-    ensures ids { IfOk result (λ made. made.0 ≡ ids_otherwise (policy_in P.weigh state.now) state.now.dims state.now.facts all.now.facts.facts all.now.facts.facts) }
-    ensures batch { IfOk result (λ made. made.1 ≡ record {
+    ensures refreshed { IfOk result (λ lists. lists.refreshed ≡ ids_otherwise (policy_in P.weigh state.now) state.now.dims state.now.facts all.now.facts.facts all.now.facts.facts) }
+    ensures batch { IfOk result (λ lists. lists.batch ≡ record {
       schema = None;
       gone = [];
       facts = new_kept state.now.facts all.now.facts.facts;
@@ -92,13 +89,15 @@ fn kept_of_all<P: WeightPolicy + Drop>(
 {
     let Refreshed { ids, rows } = refreshed_among(alloc, state, all)?;
     let facts = new_among(alloc, state, all)?;
-    let batch = Batch {
-        schema: None,
-        gone: Ids::new(alloc),
-        facts,
-        rows,
-    };
-    Ok((ids, batch))
+    Ok(PlanLists {
+        refreshed: ids,
+        batch: Batch {
+            schema: None,
+            gone: Ids::new(alloc),
+            facts,
+            rows,
+        },
+    })
 }
 
 /// Of all facts those that are new or whose allocation changed, in order.

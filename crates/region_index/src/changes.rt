@@ -114,8 +114,8 @@ pub fn ascending_copy(alloc: Global, ids: &[u64]) -> Result<Vec<u64>, Memory>
     Ok(sort_distinct(append_ids(Vec::new(alloc), ids)?))
 }
 
-/// Whether an id is among ascending ones.
-fn is_in(ids: &[u64], id: u64) -> bool
+/// Whether an id is among ascending ones. It takes no memory.
+pub fn is_in(ids: &[u64], id: u64) -> bool
     requires { AreAscending ids.now }
     ensures { result ≡ is_among ids.now id }
 {

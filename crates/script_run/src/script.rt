@@ -168,12 +168,8 @@ fn do_edit_by<L: Ledger, Q: Keeper>(
     ensures stays_open { StaysOpen (Q.tells keeper.old) (Q.tells keeper.new) }
 {
     let mut steps = Steps::<L>::new(blank);
-    match cube.edit(edit, keeper, &mut steps) {
-        Ok(receipt) => {
-            let refreshed = receipt.refreshed.as_slice().len() as u64;
-            drop(receipt);
-            Ok(Reply::Done(refreshed))
-        }
+    match cube.edit_and_count(edit, keeper, &mut steps) {
+        Ok(refreshed) => Ok(Reply::Done(refreshed)),
         Err(fault) => reply_to(fault),
     }
 }

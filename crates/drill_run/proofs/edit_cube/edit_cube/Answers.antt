@@ -10,6 +10,6 @@ pub returns-in-Ok-clause-few : goal.returns-in-Ok-clause-few
 returns-in-Ok-clause-few g c =
     let cube = c.args.cube.now in
     let later = after c.args.edit.now cube.facts in
-    let same : c.edit.new.self.facts ≡ later = ap (λ v. v.facts) c.in-Ok.ensures.facts in
+    let same : c.edit_and_count.new.self.facts ≡ later = ap (λ v. v.facts) c.in-Ok.ensures.facts in
     let size = refreshed-le (schema_policy weigh_count cube.schema) cube.schema.dims cube.facts later in
-    omega (arith, ap length c.as_slice.ensures, ap length c.in-Ok.ensures.refreshed, size, c.facts.ensures.valid.few, ap length same)
+    omega (arith, c.in-Ok.ensures.refreshed, size, c.facts.ensures.valid.few, ap length same)

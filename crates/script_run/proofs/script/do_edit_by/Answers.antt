@@ -13,9 +13,9 @@ returns g c =
     let cube = c.args.cube.now in
     let keeper = c.args.keeper.now in
     let said = c.in-Err.ensures in
-    let same_kept = told_same g.Q.Keeper.tells keeper c.edit.new.keeper said.same_content said.same_journal in
+    let same_kept = told_same g.Q.Keeper.tells keeper c.edit_and_count.new.keeper said.same_content said.same_journal in
     let answered = rw (sym c.reply_to.ensures) at
-    (not_done cube c.edit.new.self _ _ _ _ (cube_judgement weigh cube c.args.edit.now) (accepted (weigh cube.policy) cube.schema (state_of cube) (after c.args.edit.now cube.facts)) (difference_in weigh cube c.args.edit.now) c.in-Err.fault
+    (not_done cube c.edit_and_count.new.self _ _ _ _ (cube_judgement weigh cube c.args.edit.now) (accepted (weigh cube.policy) cube.schema (state_of cube) (after c.args.edit.now cube.facts)) (difference_in weigh cube c.args.edit.now) c.in-Err.fault
     (edit_judged weigh cube c.args.edit.now c.in-Err.fault said.fault) said.same same_kept said.count) in
     record {
       reply = answered.reply;
@@ -26,5 +26,5 @@ returns g c =
       same_kept = answered.same_kept;
       count = answered.count;
       stop = answered.stop;
-      stays_open = c.edit.ensures.stays_open;
+      stays_open = c.edit_and_count.ensures.stays_open;
     }

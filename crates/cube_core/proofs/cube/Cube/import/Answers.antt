@@ -1,16 +1,18 @@
 -- The batch of the plan is what the import changes in the cube.
-use Rattle.std.proofs.Common.{[], ◌∷◌, ◌++◌, ap, ◌∙◌}
-use Rattle.std.specs.Prelude.{option_map}
+use Rattle.std.proofs.Common.{◌≡◌, [], ◌∷◌, ◌++◌, refl, ap, ◌∙◌, subst}
+use Rattle.std.specs.Prelude.{IfSome, option_map}
 use Rattle.fact_keeper.specs.Batch.{apply_batch}
 use Rattle.cube_core.proofs.Stating.{import-told}
 use Rattle.cube_core.proofs.cube.Cube.import.Goals as goal
 
 pub returns-clause-content : goal.returns-clause-content
 returns-clause-content g c =
-    let changes = import-told g.P.WeightPolicy.weigh c.self.inside.schema c.self.inside.state c.self.invariant c.args.self.now c.self.view_is c.args.seq.now.facts c.in_ok-plan.plan.batch c.in_ok-plan.ensures.batch in
-    c.in_ok-refreshed.ensures.content ∙ ap (λ b. option_map (apply_batch b) (g.K.Keeper.tells c.args.keeper.now).content) changes
+    let changes = import-told g.P.WeightPolicy.weigh c.self.inside.schema c.self.inside.state c.self.invariant c.args.self.now c.self.view_is c.args.seq.now.facts _ refl in
+    subst (λ ls. IfSome ls (λ l. (g.K.Keeper.tells c.carry_out.new.keeper).content ≡ option_map (apply_batch l.batch) (g.K.Keeper.tells c.args.keeper.now).content)) c.in_ok-plan.ensures.lists c.in_ok-lists.ensures.content
+    ∙ ap (λ b. option_map (apply_batch b) (g.K.Keeper.tells c.args.keeper.now).content) changes
 
 pub returns-clause-journal : goal.returns-clause-journal
 returns-clause-journal g c =
-    let changes = import-told g.P.WeightPolicy.weigh c.self.inside.schema c.self.inside.state c.self.invariant c.args.self.now c.self.view_is c.args.seq.now.facts c.in_ok-plan.plan.batch c.in_ok-plan.ensures.batch in
-    c.in_ok-refreshed.ensures.journal ∙ ap (λ b. option_map (λ batches. batches ++ b ∷ []) (g.K.Keeper.tells c.args.keeper.now).journal) changes
+    let changes = import-told g.P.WeightPolicy.weigh c.self.inside.schema c.self.inside.state c.self.invariant c.args.self.now c.self.view_is c.args.seq.now.facts _ refl in
+    subst (λ ls. IfSome ls (λ l. (g.K.Keeper.tells c.carry_out.new.keeper).journal ≡ option_map (λ batches. batches ++ l.batch ∷ []) (g.K.Keeper.tells c.args.keeper.now).journal)) c.in_ok-plan.ensures.lists c.in_ok-lists.ensures.journal
+    ∙ ap (λ b. option_map (λ batches. batches ++ b ∷ []) (g.K.Keeper.tells c.args.keeper.now).journal) changes

@@ -33,9 +33,9 @@ returns-then-column-eq0 g c =
     (not-false _ c.if-not-sides.false) (not-false _ c.if-not-sides-2.false) c.if-column-eq0.true _ (c.from.ensures ∙ ap (λ (g : Group). pos g.count) c.group.view_is))
 
 pub either_ends-requires-clause-ids : goal.either_ends-requires-clause-ids
-either_ends-requires-clause-ids g c = ids-some _ _ _ c.facts-facts.ensures.facts _ _ c.imprecise_ids.ensures
+either_ends-requires-clause-ids g c = ids-some _ _ _ c.facts-facts.ensures.facts _ _ c.ids_at.ensures
 
 pub returns : goal.returns
 returns g c =
     ends-either g.P.WeightPolicy.weigh c.args.self.now c.facts-facts.ensures.valid c.facts-facts.ensures.trees _ c.shape.ensures c.columns.ensures.shape c.args.code c.args.group.now c.requires.group c.args.column c.args.region.now (subst (λ (g : Group). IsAllocation g.spread) c.group.view_is c.rows.ensures.kept) _ (c.rows.ensures.rows ∙ ap (λ (g : Group). g.spread.rows) c.group.view_is) _ c.sides_of-sides.ensures
-    (not-false _ c.if-not-sides.false) (not-false _ c.if-not-sides-2.false) _ c.facts-facts.ensures.facts _ c.imprecise_ids.ensures _ c.either_ends.ensures.least c.either_ends.ensures.greatest
+    (not-false _ c.if-not-sides.false) (not-false _ c.if-not-sides-2.false) _ c.facts-facts.ensures.facts _ c.ids_at.ensures _ c.either_ends.ensures.least c.either_ends.ensures.greatest

@@ -2,7 +2,7 @@
 use Rattle.std.proofs.Common.{sym, subst}
 use Rattle.edit_plan.specs.Refreshing.{AreRefreshed}
 use Rattle.cube_state.specs.State.{policy_in}
-use Rattle.edit_plan.proofs.planning.kept_changes.Goals as goal
+use Rattle.edit_plan.proofs.planning.list_changes.Goals as goal
 
 pub batch-requires-clause-refreshed : goal.batch-requires-clause-refreshed
 batch-requires-clause-refreshed g c =
