@@ -61,7 +61,7 @@ fn fact_of(alloc: Global, row: &FactRow) -> Result<KeptFact, Memory> {
 }
 
 /// The kept facts of a table.
-fn facts_of(alloc: Global, table: &[FactRow]) -> Result<KeptFacts, Memory> {
+pub fn facts_of(alloc: Global, table: &[FactRow]) -> Result<KeptFacts, Memory> {
     let mut facts = KeptFacts::new(alloc);
     for row in table {
         facts.push(fact_of(alloc, row)?)?;
@@ -80,7 +80,7 @@ fn spread_of(alloc: Global, row: &SpreadRow) -> Result<KeptRows, Memory> {
 }
 
 /// The kept rows of a table.
-fn rows_of(alloc: Global, table: &[SpreadRow]) -> Result<KeptRowsList, Memory> {
+pub fn rows_of(alloc: Global, table: &[SpreadRow]) -> Result<KeptRowsList, Memory> {
     let mut list = KeptRowsList::new(alloc);
     for row in table {
         list.push(spread_of(alloc, row)?)?;

@@ -1,13 +1,8 @@
 //! Contents of stores and batches, written out as tables.
-use cube_base::{Bytes, Ids, Memory, SharedPairs};
-use fact_keeper::{Batch, ColNums, KeptFact, KeptFacts, KeptRows, KeptRowsList, NodeNums, Stored};
+use cube_base::{Bytes, Ids, Memory};
+use cube_tests::stored::{FactRow, SpreadRow, facts_of, rows_of};
+use fact_keeper::{Batch, KeptFact, KeptRows, Stored};
 use std::alloc::Global;
-
-/// The id, the nodes and the values of a fact.
-type FactRow = (u64, &'static [u32], &'static [i64]);
-
-/// The id of a fact, the denominator of its weights, and the cells with their weights.
-type SpreadRow = (u64, u64, &'static [(u64, u64)]);
 
 /// A batch, or with no id that goes a content.
 pub struct Case {
@@ -61,40 +56,6 @@ pub const BEYOND_SQL: Case = Case {
     facts: &[(9, &[1], &[1])],
     rows: &[(9223372036854775808, 1, &[])],
 };
-
-fn fact_of(alloc: Global, row: &FactRow) -> Result<KeptFact, Memory> {
-    let (id, nodes, cols) = *row;
-    Ok(KeptFact {
-        id,
-        nodes: NodeNums::from(Vec::from_slice(alloc, nodes)?),
-        cols: ColNums::from(Vec::from_slice(alloc, cols)?),
-    })
-}
-
-fn facts_of(alloc: Global, table: &[FactRow]) -> Result<KeptFacts, Memory> {
-    let mut facts = KeptFacts::new(alloc);
-    for row in table {
-        facts.push(fact_of(alloc, row)?)?;
-    }
-    Ok(facts)
-}
-
-fn entry_of(alloc: Global, row: &SpreadRow) -> Result<KeptRows, Memory> {
-    let (id, den, rows) = *row;
-    Ok(KeptRows {
-        id,
-        den,
-        rows: SharedPairs::from_vec(alloc, Vec::from_slice(alloc, rows)?)?,
-    })
-}
-
-fn rows_of(alloc: Global, table: &[SpreadRow]) -> Result<KeptRowsList, Memory> {
-    let mut list = KeptRowsList::new(alloc);
-    for row in table {
-        list.push(entry_of(alloc, row)?)?;
-    }
-    Ok(list)
-}
 
 /// The batch of a case.
 pub fn batch_of(alloc: Global, case: &Case) -> Result<Batch, Memory> {
