@@ -42,11 +42,11 @@ pub record Looks (keeper after : Opened) (done : ℕ) (end told : End) : Type 0 
   pub same : after ≡ record keeper { looks = after.looks; faults = after.faults; reason = after.reason }
 
 -- It is not looked, and the end stays.
-pub record Stays (keeper after : Opened) (end told : End) : Type 0 where
+pub record LooksNotAgain (keeper after : Opened) (end told : End) : Type 0 where
   pub same : after ≡ keeper
   pub tells : told ≡ end
 
 -- by whether the end tells such a number
 abbrev pub LooksLast : Option ℕ → Opened → Opened → End → End → Type 0
-LooksLast None keeper after end told = Stays keeper after end told
+LooksLast None keeper after end told = LooksNotAgain keeper after end told
 LooksLast (Some done) keeper after end told = Looks keeper after done end told
