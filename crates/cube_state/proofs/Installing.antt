@@ -8,7 +8,7 @@ use Rattle.cube_model.specs.declared.edit.Fact.{Fact}
 use Rattle.cube_model.specs.declared.statistic.CellStat.{CellStat}
 use Rattle.cube_model.specs.Allocation.{Policy, extended}
 use Rattle.cube_model.specs.Facts.{after, put}
-use Rattle.cube_model.specs.Tree.{Dimension}
+use Rattle.cube_model.specs.Tree.{Dimension, IsTree}
 use Rattle.region_algebra.specs.declared.view_def.ViewDef.{ViewDef}
 use Rattle.staged_map.specs.Staged.{Places, PutsAll}
 use Rattle.cell_weight.specs.Stats.{Installs}
@@ -28,10 +28,11 @@ use Rattle.cube_state.proofs.Accepting.{AreValid-after, allowed, judged}
 use Rattle.fact_indexes.proofs.ViewsKept.{AreViewsOfFacts-after, AreViewsOfFacts-emptied, AreViewsOfFacts-none, cuts-after}
 
 -- nothing is kept where there is no fact, but views without entries
-module _ (policy : Policy) (shape : ShapeValue) (dims : List Dimension) (spare : ℕ) (maps : ViewMaps) (none : AreViewsOfFacts dims (map (λ (view : ViewMap). view.depths) maps.views) (width_of_all shape.measures + 1) [] maps) where
+module _ (policy : Policy) (shape : ShapeValue) (dims : List Dimension) (trees : All IsTree dims) (spare : ℕ) (maps : ViewMaps) (none : AreViewsOfFacts dims (map (λ (view : ViewMap). view.depths) maps.views) (width_of_all shape.measures + 1) [] maps) where
   IsState-none : IsState policy shape dims (map (λ (view : ViewMap). view.depths) maps.views) [] (record { spare = spare; stats = []; index = []; groups = []; views = maps; rows = 0 })
   unfolding extended
   IsState-none = record {
+    trees = trees;
     valid = record { ascending = λ i j d before within. absurd (omega arith); few = omega arith; each = All-nil (IsValid shape dims) };
     stats = λ cell. refl;
     index = record { ids = λ code. refl };
@@ -52,7 +53,7 @@ module _ (policy : Policy) (shape : ShapeValue) (dims : List Dimension) (spare :
       (subst (λ (gs : Places Group). with [] [] [] gs views) (sym no_groups)
       (subst (λ (vs : ViewMaps). with [] [] [] [] vs) (sym are) IsState-none))))
 
-module _ (policy : Policy) (shape : ShapeValue) (dims : List Dimension) (spare : ℕ) (facts : List Fact) (stats : Places CellStat) (index : Places (List ℕ)) (groups : Places Group) (views : ViewMaps) where
+module _ (policy : Policy) (shape : ShapeValue) (dims : List Dimension) (trees : All IsTree dims) (spare : ℕ) (facts : List Fact) (stats : Places CellStat) (index : Places (List ℕ)) (groups : Places Group) (views : ViewMaps) where
   abbrev pub Empty : Type 0
   Empty = IsState policy shape dims (map (λ (view : ViewMap). view.depths) views.views) facts (record { spare = spare; stats = stats; index = index; groups = groups; views = views; rows = 0 })
 
@@ -62,13 +63,13 @@ module _ (policy : Policy) (shape : ShapeValue) (dims : List Dimension) (spare :
   IsState-empty defs cut_each columns no_facts no_stats no_index no_groups are width =
       let maps : ViewMaps = record { columns = columns; views = map (view_of columns) defs } in
       let turned : columns ≡ width_of_all shape.measures + 1 = omega (arith, width) in
-      IsState-over policy shape dims spare maps (subst (λ n. AreViewsOfFacts dims (map (λ (view : ViewMap). view.depths) maps.views) n [] maps) turned (AreViewsOfFacts-none dims columns defs cut_each)) facts stats index groups views no_facts no_stats no_index no_groups are
+      IsState-over policy shape dims trees spare maps (subst (λ n. AreViewsOfFacts dims (map (λ (view : ViewMap). view.depths) maps.views) n [] maps) turned (AreViewsOfFacts-none dims columns defs cut_each)) facts stats index groups views no_facts no_stats no_index no_groups are
 
   -- and with views that were others, over as many dimensions
   pub IsState-fresh : (space : List Dimension) (maps : ViewMaps) → AreViewsOf space maps → maps.columns ≡ width_of_all shape.measures + 1 → length dims ≡ length space → facts ≡ [] → stats ≡ [] → index ≡ [] → groups ≡ []
       → views ≡ record { columns = maps.columns; views = map without_entries maps.views } → Empty
   IsState-fresh space maps over width same no_facts no_stats no_index no_groups are =
-      IsState-over policy shape dims spare (record { columns = maps.columns; views = map without_entries maps.views }) (AreViewsOfFacts-emptied dims space (width_of_all shape.measures + 1) maps over width same) facts stats index groups views no_facts no_stats
+      IsState-over policy shape dims trees spare (record { columns = maps.columns; views = map without_entries maps.views }) (AreViewsOfFacts-emptied dims space (width_of_all shape.measures + 1) maps over width same) facts stats index groups views no_facts no_stats
       no_index no_groups are
 
 -- what is set of what is kept
@@ -100,6 +101,7 @@ module _ {P : Type 0} (weigh : P → CellStat → ℕ) (state seen : StateValue 
       let views = fits.sets.views in
       let its = is.rows ∙ fits.rows in
       record {
+        trees = kept.trees;
         valid = AreValid-after seen.shape seen.dims edit seen.facts fits.over (allowed seen.shape seen.dims edit seen.facts parts.0) kept.valid;
         stats = λ cell. is.stats.stats cell ∙ fits.sets.stats.made cell;
         index = record { ids = λ code. is.index.ids code ∙ fits.sets.index.made code };

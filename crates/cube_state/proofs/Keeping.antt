@@ -20,6 +20,7 @@ pub record IsSameKept (old new : Kept) : Type 0 where
 
 pub IsState-same : (policy : Policy) (shape : ShapeValue) (dims : List Dimension) (cuts : List (List ℕ)) (facts : List Fact) (old new : Kept) → IsSameKept old new → IsState policy shape dims cuts facts old → IsState policy shape dims cuts facts new
 IsState-same policy shape dims cuts facts old new same is = record {
+  trees = is.trees;
   valid = is.valid;
   stats = λ cell. same.stats cell ∙ is.stats cell;
   index = record { ids = λ code. ap (λ o. unwrap_or o []) (same.index code) ∙ is.index.ids code };

@@ -23,7 +23,6 @@ impl<P: WeightPolicy + Drop> State<P> {
         requires { IsRegion self.now.dims r }
         ensures { IfOk result (λ terms. terms ≡ terms_in P.weigh self.now r) }
     {
-        let _ = self.space.dims();
         let _ = self.shape.columns();
         let _ = self.views.columns();
         match self.views.answer(&self.space, r)? {
@@ -51,7 +50,6 @@ impl<P: WeightPolicy + Drop> State<P> {
         requires codes { codes.now ≡ codes_touching self.now.dims r }
         ensures { IfOk result (λ terms. terms ≡ terms_in P.weigh self.now r) }
     {
-        let _ = self.space.dims();
         let _ = self.groups.count();
         let columns = self.shape.columns();
         let mut shares = self.shares_at(&self.space.inside(r), codes)?;
@@ -63,7 +61,6 @@ impl<P: WeightPolicy + Drop> State<P> {
         requires { IsRegion self.now.dims r }
         ensures { IfOk result (λ terms. terms ≡ terms_in P.weigh self.now r) }
     {
-        let _ = self.space.dims();
         let _ = self.groups.count();
         let columns = self.shape.columns();
         let mut shares = self.shares_in(&self.space.inside(r))?;

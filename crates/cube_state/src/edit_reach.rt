@@ -71,7 +71,6 @@ impl<P: WeightPolicy + Drop> State<P> {
         ensures codes { IfOk result (λ codes. (code : ℕ) → is_among codes.items code ≡ is_over_one self.now.dims changes.now self.now.facts code) }
         ensures steps { steps.new ≤ steps.old + probes_over self.now.dims changes.now }
     {
-        let _ = self.space.dims();
         let mut codes = Vec::new(self.alloc);
         for (cell, _, _) in changes {
             let held = self.index.held_codes_over(&self.space, *cell, steps)?;

@@ -23,7 +23,6 @@ impl<P: WeightPolicy + Drop> State<P> {
         requires { AreMoves (policy_in P.weigh self.now) self.now.shape self.now.dims self.now.facts moves.now }
         ensures { IfOk result (λ group. group ≡ group_at (policy_in P.weigh self.now) (width_of_all self.now.shape.measures) self.now.dims (after moves.now.edit self.now.facts) code) }
     {
-        let _ = self.space.dims();
         let before = self.groups.get(code);
         let taken = self.fact_at(moves.taken.as_ref(), code);
         let given = self.fact_at(moves.given.as_ref(), code);

@@ -64,7 +64,6 @@ impl<P: WeightPolicy + Drop> State<P> {
         ensures groups { IfOk result (λ r. r.rows ≤ MAX_ROWS → r.groups ≡ groups_after (policy_in P.weigh self.now) (width_of_all self.now.shape.measures) self.now.dims moves.now.edit self.now.facts codes.now) }
         ensures spread_anew { IfOk result (λ r. r.spread_anew ≡ spread_anew (policy_in P.weigh self.now) (width_of_all self.now.shape.measures) self.now.dims moves.now.edit self.now.facts codes.now) }
     {
-        let _ = self.space.dims();
         let mut draft = Draft {
             groups: PlainList::new(self.alloc),
             spread_anew: Ids::new(self.alloc),
@@ -97,7 +96,6 @@ impl<P: WeightPolicy + Drop> State<P> {
         ensures spread_anew { OnOk result (draft.new.spread_anew ≡ draft.old.spread_anew ++ spread_anew (policy_in P.weigh self.now) (width_of_all self.now.shape.measures) self.now.dims moves.now.edit self.now.facts (code ∷ [])) }
         ensures groups { OnOk result (draft.new.after ≤ MAX_ROWS → draft.new.groups ≡ draft.old.groups ++ groups_after (policy_in P.weigh self.now) (width_of_all self.now.shape.measures) self.now.dims moves.now.edit self.now.facts (code ∷ [])) }
     {
-        let _ = self.space.dims();
         let group = self.groups.get(code);
         let next = self.group_after(moves, code)?;
         draft.before += rows_of(group);
@@ -120,7 +118,6 @@ impl<P: WeightPolicy + Drop> State<P> {
         requires now { option_copied now ≡ group_at (policy_in P.weigh self.now) (width_of_all self.now.shape.measures) self.now.dims (after moves.now.edit self.now.facts) code }
         ensures { result ≡ group_is_respread (option_copied before.entry) (option_copied now.entry) }
     {
-        let _ = self.space.dims();
         let (Some(before), Some(now)) = (before, now) else {
             return false;
         };

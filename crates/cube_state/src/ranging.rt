@@ -45,7 +45,6 @@ impl<P: WeightPolicy + Drop> State<P> {
         ensures least { IfOk result (λ ends. ends.least ≡ end_of Least (cells_of self.now.dims r) column (rows_in P.weigh self.now)) }
         ensures greatest { IfOk result (λ ends. ends.greatest ≡ end_of Greatest (cells_of self.now.dims r) column (rows_in P.weigh self.now)) }
     {
-        let _ = self.space.dims();
         let few = self.groups.count() as u64 / 4;
         match codes_touching(self.alloc, &self.space, r, few)? {
             Some(codes) => Ok(self.ends_at(codes.as_slice(), &self.space.inside(r), column)),

@@ -23,7 +23,6 @@ impl<P: WeightPolicy + Drop> State<P> {
         ensures kept { IfOk result (AreAllFor P.weigh self.now) }
         ensures fault { IfErr result (IsTooMany (policy_in P.weigh self.now) self.now.dims (put_all new.now self.now.facts)) }
     {
-        let _ = self.space.dims();
         let _ = self.shape.columns();
         let _ = self.views.columns();
         let facts = with_new(self.alloc, &self.facts, new)?;

@@ -92,6 +92,7 @@ impl<P: WeightPolicy + Drop> State<P> {
         ensures cuts { IfOk result (λ state. state.cuts ≡ map (λ def. def.depths) defs.now) }
         ensures facts { IfOk result (λ state. state.facts ≡ []) }
     {
+        let _ = space.dims();
         let views = Views::new(alloc, defs, shape.columns())?;
         Ok(State {
             alloc,
@@ -172,7 +173,6 @@ impl<P: WeightPolicy + Drop> State<P> {
         ensures trees { All IsTree self.now.dims }
         ensures few_rows { row_count (rows_in P.weigh self.now) ≤ MAX_ROWS }
     {
-        let _ = self.space.dims();
         &self.facts
     }
 
@@ -206,7 +206,6 @@ impl<P: WeightPolicy + Drop> State<P> {
         ensures steps { steps.new ≡ steps.old + 1 }
     {
         steps.tick();
-        let _ = self.space.dims();
         let fact = self.facts.get(id)?;
         let group = self.groups.get(self.space.code(fact.region))?;
         Some(&group.spread)
@@ -289,6 +288,7 @@ impl<P: WeightPolicy + Drop + Copy> State<P> {
         ensures cuts { IfOk result (λ state. state.cuts ≡ self.now.cuts) }
         ensures facts { IfOk result (λ state. state.facts ≡ []) }
     {
+        let _ = space.dims();
         let shape = self.shape.copy()?;
         let views = self.views.without_entries()?;
         Ok(State {

@@ -31,7 +31,6 @@ impl<P: WeightPolicy + Drop> State<P> {
         ensures regions { IfOk result (All (λ entry. IsRegion self.now.dims entry.0)) }
         ensures merged { IfOk result (λ list. merge_all (width_of_all self.now.shape.measures) (map (λ entry. entry.1.terms) list) ≡ (terms_in P.weigh self.now r).terms) }
     {
-        let _ = self.space.dims();
         let cuts = depths_under(self.alloc, &self.space, depths, r)?;
         self.list_of_cuts(cuts, r)
     }
@@ -89,7 +88,6 @@ impl<P: WeightPolicy + Drop> State<P> {
         requires codes { codes.now ≡ codes_touching self.now.dims r }
         ensures { IfOk result (IsOneViewUnder P.weigh self.now cuts r) }
     {
-        let _ = self.space.dims();
         let columns = self.shape.columns();
         let changes = puts_at(self.alloc, &self.space, &self.groups, codes)?;
         let mut view = Views::of_cuts(self.alloc, cuts, columns)?;

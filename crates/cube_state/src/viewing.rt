@@ -36,7 +36,6 @@ impl<P: WeightPolicy + Drop> State<P> {
         ensures follow { IfOk result (λ changes. FollowBy (rows_in P.weigh self.now) (facts_taken_away changes.items) (facts_put changes.items) (rows_after P.weigh self.now moves.now.edit)) }
         ensures fit { IfOk result (λ changes. FitsViews self.now.dims changes.items self.now.kept.views) }
     {
-        let _ = self.space.dims();
         let _ = self.shape.columns();
         let _ = self.views.columns();
         changes_by(
@@ -54,7 +53,6 @@ impl<P: WeightPolicy + Drop> State<P> {
         ensures entries { IfOk result (λ entries. entries ≡ view_at P.weigh self.now view) }
         ensures regions { IfOk result (All (λ entry. IsRegion self.now.dims entry.0)) }
     {
-        let _ = self.space.dims();
         let _ = self.views.columns();
         self.views.list(&self.space, view)
     }

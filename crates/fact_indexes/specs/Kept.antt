@@ -4,7 +4,7 @@ use Rattle.cube_model.specs.declared.edit.Fact.{Fact}
 use Rattle.cube_model.specs.declared.statistic.CellStat.{CellStat}
 use Rattle.cube_model.specs.Allocation.{ExtendedFact, Policy, extended, row_count, stat_of}
 use Rattle.cube_model.specs.Limits.{MAX_ROWS}
-use Rattle.cube_model.specs.Tree.{Dimension}
+use Rattle.cube_model.specs.Tree.{Dimension, IsTree}
 use Rattle.staged_map.specs.Staged.{Places, value_at}
 use Rattle.cell_weight.specs.Stats.{stat_at}
 use Rattle.fact_records.specs.Shape.{ShapeValue, width_of_all}
@@ -43,6 +43,7 @@ pub record IsCutView (dims : List Dimension) (cuts : List ℕ) (columns : ℕ) (
 -- facts, the index has the imprecise ones, there is a group for each region that a fact has, and the views are those of the facts;
 -- and there are not too many rows.
 pub record IsState (policy : Policy) (shape : ShapeValue) (dims : List Dimension) (cuts : List (List ℕ)) (facts : List Fact) (kept : Kept) : Type 0 where
+  pub trees : All IsTree dims
   pub valid : AreValid shape dims facts
   pub stats : (cell : ℕ) → stat_at kept.stats cell ≡ stat_of policy dims facts cell
   pub index : Indexes dims facts kept.index

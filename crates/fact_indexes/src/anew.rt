@@ -49,6 +49,7 @@ fn keep_beside<P: WeightPolicy>(
     ensures kept { IfOk result (λ kept. IsState (policy_over (P.weigh policy.now) shape.now) shape.now space.now (cuts_of views) facts.now.facts (kept_with facts.now.spare kept.0 kept.1)) }
     ensures fault { IfErr result (IsTooMany (policy_over (P.weigh policy.now) shape.now) space.now facts.now.facts) }
 {
+    let _ = space.dims();
     let tally = count_all(alloc, space, shape, policy, facts)?;
     let views = views_of(alloc, space, shape, policy, facts, &tally.groups, views)?;
     Ok((tally, views))

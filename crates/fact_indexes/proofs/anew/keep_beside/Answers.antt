@@ -3,6 +3,7 @@ use Rattle.fact_indexes.proofs.anew.keep_beside.Goals as goal
 
 pub returns-clause-kept : goal.returns-clause-kept
 returns-clause-kept g c = record {
+  trees = c.dims.ensures.trees;
   valid = c.requires.valid;
   stats = c.in_ok-tally.ensures.stats (g.P.WeightPolicy.weigh c.args.policy.now);
   index = c.in_ok-tally.ensures.index;

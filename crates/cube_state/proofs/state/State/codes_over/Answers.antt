@@ -23,7 +23,7 @@ returns-in_err-extend_from_slice-clause-steps g c =
 pub loop-cell-preserved : goal.loop-cell-preserved
 loop-cell-preserved g c =
     over-next _ _ c.args.changes.now c.loop-cell.cell-index _ _ _ _ c.loop-cell-test.true c.loop-cell.invariant _ _ _
-    (held-seen _ _ c.self.view_is g.P.WeightPolicy.weigh c.self.invariant _ _ c.dims.ensures.trees (c.as_slice.ensures ∙ c.in_ok-held.ensures.codes))
+    (held-seen _ _ c.self.view_is g.P.WeightPolicy.weigh c.self.invariant _ _ c.self.invariant.trees (c.as_slice.ensures ∙ c.in_ok-held.ensures.codes))
     c.in_ok-extend_from_slice.ensures.items c.in_ok-held.ensures.steps
 
 pub returns-clause-codes : goal.returns-clause-codes

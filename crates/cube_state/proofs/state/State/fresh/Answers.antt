@@ -8,7 +8,7 @@ use Rattle.cube_state.proofs.state.State.fresh.Goals as goal
 
 pub invariant_of-result : goal.invariant_of-result
 invariant_of-result g c =
-    IsState-fresh _ _ _ _ _ _ _ _ _ _ _ c.self.invariant.views.over (c.self.invariant.views.columns_are ∙ ap (λ (shape : ShapeValue). width_of_all shape.measures + 1) (sym c.in_ok-shape.ensures)) (c.requires ∙ sym (dims-seen _ _ c.self.view_is))
+    IsState-fresh _ _ _ c.dims.ensures.trees _ _ _ _ _ _ _ _ c.self.invariant.views.over (c.self.invariant.views.columns_are ∙ ap (λ (shape : ShapeValue). width_of_all shape.measures + 1) (sym c.in_ok-shape.ensures)) (c.requires ∙ sym (dims-seen _ _ c.self.view_is))
     c.new.ensures.empty c.new-2.ensures c.new-3.ensures c.new-4.ensures c.in_ok-views.ensures
 
 pub returns-clause-cuts : goal.returns-clause-cuts

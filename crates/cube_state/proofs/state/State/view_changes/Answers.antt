@@ -11,12 +11,12 @@ use Rattle.cube_state.proofs.state.State.view_changes.Goals as goal
 
 pub changes_by-requires-clause-kept : goal.changes_by-requires-clause-kept
 changes_by-requires-clause-kept g c =
-    kept-of_regions g.P.WeightPolicy.weigh _ _ c.self.view_is c.self.invariant (g.met.P.WeightPolicy.bound c.self.inside.policy) c.columns.ensures.shape c.dims.ensures.trees _ c.columns-2.ensures.columns c.columns-2.ensures.each
+    kept-of_regions g.P.WeightPolicy.weigh _ _ c.self.view_is c.self.invariant (g.met.P.WeightPolicy.bound c.self.inside.policy) c.columns.ensures.shape c.self.invariant.trees _ c.columns-2.ensures.columns c.columns-2.ensures.each
     c.args.moves.now c.requires.moves c.args.regrouped.now c.requires.regrouped
 
 pub changes_by-requires-clause-after : goal.changes_by-requires-clause-after
 changes_by-requires-clause-after g c =
-    rw c.as_slice.ensures (after-of_regions g.P.WeightPolicy.weigh _ _ c.self.view_is c.self.invariant (g.met.P.WeightPolicy.bound c.self.inside.policy) c.columns.ensures.shape c.dims.ensures.trees _ c.columns-2.ensures.columns c.columns-2.ensures.each
+    rw c.as_slice.ensures (after-of_regions g.P.WeightPolicy.weigh _ _ c.self.view_is c.self.invariant (g.met.P.WeightPolicy.bound c.self.inside.policy) c.columns.ensures.shape c.self.invariant.trees _ c.columns-2.ensures.columns c.columns-2.ensures.each
     c.args.moves.now c.requires.moves c.args.regrouped.now c.requires.regrouped)
 
 pub returns-clause-follow : goal.returns-clause-follow
@@ -24,7 +24,7 @@ returns-clause-follow g c =
     IfOk-weaker c.changes_by.result (λ changes. changes.items ≡ changes_by c.self.inside.space (value_at c.self.inside.groups) c.as_slice.result.now)
     (λ changes. FollowBy (rows_in g.P.WeightPolicy.weigh c.args.self.now) (facts_taken_away changes.items) (facts_put changes.items) (rows_after g.P.WeightPolicy.weigh c.args.self.now c.args.moves.now.edit))
     (λ changes are.
-    follow-seen g.P.WeightPolicy.weigh _ _ c.self.view_is c.self.invariant (g.met.P.WeightPolicy.bound c.self.inside.policy) c.columns.ensures.shape c.dims.ensures.trees _ c.columns-2.ensures.columns c.columns-2.ensures.each
+    follow-seen g.P.WeightPolicy.weigh _ _ c.self.view_is c.self.invariant (g.met.P.WeightPolicy.bound c.self.inside.policy) c.columns.ensures.shape c.self.invariant.trees _ c.columns-2.ensures.columns c.columns-2.ensures.each
     c.args.moves.now c.requires.moves c.args.regrouped.now c.requires.regrouped changes.items (are ∙ ap (changes_by c.self.inside.space (value_at c.self.inside.groups)) c.as_slice.ensures))
     c.changes_by.ensures
 
@@ -33,6 +33,6 @@ returns-clause-fit g c =
     IfOk-weaker c.changes_by.result (λ changes. changes.items ≡ changes_by c.self.inside.space (value_at c.self.inside.groups) c.as_slice.result.now)
     (λ changes. FitsViews c.args.self.now.dims changes.items c.args.self.now.kept.views)
     (λ changes are.
-    fit-seen g.P.WeightPolicy.weigh _ _ c.self.view_is c.self.invariant (g.met.P.WeightPolicy.bound c.self.inside.policy) c.columns.ensures.shape c.dims.ensures.trees _ c.columns-2.ensures.columns c.columns-2.ensures.each
+    fit-seen g.P.WeightPolicy.weigh _ _ c.self.view_is c.self.invariant (g.met.P.WeightPolicy.bound c.self.inside.policy) c.columns.ensures.shape c.self.invariant.trees _ c.columns-2.ensures.columns c.columns-2.ensures.each
     c.args.moves.now c.requires.moves c.args.regrouped.now c.requires.regrouped changes.items (are ∙ ap (changes_by c.self.inside.space (value_at c.self.inside.groups)) c.as_slice.ensures))
     c.changes_by.ensures
