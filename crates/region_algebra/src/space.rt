@@ -1,5 +1,5 @@
 //! The space over the dimensions of a cube.
-ghost use Rattle.std.specs.Prelude.{◌≡◌, ◌≢◌, ◌↔◌, ◌<◌, ◌≤◌, ℕ, List, [], true, All, None, Some, Err, length, map, slice_get, slice_set, take, IsSome, IfOk, IfErr, IsNone, IfSome, OnOk};
+ghost use Rattle.std.specs.Prelude.{◌≡◌, ◌≢◌, ◌↔◌, ◌<◌, ◌≤◌, ◌+◌, ℕ, List, [], true, All, None, Some, Err, drop, length, map, slice_get, slice_set, take, IsSome, IfOk, IfErr, IsNone, IfSome, OnOk};
 ghost use Rattle.cube_model.specs.Tree.{Dimension, IsTree, parent};
 ghost use Rattle.cube_model.specs.Cells.{all_cells, cells_of, is_among};
 ghost use Rattle.cube_model.specs.Limits.{MAX_DIMS};
@@ -273,6 +273,23 @@ impl Space {
             // The leaf's dimension has no more leaves than it had nodes, so the cells are no more than the regions were.
             Err(_) => Err(GrowFault::Nodes),
         }
+    }
+
+    /// How far apart the codes of regions lie whose nodes differ by one place in a dimension alone: the number of regions over the
+    /// dimensions after it.
+    pub fn region_step(&self, d: u32) -> u64
+        requires { d < length self.now }
+        ensures { result ≡ region_total (drop (d + 1) self.now) }
+    {
+        self.region_steps[d as usize]
+    }
+
+    /// The same of cells, whose leaves differ.
+    pub fn cell_step(&self, d: u32) -> u64
+        requires { d < length self.now }
+        ensures { result ≡ cell_total (drop (d + 1) self.now) }
+    {
+        self.cell_steps[d as usize]
     }
 
     /// The first of a region's cells.
