@@ -15,7 +15,7 @@ use Rattle.cube_model.specs.Allocation.{ExtendedFact}
 use Rattle.cube_model.specs.Answer.{answer, bound_of, count_at, over, sum_at, total_by, weight_inside}
 use Rattle.cube_model.specs.Cells.{cells_of}
 use Rattle.cube_model.specs.Tree.{Dimension}
-use Rattle.exact_fraction.proofs.TotalLaws.{total_by-same, total_by-times, total_by-total_by}
+use Rattle.cube_model.proofs.Totals.{total_by-same, total_by-times, total_by-total_by}
 use Rattle.fact_records.specs.declared.shape.Kind.{Kind}
 use Rattle.fact_records.specs.declared.shape.Kind.TheVariants.{Number, Parts}
 use Rattle.fact_records.specs.declared.shape.Measure.{Measure}

@@ -8,9 +8,8 @@ use Rattle.std.proofs.lemmas.List.Elements.{All-filter}
 use Rattle.cube_model.specs.declared.edit.Fact.{Fact}
 use Rattle.cube_model.specs.Answer.{total_by}
 use Rattle.cube_model.specs.Tree.{Dimension}
-use Rattle.cube_model.proofs.Totals.{total_by-append}
+use Rattle.cube_model.proofs.Totals.{total_by-append, total_by-same}
 use Rattle.region_index.specs.Indexed.{is_indexed_at}
-use Rattle.exact_fraction.proofs.TotalLaws.{total_by-same}
 use Rattle.fact_groups.proofs.Groups.{first-holds, total_by-map}
 use Rattle.world_range.specs.declared.extreme.Extreme.{Extreme}
 use Rattle.world_range.specs.declared.extreme.Extreme.TheVariants.{Greatest, Least}

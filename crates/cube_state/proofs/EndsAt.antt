@@ -9,11 +9,11 @@ use Rattle.cube_model.specs.declared.statistic.CellStat.{CellStat}
 use Rattle.cube_model.specs.Answer.{total_by}
 use Rattle.cube_model.specs.Limits.{MAX_FACTS, MAX_VALUE}
 use Rattle.cube_model.specs.Tree.{IsTree}
+use Rattle.cube_model.proofs.Totals.{total_by-nothing}
 use Rattle.region_algebra.specs.Space.{IsRegion}
 use Rattle.region_index.specs.Indexed.{is_indexed_at}
 use Rattle.alloc_rows.specs.Alloc.{IsAllocation}
 use Rattle.fact_groups.specs.Groups.{Group, facts_with, group_at, has_code}
-use Rattle.fact_groups.proofs.Partition.{total_by-nothing}
 use Rattle.fact_records.specs.Shape.{IsShape, ShapeValue, width_of_all}
 use Rattle.fact_records.specs.Valid.{AreValid, IsValid}
 use Rattle.fact_records.proofs.SmallValues.{small-accepted}

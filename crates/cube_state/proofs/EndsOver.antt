@@ -14,14 +14,13 @@ use Rattle.cube_model.specs.Allocation.{ExtendedFact, Policy, allocation, extend
 use Rattle.cube_model.specs.Answer.{total_by}
 use Rattle.cube_model.specs.Cells.{cells_of, is_among}
 use Rattle.cube_model.specs.Tree.{Dimension, IsTree}
-use Rattle.cube_model.proofs.Totals.{total_by-append}
+use Rattle.cube_model.proofs.Totals.{total_by-append, total_by-nothing, total_by-same}
 use Rattle.region_algebra.specs.Space.{IsRegion, code_of}
 use Rattle.region_index.specs.Touching.{codes_touching}
-use Rattle.exact_fraction.proofs.TotalLaws.{total_by-same}
 use Rattle.staged_map.specs.Staged.{held}
 use Rattle.fact_groups.specs.Groups.{AreGrouped, facts_with, has_code}
 use Rattle.fact_groups.proofs.Groups.{total_by-map}
-use Rattle.fact_groups.proofs.Partition.{total_by-nothing, totals_over_keys}
+use Rattle.fact_groups.proofs.Partition.{totals_over_keys}
 use Rattle.fact_indexes.specs.Kept.{IsState}
 use Rattle.fact_indexes.proofs.HeldGroups.{grouped-held}
 use Rattle.fact_indexes.proofs.ValidFacts.{valid-regions}

@@ -17,12 +17,12 @@ use Rattle.cube_model.specs.Cells.{cells_of, is_among, is_single}
 use Rattle.cube_model.specs.Facts.{is_precise}
 use Rattle.cube_model.specs.Limits.{MAX_FACTS, MAX_VALUE}
 use Rattle.cube_model.specs.Tree.{Dimension, IsTree}
+use Rattle.cube_model.proofs.Totals.{total_by-nothing}
 use Rattle.region_algebra.specs.Space.{IsRegion, code_of}
 use Rattle.region_index.specs.Indexed.{is_indexed_at}
 use Rattle.alloc_rows.specs.Alloc.{IsAllocation}
 use Rattle.fact_groups.specs.Groups.{Group, column_sums, facts_with, group_at, has_code, spread_at}
 use Rattle.fact_groups.proofs.Groups.{group_at-region, total_by-map}
-use Rattle.fact_groups.proofs.Partition.{total_by-nothing}
 use Rattle.fact_groups.proofs.Sharing.{allocation-spread_at}
 use Rattle.world_range.specs.declared.extreme.Extreme.{Extreme}
 use Rattle.world_range.specs.declared.sides.Sides.{Sides}

@@ -5,11 +5,12 @@ use Rattle.std.specs.Int.{◌∣◌}
 use Rattle.std.proofs.lemmas.Int.{ints}
 use Rattle.std.proofs.Math.Nat.{mul-div_cancel', div-mul_cancel}
 use Rattle.cube_model.specs.Answer.{total_by}
+use Rattle.cube_model.proofs.Products.{times-sum}
 use Rattle.exact_fraction.specs.Number.{gcd}
 use Rattle.exact_fraction.specs.Fraction.{UNIT, Fraction, reduced, sum_over, floor_of, ceiling_of}
 use Rattle.exact_fraction.specs.Laws.{IsCommonMultiple, AreBounds, BoundSum, IsLowest, EqualsSum}
 use Rattle.exact_fraction.proofs.Divisors.{gcd-is, gcd_some, gcd_unique, apart-cofactors, cofactor_some}
-use Rattle.exact_fraction.proofs.Products.{times-sum, times-times, times_swapped, sum-le-sum, times-le-times, le_of_times-le-times, lt_of_times-lt-times, eq_of_times-eq-times, int_div-times, rounds_down, neg-times, neg-le-neg}
+use Rattle.exact_fraction.proofs.Products.{times-times, times_swapped, sum-le-sum, times-le-times, le_of_times-le-times, lt_of_times-lt-times, eq_of_times-eq-times, int_div-times, rounds_down, neg-times, neg-le-neg}
 use Rattle.exact_fraction.proofs.Columns.{reduced_size}
 use Rattle.exact_fraction.proofs.Passes.{AreFractions, first_of, rest_of}
 

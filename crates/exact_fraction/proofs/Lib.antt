@@ -13,4 +13,3 @@ pub mod Told
 pub mod Quoted
 pub mod Ratios
 pub mod Scaling
-pub mod TotalLaws

@@ -5,14 +5,8 @@ use Rattle.std.specs.Int.{int_div_euclid, ◌∣◌}
 use Rattle.std.specs.Int.RustNames.{int_div}
 use Rattle.std.proofs.lemmas.Int.{ints}
 use Rattle.std.proofs.Math.Nat.{mul-le-mul_right, le_of_mul-le-mul_right, lt_of_mul-lt-mul_right, eq_of_mul-eq-mul_right, div-mul_cancel}
-use borrow.Author.Differences.{up, down, sum_is_lem, product_is, neg_is, le_out, lt_out, at_most_in, below_in, same_in, same_out}
-
--- times a natural number, in parts
-times_parts : (x : ℤ) (n : ℕ) → (up (x *ℤ pos n) ≡ up x * n) × (down (x *ℤ pos n) ≡ down x * n)
-times_parts x n = omega (arith, product_is x (pos n))
-
-pub times-sum : (x y : ℤ) (n : ℕ) → (x +ℤ y) *ℤ pos n ≡ x *ℤ pos n +ℤ y *ℤ pos n
-times-sum x y n = same_in _ _ (omega (arith, ap (λ k. k * n) (sum_is_lem x y), times_parts (x +ℤ y) n, times_parts x n, times_parts y n, sum_is_lem (x *ℤ pos n) (y *ℤ pos n)))
+use Rattle.cube_model.proofs.Products.{times_parts}
+use borrow.Author.Differences.{up, down, neg_is, le_out, lt_out, at_most_in, below_in, same_in, same_out}
 
 pub times-times : (x : ℤ) (m n : ℕ) → x *ℤ pos m *ℤ pos n ≡ x *ℤ pos (m * n)
 times-times x m n =

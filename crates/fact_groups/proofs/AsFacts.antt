@@ -16,13 +16,12 @@ use Rattle.cube_model.specs.declared.edit.Fact.{Fact}
 use Rattle.cube_model.specs.Allocation.{ExtendedFact, Policy, allocation, extended}
 use Rattle.cube_model.specs.Answer.{count_at, sum_at, total_by, weight_inside}
 use Rattle.cube_model.specs.Tree.{Dimension, IsTree}
-use Rattle.cube_model.proofs.Totals.{total_by-append}
+use Rattle.cube_model.proofs.Totals.{total_by-append, total_by-nothing, total_by-same}
 use Rattle.region_algebra.specs.Space.{IsRegion}
-use Rattle.exact_fraction.proofs.TotalLaws.{total_by-same}
 use Rattle.fact_groups.specs.Groups.{Group, HaveSameGroupsBut, column_sums, count_in, fact_over, facts_with, group_facts, groups_at, has_code, sum_in}
 use Rattle.fact_groups.proofs.Differing.{columns-differ, counts-differ}
 use Rattle.fact_groups.proofs.Groups.{count_in-sum, count_over, some-passes, sum_in-total, sum_over, total_by-map}
-use Rattle.fact_groups.proofs.Partition.{sum_by-filter, total_by-filter, total_by-nothing}
+use Rattle.fact_groups.proofs.Partition.{sum_by-filter, total_by-filter}
 
 -- so many times nothing
 total_by-zeros : {X : Type 0} (f : X → ℤ) (n : ℕ) (x : X) → f x ≡ pos 0 → total_by f (replicate n x) ≡ pos 0

@@ -14,9 +14,9 @@ use Rattle.cube_model.specs.declared.edit.Fact.{Fact}
 use Rattle.cube_model.specs.Allocation.{Allocation, ExtendedFact, Policy, allocation, extended, row_count}
 use Rattle.cube_model.specs.Answer.{count_at, sum_at, total_by, weight_inside}
 use Rattle.cube_model.specs.Tree.{Dimension, IsTree}
+use Rattle.cube_model.proofs.Totals.{total_by-same}
 use Rattle.region_algebra.specs.Space.{IsRegion, code_of}
 use Rattle.region_algebra.proofs.Tuples.{code_of-same}
-use Rattle.exact_fraction.proofs.TotalLaws.{total_by-same}
 use Rattle.fact_groups.specs.Groups.{AreGrouped, Group, column_sums, count_in, facts_with, group_at, group_rows, groups_at, has_code, spread_at, sum_in}
 use Rattle.fact_groups.specs.Partition.{IsPartition}
 use Rattle.fact_groups.proofs.Ascending.{ascends-from_increasing, once_among}

@@ -6,9 +6,8 @@ use Rattle.std.proofs.lemmas.Int.{ints}
 use Rattle.std.proofs.lemmas.List.Elements.{All-head, All-tail}
 use Rattle.std.proofs.lemmas.List.Sums.{sum_by-cons}
 use Rattle.cube_model.specs.Answer.{total_by}
-use Rattle.cube_model.proofs.Totals.{total_by-either}
-use Rattle.exact_fraction.proofs.Products.{times-sum}
-use Rattle.exact_fraction.proofs.TotalLaws.{total_by-same}
+use Rattle.cube_model.proofs.Products.{times-sum}
+use Rattle.cube_model.proofs.Totals.{total_by-either, total_by-nothing, total_by-same}
 use Rattle.fact_groups.specs.Partition.{IsPartition, held_by}
 
 -- of what passes a test, the sum has each number once
@@ -28,10 +27,6 @@ total_by-filter p f (x ∷ xs) = total_by-either (p x) f x (filter p xs) ∙ ap 
 sum_by-nothing : {X : Type 0} (xs : List X) → sum_by (λ x. 0) xs ≡ 0
 sum_by-nothing [] = refl
 sum_by-nothing (x ∷ xs) = omega (arith, sum_by-cons (λ x. 0) x xs, sum_by-nothing xs)
-
-pub total_by-nothing : {X : Type 0} (xs : List X) → total_by (λ x. pos 0) xs ≡ pos 0
-total_by-nothing [] = refl
-total_by-nothing (x ∷ xs) = let others = total_by-nothing xs in omega (arith, ints, others)
 
 -- a number as often as a test passes, and once where it passes once
 scaled-if : (b : Bool) (v n : ℕ) → (if b then v else 0) + n * v ≡ ((if b then 1 else 0) + n) * v

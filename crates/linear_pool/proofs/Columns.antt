@@ -8,6 +8,7 @@ use Rattle.std.proofs.lemmas.Nat.Gcd.{dvd_trans}
 use Rattle.std.proofs.Math.Nat.{dvd-mul_left, dvd-mul_right, mul-div_cancel', mul-div_cancel_left, mul-pos}
 use Rattle.cube_model.specs.declared.term.Term.{Term}
 use Rattle.cube_model.specs.Answer.{total_by}
+use Rattle.cube_model.proofs.Totals.{total_by-same, total_by-times, total_by-total_by}
 use Rattle.group_sum.specs.Terms.{are_terms_from}
 use Rattle.group_sum.proofs.Ascending.{first_is}
 use Rattle.exact_fraction.specs.Number.{gcd}
@@ -17,7 +18,6 @@ use Rattle.exact_fraction.proofs.Bounding.{reduced_den, reduced_num}
 use Rattle.exact_fraction.proofs.Divisors.{cofactor_some}
 use Rattle.exact_fraction.proofs.Products.{times-times}
 use Rattle.exact_fraction.proofs.Shares.{count_over}
-use Rattle.exact_fraction.proofs.TotalLaws.{total_by-same, total_by-times, total_by-total_by}
 use Rattle.fact_records.specs.Outcomes.{numerator_in}
 
 -- a number that the denominator of each term divides

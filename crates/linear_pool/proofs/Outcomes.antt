@@ -10,6 +10,7 @@ use Rattle.std.proofs.lemmas.Option.{slice_get-get_or}
 use Rattle.std.proofs.Math.Nat.{mul-div_cancel', mul-pos, mul_comm}
 use Rattle.cube_model.specs.declared.term.Term.{Term}
 use Rattle.cube_model.specs.Answer.{total_by}
+use Rattle.cube_model.proofs.Products.{times-sum}
 use Rattle.group_sum.specs.Terms.{AreTerms, TermList}
 use Rattle.exact_fraction.specs.declared.quotients.Quotient.{Quotient}
 use Rattle.exact_fraction.specs.declared.quotients.Quotient.TheVariants.{Undefined, Is}
@@ -17,7 +18,7 @@ use Rattle.exact_fraction.specs.Fraction.{Fraction, column_fractions, sum_over, 
 use Rattle.exact_fraction.specs.Laws.{EqualsQuotient, IsCommonMultiple, TellsQuotient}
 use Rattle.exact_fraction.specs.Moderate.{IsModerate}
 use Rattle.exact_fraction.specs.Ratio.{ratio_of}
-use Rattle.exact_fraction.proofs.Products.{eq_of_times-eq-times, times-sum, times-times, times_swapped}
+use Rattle.exact_fraction.proofs.Products.{eq_of_times-eq-times, times-times, times_swapped}
 use Rattle.exact_fraction.proofs.Quoted.{ratio_tells}
 use Rattle.exact_fraction.proofs.Shares.{count_some}
 use Rattle.fact_records.specs.declared.shape.Kind.{Kind}
