@@ -10,7 +10,7 @@ use Rattle.cube_model.specs.declared.term.Term.{Term}
 use Rattle.cube_model.specs.Cells.{all_cells, cells_of, is_inside, leaf_places}
 use Rattle.cube_model.specs.Difference.{refreshed}
 use Rattle.cube_model.specs.Tree.{Dimension, is_leaf, is_under, leaves, parent, path}
-use Rattle.exact_fraction.specs.Number.{gcd, greatest_to}
+use Rattle.exact_fraction.specs.Number.{gcd, greatest_to, lcm}
 use Rattle.exact_fraction.specs.One.{one_of}
 use Rattle.fact_records.specs.Judge.{judge}
 use Rattle.fact_records.specs.Shape.{ShapeValue}
@@ -113,7 +113,7 @@ tally-of-one = rw (judged, is-new) refl
 
 -- the line
 text-of-one : line_of_tally 1 tally_of_one ≡ line_of_one
-unfolding one_of gcd greatest_to digits term_of_one row_of_one
+unfolding one_of gcd greatest_to lcm digits term_of_one row_of_one
 text-of-one = rw (terms-of-one, rows-of-one) refl
 
 pub line-of-one : summary_of 1 ≡ line_of_one

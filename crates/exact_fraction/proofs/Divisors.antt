@@ -1,11 +1,13 @@
 -- Greatest common divisors and least common multiples.
-use Rattle.std.proofs.Common.{◌≡◌, ℕ, zero, suc, ◌-◌, ◌*◌, ◌/◌, ◌%◌, ◌<◌, ◌≤◌, Bool, true, false, Option, Some, None, ◌&&◌, refl, sym, ap, ◌∙◌, inl, inr, arith}
+use Rattle.std.proofs.Common.{◌≡◌, ℕ, zero, suc, ◌+◌, ◌-◌, ◌*◌, ◌/◌, ◌%◌, ◌<◌, ◌≤◌, Bool, true, false, Option, Some, None, ◌&&◌, refl, sym, ap, ◌∙◌, inl, inr, arith}
+use Rattle.std.specs.Prelude.{unwrap_or}
 use Rattle.std.specs.Int.{IsGcd, ◌∣◌}
+use Rattle.std.specs.List.{find, range_with_len}
 use Rattle.std.proofs.lemmas.Bool.{cases_lt}
 use Rattle.std.proofs.lemmas.Bool.Decides.{nat_tests}
 use Rattle.std.proofs.lemmas.Nat.{le-div}
 use Rattle.std.proofs.lemmas.Nat.Gcd.{dvd_refl, dvd-zero, dvd_trans, dvd_antisymm, le_of_dvd, dvd_of_mod-eq-zero, mod-eq-zero_of_dvd, IsGcd-from_zero, IsGcd-swap, IsGcd-from_mod, same_from_IsGcd, le_from_IsGcd}
-use Rattle.std.proofs.Math.Nat.{mod-eq-sub-mul-div, mul-div-mul_left, mul-sub, mul-zero, mul-one, mul_assoc, dvd-mul_left, dvd-mul_right, pos_of_dvd_of_pos, mul-div_cancel', mul-pos, mul-dvd-mul_left, div-le_of_le-mul, eq_of_mul-eq-mul_left, dvd_of_mul-dvd-mul_left, div-le_of_le-mul, one-dvd}
+use Rattle.std.proofs.Math.Nat.{mod-eq-sub-mul-div, mul-div-mul_left, mul-sub, mul-zero, zero-mul, mul-one, mul_assoc, dvd-mul_left, dvd-mul_right, pos_of_dvd_of_pos, mul-div_cancel', mul-pos, mul-dvd-mul_left, div-le_of_le-mul, eq_of_mul-eq-mul_left, dvd_of_mul-dvd-mul_left, div-le_of_le-mul, one-dvd}
 use Rattle.exact_fraction.specs.Number.{greatest_to, divides, gcd, lcm}
 
 -- a remainder scales with both numbers
@@ -35,6 +37,10 @@ euclid (suc most) a b le = elim (cases_lt 0 b) [
   | inr none ↦ at_zero a b (omega arith)
 ]
 
+not_true : (b : Bool) → (b ≡ true → ⊥) → b ≡ false
+not_true true never = absurd (never refl)
+not_true false never = refl
+
 -- the greatest number that passes
 greatest_is : (passes : ℕ → Bool) (n g : ℕ) → 1 ≤ g → g ≤ n → passes g ≡ true → ((d : ℕ) → passes d ≡ true → d ≤ g) → greatest_to passes n ≡ g
 unfolding greatest_to
@@ -48,21 +54,30 @@ greatest_is passes (suc n) g some le passed most = elim (cases_lt n g) [
       let here : passes (suc n) ≡ false = not_true (passes (suc n)) (λ above. omega (arith, most (suc n) above)) in
       rw here (greatest_is passes n g some lower passed most)
 ]
-  where
-    not_true : (b : Bool) → (b ≡ true → ⊥) → b ≡ false
-    not_true true never = absurd (never refl)
-    not_true false never = refl
+
+-- the least number that passes, of n numbers from start
+least_is : (passes : ℕ → Bool) (start n m : ℕ) → start ≤ m → m < start + n → passes m ≡ true → ((k : ℕ) → start ≤ k → passes k ≡ true → m ≤ k) → find passes (range_with_len start n) ≡ Some m
+least_is passes start zero m from below passed least = absurd (omega arith)
+least_is passes start (suc n) m from below passed least = elim (cases_lt start m) [
+  | inl lt ↦
+      let here : passes start ≡ false = not_true (passes start) (λ before. omega (arith, least start (omega arith) before)) in
+      rw here (least_is passes (start + 1) n m (omega arith) (omega arith) passed (λ k from_k passed_k. least k (omega arith) passed_k))
+  | inr first ↦
+      let same : m ≡ start = omega arith in
+      let here : passes start ≡ true = rw (← same) passed in
+      rw here (ap Some (sym same))
+]
 
 -- a test for divisors says which they are
-both_divide : (a b d : ℕ) → (divides d a && divides d b) ≡ true → (d ∣ a) × (d ∣ b)
-both_divide a b d both =
-    let left : a % d ≡ 0 = grind (arith, nat_tests) in
-    let right : b % d ≡ 0 = grind (arith, nat_tests) in
-    (dvd_of_mod-eq-zero d left, dvd_of_mod-eq-zero d right)
+both_divide : (c d m n : ℕ) → (divides c m && divides d n) ≡ true → (c ∣ m) × (d ∣ n)
+both_divide c d m n both =
+    let left : m % c ≡ 0 = grind (arith, nat_tests) in
+    let right : n % d ≡ 0 = grind (arith, nat_tests) in
+    (dvd_of_mod-eq-zero c left, dvd_of_mod-eq-zero d right)
 
-test_of : (a b d : ℕ) → d ∣ a → d ∣ b → (divides d a && divides d b) ≡ true
-test_of a b d left right =
-    let left_rest = mod-eq-zero_of_dvd d left in
+test_of : (c d m n : ℕ) → c ∣ m → d ∣ n → (divides c m && divides d n) ≡ true
+test_of c d m n left right =
+    let left_rest = mod-eq-zero_of_dvd c left in
     let right_rest = mod-eq-zero_of_dvd d right in
     grind (arith, nat_tests)
 
@@ -71,8 +86,8 @@ pub gcd_unique : (a b g : ℕ) → 1 ≤ b → IsGcd a b g → gcd a b ≡ g
 unfolding gcd
 gcd_unique a b g some is =
     let above : 0 < g = pos_of_dvd_of_pos is.1 (omega arith) in
-    greatest_is (λ d. divides d a && divides d b) b g (omega arith) (le_of_dvd (omega arith) is.1) (test_of a b g is.0 is.1)
-    (λ d both. let parts = both_divide a b d both in le_from_IsGcd a b g d is above parts.0 parts.1)
+    greatest_is (λ d. divides d a && divides d b) b g (omega arith) (le_of_dvd (omega arith) is.1) (test_of g g a b is.0 is.1)
+    (λ d both. let parts = both_divide d d a b both in le_from_IsGcd a b g d is above parts.0 parts.1)
 
 -- Euclid's steps, at most so many: they compute where the search is too long
 unfoldable pub by_steps : ℕ → ℕ → ℕ → Option ℕ
@@ -141,17 +156,30 @@ apart-product a b c left right = (
       left.2 d in_a (dvd_of_apart d c b apart in_product),
 )
 
--- the least common multiple divides every common multiple
+-- a common multiple that divides every common multiple
 pub record IsLcm (a b m : ℕ) : Type 0 where
   pub left : a ∣ m
   pub right : b ∣ m
   pub least : (k : ℕ) → a ∣ k → b ∣ k → m ∣ k
 
-pub lcm_unique : (a b m n : ℕ) → IsLcm a b m → IsLcm a b n → m ≡ n
-lcm_unique a b m n first second = dvd_antisymm (first.least n second.left second.right) (second.least m first.left first.right)
+same_from_IsLcm : (a b m n : ℕ) → IsLcm a b m → IsLcm a b n → m ≡ n
+same_from_IsLcm a b m n first second = dvd_antisymm (first.least n second.left second.right) (second.least m first.left first.right)
 
-pub lcm-is : (a b : ℕ) → 1 ≤ b → IsLcm a b (lcm a b)
-lcm-is a b some =
+-- the least common multiple is the one that divides every common multiple
+pub lcm_unique : (a b m : ℕ) → 1 ≤ a → 1 ≤ b → IsLcm a b m → lcm a b ≡ m
+unfolding lcm
+lcm_unique a b m some_a some_b is =
+    let product : 0 < a * b = mul-pos some_a some_b in
+    let in_product : m ∣ a * b = is.least (a * b) (dvd-mul_right a b) (dvd-mul_left b a) in
+    let above : 1 ≤ m = pos_of_dvd_of_pos in_product product in
+    let below : m < 1 + a * b = omega (arith, le_of_dvd product in_product) in
+    ap (λ found. unwrap_or found 0)
+    (least_is (λ k. divides a k && divides b k) 1 (a * b) m above below (test_of a b m m is.left is.right)
+    (λ k from both. let parts = both_divide a b k k both in le_of_dvd from (is.least k parts.0 parts.1)))
+
+-- one number times what the greatest common divisor leaves of the other
+product-is : (a b : ℕ) → 1 ≤ b → IsLcm a b (a * (b / gcd a b))
+product-is a b some =
     let g = gcd a b in
     let is = gcd-is a b some in
     let above : 0 < g = gcd_some a b some in
@@ -174,6 +202,19 @@ lcm-is a b some =
     factors : (g x y a k : ℕ) → g * y ≡ a → a * x ≡ k → g * (x * y) ≡ k
     factors g x y a k a_is k_is = rw (← k_is, ← a_is) (omega arith)
 
+-- so it is that product
+pub lcm-product : (a b : ℕ) → 1 ≤ b → lcm a b ≡ a * (b / gcd a b)
+unfolding lcm
+lcm-product zero b some = rw (zero-mul b, zero-mul (b / gcd zero b)) refl
+lcm-product (suc a) b some = lcm_unique (suc a) b (suc a * (b / gcd (suc a) b)) (omega arith) some (product-is (suc a) b some)
+
+-- with the divisor that Euclid's steps find
+pub lcm_by : (a b g : ℕ) → 1 ≤ b → by_steps 200 a b ≡ Some g → lcm a b ≡ a * (b / g)
+lcm_by a b g some found = lcm-product a b some ∙ ap (λ d. a * (b / d)) (gcd_by a b g some found)
+
+pub lcm-is : (a b : ℕ) → 1 ≤ b → IsLcm a b (lcm a b)
+lcm-is a b some = rw (lcm-product a b some) (product-is a b some)
+
 pub lcm_some : (a b : ℕ) → 1 ≤ a → 1 ≤ b → 1 ≤ lcm a b
 lcm_some a b some_a some_b =
     pos_of_dvd_of_pos ((lcm-is a b some_b).least (a * b) (dvd-mul_right a b) (dvd-mul_left b a)) (mul-pos some_a some_b)
@@ -186,17 +227,17 @@ pub lcm-le : (a b : ℕ) → 1 ≤ a → 1 ≤ b → b ≤ lcm a b
 lcm-le a b some_a some_b = le_of_dvd (lcm_some a b some_a some_b) (lcm-is a b some_b).right
 
 pub lcm-one : (a : ℕ) → lcm a 1 ≡ a
-lcm-one a = lcm_unique a 1 (lcm a 1) a (lcm-is a 1 (omega arith)) (record { left = dvd_refl a; right = one-dvd a; least = λ k in_a in_one. in_a })
+lcm-one a = same_from_IsLcm a 1 (lcm a 1) a (lcm-is a 1 (omega arith)) (record { left = dvd_refl a; right = one-dvd a; least = λ k in_a in_one. in_a })
 
 pub one-lcm : (b : ℕ) → 1 ≤ b → lcm 1 b ≡ b
-one-lcm b some = lcm_unique 1 b (lcm 1 b) b (lcm-is 1 b some) (record { left = one-dvd b; right = dvd_refl b; least = λ k in_one in_b. in_b })
+one-lcm b some = same_from_IsLcm 1 b (lcm 1 b) b (lcm-is 1 b some) (record { left = one-dvd b; right = dvd_refl b; least = λ k in_one in_b. in_b })
 
 pub lcm_assoc : (a b c : ℕ) → 1 ≤ b → 1 ≤ c → lcm (lcm a b) c ≡ lcm a (lcm b c)
 lcm_assoc a b c some_b some_c =
     let first = lcm-is a b some_b in
     let both = lcm-is (lcm a b) c some_c in
     let last = lcm-is b c some_c in
-    lcm_unique a (lcm b c) (lcm (lcm a b) c) (lcm a (lcm b c))
+    same_from_IsLcm a (lcm b c) (lcm (lcm a b) c) (lcm a (lcm b c))
     (record {
       left = dvd_trans a first.left both.left;
       right = last.least (lcm (lcm a b) c) (dvd_trans b first.right both.left) both.right;

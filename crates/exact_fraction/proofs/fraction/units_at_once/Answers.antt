@@ -1,4 +1,3 @@
-use Rattle.std.proofs.Common.{◌≡◌, ◌+◌, ◌*◌, ◌/◌, ◌%◌}
 use Rattle.exact_fraction.specs.Fraction.{UNIT}
 use Rattle.exact_fraction.proofs.Places.{units_at_once, units_below}
 use Rattle.exact_fraction.proofs.fraction.units_at_once.Goals as goal

@@ -1,6 +1,6 @@
 use Rattle.std.proofs.Common.{[], ◌∷◌, refl}
 use Rattle.std.proofs.lemmas.List.Elements.{All-cons, All-nil}
-use Rattle.exact_fraction.specs.Number.{greatest_to, gcd}
+use Rattle.exact_fraction.specs.Number.{greatest_to, gcd, lcm}
 use Rattle.exact_fraction.specs.Ratio.{ratio_of}
 use Rattle.fact_records.specs.Outcomes.{AddsUp, AddsUpAtEach}
 use Rattle.linear_pool.specs.Examples.{first_of_two, second_of_two, three_parts, two_measures, two_parts}
@@ -18,7 +18,7 @@ three_add_up =
 
 -- the definitions compute it
 pub returns : goal.returns
-unfolding greatest_to gcd ratio_of
+unfolding greatest_to gcd lcm ratio_of
 returns c =
     let P = AddsUpAtEach two_measures in
     record {
