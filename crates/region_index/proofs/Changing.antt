@@ -1,9 +1,9 @@
 -- What changes make of the ids at a code: which are there then, that they ascend, and where nothing changes.
-use Rattle.std.proofs.Common.{◌≡◌, ℕ, ◌+◌, ◌<◌, ◌≤◌, Bool, true, false, List, [], ◌∷◌, ◌++◌, length, map, filter, not, take, get_or, eqb, cond, inl, inr, ◌⊎◌, refl, sym, ap, ◌∙◌, arith}
-use Rattle.std.specs.Prelude.{◌&&◌, ◌||◌, ◌==◌, if◌then◌else◌, nat_lt, Option, Some, None, unwrap_or}
+use Rattle.std.proofs.Common.{◌≡◌, ℕ, ◌+◌, ◌<◌, ◌≤◌, Bool, true, false, List, [], ◌∷◌, ◌++◌, length, map, filter, not, take, get_or, eqb, cond, inl, inr, ◌⊎◌, refl, sym, ap, subst, ◌∙◌, true≢false, arith}
+use Rattle.std.specs.Prelude.{◌&&◌, ◌||◌, ◌==◌, if◌then◌else◌, nat_lt, IfSome, Option, Some, None, is_some, unwrap_or}
 use Rattle.std.specs.Cmp.{nat_eq_equiv}
 use Rattle.std.specs.List.{IsDistinct, list_any}
-use Rattle.std.specs.Option.{option_map_or}
+use Rattle.std.specs.Option.{option_flatten, option_map_or}
 use Rattle.std.proofs.lemmas.Bool.Decides.{nat_tests}
 use Rattle.std.proofs.lemmas.List.{map-append}
 use Rattle.std.proofs.lemmas.List.Elements.{filter_more}
@@ -13,9 +13,9 @@ use Rattle.std.proofs.lemmas.Map.Views.{any-filter_same}
 use Rattle.cube_model.specs.Ascending.{ascends_from}
 use Rattle.cube_model.specs.Cells.{is_among}
 use Rattle.cube_model.proofs.Ascending.{AscendsFrom, ascends_cons, ascends_filter, ascends_first, ascends_later, same_members}
-use Rattle.staged_map.specs.Staged.{Entries, Places, PutsAll, Reserves, ReservesSome, staged_entry, value_at}
+use Rattle.staged_map.specs.Staged.{Entries, Places, PutsAll, Reserves, ReservesSome, has_place, staged_entry, value_at}
 use Rattle.staged_map.proofs.Entries.{have_places-reserved, keys_of-made, staged_entry-made}
-use Rattle.region_index.specs.Changes.{Applies, AreByCode, IsStagedFor, IsUnchanged, Pair, Staging, changed_entry, entry_ids, ids_after, is_named, some_ids, staging, with_id, with_puts, without}
+use Rattle.region_index.specs.Changes.{Applies, AreByCode, HavePlacesForIds, IsStagedFor, IsStaging, IsUnchanged, Pair, Staging, changed_entry, entry_ids, ids_after, is_named, names, some_ids, staging, with_id, with_puts, without}
 use Rattle.region_index.specs.Content.{AreAscending, Content, IsContent, ids_at}
 use Rattle.region_index.proofs.Ascent.{filters-above}
 
@@ -170,7 +170,41 @@ pub IsUnchanged-same : {V : Type 0} (places : Places V) → IsUnchanged places p
 IsUnchanged-same places = record { values = λ code. refl; places = λ code there. there }
 
 pub IsContent-unchanged : (old new : Content) → IsUnchanged old new → IsContent old → IsContent new
-IsContent-unchanged old new same is code = rw (same.values code) (is code)
+IsContent-unchanged old new same is = record {
+  ascending = λ code. rw (same.values code) (is.ascending code);
+  some = λ code. rw (same.values code) (is.some code);
+}
+
+-- ids that are held as some are so
+some_ids-some : (ids : List ℕ) → IfSome (some_ids ids) (λ some. 0 < length some)
+some_ids-some [] = tt
+some_ids-some (id ∷ ids) = omega arith
+
+-- what is staged for a code that is among these
+staged_entry-staging : (content : Content) (codes : List ℕ) (puts drops : List Pair) (code : ℕ)
+    → staged_entry (staging content codes puts drops).entries code ≡ cond (is_among codes code) (Some (some_ids (ids_after puts drops code (ids_at content code)))) None
+staged_entry-staging content codes puts drops code =
+    staged_entry-made (λ code. some_ids (ids_after puts drops code (ids_at content code))) codes code
+    ∙ ap (λ b. cond b (Some (some_ids (ids_after puts drops code (ids_at content code)))) None) (any-flip codes code)
+
+-- entries for all codes that the changes name leave none of these out, and set no list without ids
+pub IsStaging-made : (content : Content) (codes : List ℕ) (puts drops : List Pair) (stage : Staging) → stage ≡ staging content codes puts drops
+    → ((code : ℕ) → is_among codes code ≡ names (puts ++ drops) code) → IsStaging stage
+IsStaging-made content codes puts drops stage is names_are = rw is (record {
+  named = λ code named. named_at code (names_are code ∙ named);
+  some = λ code. some_at code (is_among codes code) (staged_entry-staging content codes puts drops code);
+})
+  where
+    set : ℕ → Option (List ℕ)
+    set code = some_ids (ids_after puts drops code (ids_at content code))
+
+    named_at : (code : ℕ) → is_among codes code ≡ true → is_some (staged_entry (staging content codes puts drops).entries code) ≡ true
+    named_at code among = ap is_some (staged_entry-staging content codes puts drops code ∙ ap (λ b. cond b (Some (set code)) None) among)
+
+    some_at : (code : ℕ) (b : Bool) → staged_entry (staging content codes puts drops).entries code ≡ cond b (Some (set code)) None
+        → IfSome (option_flatten (staged_entry (staging content codes puts drops).entries code)) (λ ids. 0 < length ids)
+    some_at code true entry = subst (λ e. IfSome (option_flatten e) (λ ids. 0 < length ids)) (sym entry) (some_ids-some (ids_after puts drops code (ids_at content code)))
+    some_at code false entry = subst (λ e. IfSome (option_flatten e) (λ ids. 0 < length ids)) (sym entry) tt
 
 -- what was staged for all codes that the changes name is staged for the content
 pub IsStagedFor-reserved : (old new : Content) (codes : List ℕ) (puts drops : List Pair) → AreAscending codes
@@ -188,7 +222,7 @@ IsStagedFor-reserved old new codes puts drops ascends named reserves = record {
     ids_same code = ap (λ ids. unwrap_or ids []) (reserves.values code)
 
     entry : (code : ℕ) → staged_entry (staging old codes puts drops).entries code ≡ cond (is_among codes code) (Some (value code)) None
-    entry code = staged_entry-made value codes code ∙ ap (λ b. cond b (Some (value code)) None) (any-flip codes code)
+    entry code = staged_entry-staging old codes puts drops code
 
     makes : (code : ℕ) (b : Bool) → is_among codes code ≡ b → option_map_or entry_ids (staged_entry (staging old codes puts drops).entries code) (ids_at old code) ≡ ids_after puts drops code (ids_at old code)
     makes code true is = ap (λ e. option_map_or entry_ids e (ids_at old code)) (entry code ∙ ap (λ b. cond b (Some (value code)) None) is) ∙ entry_ids-held (ids_after puts drops code (ids_at old code))
@@ -206,16 +240,38 @@ Applies-put old new stage staged puts = record {
   ids = λ code. ap (λ ids. unwrap_or ids []) (puts.values code) ∙ ids_at-put (staged_entry stage.entries code) (value_at old code) ∙ staged.makes code;
 }
 
--- and the ids ascend after as before
-pub IsContent-applied : (old new : Content) (puts drops : List Pair) → IsContent old → Applies old new puts drops → IsContent new
-IsContent-applied old new puts drops is applies code = rw (applies.ids code) (ascends-after puts drops code (ids_at old code) (is code))
+-- an entry that sets no list without ids leaves none where none was
+some-put : (entry : Option (Option (List ℕ))) (was : Option (List ℕ)) → IfSome (option_flatten entry) (λ ids. 0 < length ids) → IfSome was (λ ids. 0 < length ids) → IfSome (unwrap_or entry was) (λ ids. 0 < length ids)
+some-put None was sets held = held
+some-put (Some ids) was sets held = sets
 
-pub IsContent-installed : (inside old new : Content) (entries : Entries (List ℕ)) (stage : Staging) → inside ≡ old → entries ≡ stage.entries → IsContent inside → IsStagedFor old stage
+-- so the ids ascend after as before, and no list without ids is kept
+IsContent-put : (old new : Content) (stage : Staging) → IsContent old → IsStaging stage → IsStagedFor old stage → PutsAll old new stage.entries → IsContent new
+IsContent-put old new stage is made staged puts = record {
+  ascending = λ code. rw ((Applies-put old new stage staged puts).ids code) (ascends-after stage.puts stage.drops code (ids_at old code) (is.ascending code));
+  some = λ code. rw (puts.values code) (some-put (staged_entry stage.entries code) (value_at old code) (made.some code) (is.some code));
+}
+
+pub IsContent-installed : (inside old new : Content) (entries : Entries (List ℕ)) (stage : Staging) → inside ≡ old → entries ≡ stage.entries → IsContent inside → IsStaging stage → IsStagedFor old stage
     → PutsAll inside new entries → IsContent new
-IsContent-installed inside old new entries stage same entries_are is staged puts =
+IsContent-installed inside old new entries stage same entries_are is made staged puts =
     let put : PutsAll old new stage.entries = rw (same, entries_are) at puts in
     let was : IsContent old = rw same at is in
-    IsContent-applied old new stage.puts stage.drops was (Applies-put old new stage staged put)
+    IsContent-put old new stage was made staged put
+
+-- where an entry was put, there is a place exactly where ids are held
+placed-put : (entry : Option (Option (List ℕ))) (was : Option (List ℕ)) (place : Bool) → is_some entry ≡ true → IfSome (option_flatten entry) (λ ids. 0 < length ids)
+    → option_map_or is_some entry place ≡ nat_lt 0 (length (unwrap_or (unwrap_or entry was) []))
+placed-put None was place named sets = absurd (true≢false (sym named))
+placed-put (Some None) was place named sets = refl
+placed-put (Some (Some ids)) was place named sets = grind (arith, nat_tests, sets)
+
+pub HavePlacesForIds-installed : (inside new : Content) (entries : Entries (List ℕ)) (stage : Staging) → entries ≡ stage.entries → IsStaging stage → PutsAll inside new entries → HavePlacesForIds new (stage.puts ++ stage.drops)
+HavePlacesForIds-installed inside new entries stage entries_are made puts code named =
+    let put : PutsAll inside new stage.entries = rw entries_are at puts in
+    put.places code
+    ∙ placed-put (staged_entry stage.entries code) (value_at inside code) (has_place inside code) (made.named code named) (made.some code)
+    ∙ sym (ap (λ ids. nat_lt 0 (length (unwrap_or ids []))) (put.values code))
 
 -- the members of a list that is kept in part, with more behind it
 pub among-kept : (ids kept put all changed : List ℕ) (dropped : List ℕ) → kept ≡ filter (λ id. not (is_among dropped id)) ids → all ≡ kept ++ put → ((id : ℕ) → is_among changed id ≡ is_among all id)

@@ -1,9 +1,9 @@
 -- What changes of the facts' regions make of the ids at a code.
-use Rattle.std.specs.Prelude.{◌≡◌, ℕ, Bool, true, List, [], ◌∷◌, ◌++◌, filter, map, not, nat_lt, ◌&&◌, ◌==◌, if◌then◌else◌, Option, Some, None, unwrap_or}
+use Rattle.std.specs.Prelude.{◌≡◌, ℕ, ◌<◌, Bool, true, List, [], ◌∷◌, ◌++◌, filter, length, map, not, nat_lt, ◌&&◌, ◌==◌, if◌then◌else◌, IfSome, Option, Some, None, is_some, unwrap_or}
 use Rattle.std.specs.List.{list_any}
-use Rattle.std.specs.Option.{option_map_or}
+use Rattle.std.specs.Option.{option_flatten, option_map_or}
 use Rattle.staged_map.specs.Staged.{AreOfDifferentKeys, Entries, Places, has_place, have_places, staged_entry, value_at}
-use Rattle.region_index.specs.Content.{Content, ids_at}
+use Rattle.region_index.specs.Content.{Content, holds_ids, ids_at}
 
 -- a change: an id that is put at a code, or taken away there
 abbrev pub Pair : Type 0
@@ -57,6 +57,15 @@ staging content codes puts drops = record {
 pub record AreByCode (groups : Content) (pairs : List Pair) : Type 0 where
   pub ids : (code : ℕ) → ids_at groups code ≡ map (λ pair. pair.1) (filter (λ pair. pair.0 == code) pairs)
 
+-- a change names the code
+abbrev pub names : List Pair → ℕ → Bool
+names pairs code = list_any (λ pair. pair.0 == code) pairs
+
+-- There is an entry for each code that the changes name, and an entry sets no list without ids.
+pub record IsStaging (stage : Staging) : Type 0 where
+  pub named : (code : ℕ) → names (stage.puts ++ stage.drops) code ≡ true → is_some (staged_entry stage.entries code) ≡ true
+  pub some : (code : ℕ) → IfSome (option_flatten (staged_entry stage.entries code)) (λ ids. 0 < length ids)
+
 -- what an entry leaves at its code
 abbrev pub entry_ids : Option (List ℕ) → List ℕ
 entry_ids entry = unwrap_or entry []
@@ -71,6 +80,10 @@ pub record IsStagedFor (content : Content) (stage : Staging) : Type 0 where
 pub record IsUnchanged {V : Type 0} (old new : Places V) : Type 0 where
   pub values : (code : ℕ) → value_at new code ≡ value_at old code
   pub places : (code : ℕ) → has_place old code ≡ true → has_place new code ≡ true
+
+-- a code that the changes name has a place exactly where ids are held there
+abbrev pub HavePlacesForIds : Content → List Pair → Type 0
+HavePlacesForIds content changes = (code : ℕ) → names changes code ≡ true → has_place content code ≡ holds_ids content code
 
 -- each code has what the changes make of what it had
 pub record Applies (old new : Content) (puts drops : List Pair) : Type 0 where

@@ -1,5 +1,5 @@
 -- The ids that an index holds, by the code of a region.
-use Rattle.std.specs.Prelude.{◌≡◌, ℕ, Bool, true, List, [], filter, length, nat_lt, unwrap_or}
+use Rattle.std.specs.Prelude.{◌≡◌, ℕ, ◌<◌, Bool, true, List, [], IfSome, filter, length, nat_lt, unwrap_or}
 use Rattle.std.specs.List.{list_any}
 use Rattle.cube_model.specs.Ascending.{ascends_from}
 use Rattle.cube_model.specs.Cells.{is_among}
@@ -25,9 +25,10 @@ held_codes content codes = filter (holds_ids content) codes
 abbrev pub AreAscending : List ℕ → Type 0
 AreAscending ids = ascends_from (λ id. id) 0 ids ≡ true
 
--- the ids at each code ascend
-abbrev pub IsContent : Content → Type 0
-IsContent content = (code : ℕ) → AreAscending (ids_at content code)
+-- the ids at each code ascend, and a list that is kept at a code has an id
+pub record IsContent (content : Content) : Type 0 where
+  pub ascending : (code : ℕ) → AreAscending (ids_at content code)
+  pub some : (code : ℕ) → IfSome (value_at content code) (λ ids. 0 < length ids)
 
 -- an id stands at one of these codes
 abbrev pub is_at_one : Content → List ℕ → ℕ → Bool

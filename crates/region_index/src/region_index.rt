@@ -1,8 +1,8 @@
 //! The index of the imprecise facts.
-ghost use Rattle.std.specs.Prelude.{◌≡◌, ◌+◌, ◌<◌, ◌≤◌, ◌||◌, ◌&&◌, ℕ, List, [], IfOk, OnErr, length, map, not};
+ghost use Rattle.std.specs.Prelude.{◌≡◌, ◌+◌, ◌<◌, ◌≤◌, ◌||◌, ◌&&◌, ◌++◌, ℕ, List, [], IfOk, OnErr, length, map, not};
 ghost use Rattle.cube_model.specs.Cells.{all_cells, is_among};
 ghost use Rattle.region_index.specs.Content.{AreAscending, AreIdsAt, held_codes, ids_at};
-ghost use Rattle.region_index.specs.Changes.{Applies, AreByCode, IsStagedFor, IsUnchanged, Pair, changed_entry, some_ids, staging};
+ghost use Rattle.region_index.specs.Changes.{Applies, AreByCode, HavePlacesForIds, IsStagedFor, IsUnchanged, Pair, changed_entry, names, some_ids, staging};
 ghost use Rattle.region_index.specs.Over.{codes_over};
 ghost use Rattle.region_index.specs.Patterns.{HasPatterns, patterns_in_use};
 
@@ -30,15 +30,17 @@ pub struct RegionStage {
 }
 
 impl Model for RegionStage {
-    ghost use Rattle.region_index.specs.Changes.{Staging};
+    ghost use Rattle.region_index.specs.Changes.{IsStaging, Staging};
 
     ghost Value = { Staging };
 
     ghost view = { λ s. record { puts = s.puts; drops = s.drops; entries = s.entries.items } };
+
+    ghost invariant = { λ s. IsStaging (record { puts = s.puts; drops = s.drops; entries = s.entries.items }) };
 }
 
-/// The ids of the imprecise facts by the code of their region. A code without ids takes no room. Contracts see the
-/// codes with their ids, as the places of the map beneath.
+/// The ids of the imprecise facts by the code of their region. No list without ids is kept: a code whose last id goes
+/// loses its place. Contracts see the codes with their ids, as the places of the map beneath.
 #[derive(Drop)]
 pub struct RegionIndex {
     ids: Staged<Ids>,
@@ -162,13 +164,14 @@ impl RegionIndex {
         Ok(stage)
     }
 
-    /// The changes, with the ids that they make at the codes.
+    /// The changes, with the ids that they make at the codes, which are those that they name.
     fn stage_at_codes(
         &self,
         codes: &[u64],
         puts: &[(u64, u64)],
         drops: &[(u64, u64)],
     ) -> Result<RegionStage, Memory>
+        requires { (code : ℕ) → is_among codes.now code ≡ names (puts.now ++ drops.now) code }
         ensures { IfOk result (λ stage. stage ≡ staging self.now codes.now puts.now drops.now) }
     {
         Ok(RegionStage {
@@ -231,10 +234,12 @@ impl RegionIndex {
         change_ids(self.alloc, at_code(&self.ids, code), put, &dropped)
     }
 
-    /// Carries out the changes. What is held is what they were staged for. It takes no memory.
+    /// Carries out the changes. What is held is what they were staged for, and a code that they name has no place where
+    /// no id is left. It takes no memory.
     pub fn install(&mut self, stage: RegionStage)
         requires { IsStagedFor self.old stage }
-        ensures { Applies self.old self.new stage.puts stage.drops }
+        ensures applies { Applies self.old self.new stage.puts stage.drops }
+        ensures places { HavePlacesForIds self.new (stage.puts ++ stage.drops) }
     {
         let RegionStage {
             puts: _puts,

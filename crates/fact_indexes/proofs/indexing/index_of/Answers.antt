@@ -6,4 +6,4 @@ use Rattle.fact_indexes.proofs.indexing.index_of.Goals as goal
 pub returns : goal.returns
 returns c =
     let placed = c.in_ok-stage.ensures.changes.0 ∙ c.deref.ensures.value ∙ c.in_ok-places.ensures in
-    Indexes-placed c.args.space.now c.args.facts.now.facts c.requires.ascending _ _ _ _ _ c.new-index.ensures c.stage.ensures.content placed c.install.ensures
+    Indexes-placed c.args.space.now c.args.facts.now.facts c.requires.ascending _ _ _ _ _ c.new-index.ensures c.stage.ensures.content placed c.install.ensures.applies

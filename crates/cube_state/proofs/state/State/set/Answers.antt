@@ -11,7 +11,7 @@ invariant_of-self g c =
     (record {
       edited = c.apply.ensures;
       stats = subst (Installs c.self.inside.stats c.install.new.self) c.as_slice.ensures c.install.ensures;
-      index = c.install-2.ensures;
+      index = c.install-2.ensures.applies;
       groups = subst (PutsAll c.self.inside.groups c.put_all.new.self) c.into_vec.ensures c.put_all.ensures;
       views = λ changes. c.install-3.ensures.after c.self.inside.space changes;
       rows = refl;
