@@ -110,7 +110,7 @@ impl<P: WeightPolicy + Drop> State<P> {
             &self.policy,
             &self.facts,
             &self.groups,
-            cuts,
+            cuts.as_slice(),
         )?;
         view.list_under(&self.space, r)
     }

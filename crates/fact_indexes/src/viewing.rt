@@ -20,7 +20,7 @@ use fact_records::{FactList, Shape};
 use region_algebra::Space;
 use staged_map::Staged;
 use std::alloc::Global;
-use view_store::{Depths, View, ViewChange, Views};
+use view_store::{Cuts, Depths, Share, View, ViewChange, Views};
 
 /// The views with the entries that facts make, of which these are the groups.
 pub(crate) fn views_of<P: WeightPolicy>(
@@ -55,34 +55,39 @@ pub fn view_of<P: WeightPolicy>(
     policy: &P,
     facts: &FactList,
     groups: &Staged<Group>,
-    cuts: Depths,
+    depths: &[u8],
 ) -> Result<View, Memory>
     requires valid { AreValid shape.now space.now facts.now.facts }
     requires groups { AreGroupsOf (policy_over (P.weigh policy.now) shape.now) shape.now space.now facts.now.facts groups.now }
-    requires cuts { length cuts ≡ length space.now }
-    ensures { IfOk result (IsCutView space.now cuts (width_of_all shape.now.measures + 1) (extended (policy_over (P.weigh policy.now) shape.now) space.now facts.now.facts)) }
+    requires cuts { length depths.now ≡ length space.now }
+    ensures { IfOk result (IsCutView space.now depths.now (width_of_all shape.now.measures + 1) (extended (policy_over (P.weigh policy.now) shape.now) space.now facts.now.facts)) }
 {
     let _ = space.dims();
-    let mut view = View::new(alloc, shape.columns(), cuts);
+    let own = Vec::from_slice(alloc, depths)?;
+    let mut view = View::new(alloc, shape.columns(), Depths::from(own));
+    let cuts = Cuts::for_many(alloc, space, depths, groups.count())?;
     for i in 0..groups.count() {
         if let Some((code, group)) = groups.at(i) {
-            put_group(&mut view, space, code, group)?;
+            put_group(&mut view, &cuts, code, group)?;
         }
     }
     Ok(view)
 }
 
-/// Puts the facts of the group of a region to those of a view. No row is copied.
-fn put_group(view: &mut View, space: &Space, code: u64, group: &Group) -> Result<(), Memory>
-    requires view { IsViewOf space.now view.old }
-    requires code { code < region_total space.now }
-    requires fits { FitsView space.now (group_change true (region_at space.now code) group.now ∷ []) view.old }
-    ensures { OnOk result (AddsFacts space.now (group_change true (region_at space.now code) group.now) view.old view.new) }
+/// Puts the facts of the group of a region to those of a view.
+fn put_group(view: &mut View, cuts: &Cuts, code: u64, group: &Group) -> Result<(), Memory>
+    requires cuts { cuts.now.depths ≡ view.old.depths }
+    requires view { IsViewOf cuts.now.dims view.old }
+    requires code { code < region_total cuts.now.dims }
+    requires fits { FitsView cuts.now.dims (group_change true (region_at cuts.now.dims code) group.now ∷ []) view.old }
+    ensures { OnOk result (AddsFacts cuts.now.dims (group_change true (region_at cuts.now.dims code) group.now) view.old view.new) }
 {
-    let Some(region) = space.uncode(code) else {
-        unreachable!()
+    let share = Share {
+        facts: group.members,
+        den: group.spread.den(),
+        cols: group.sums,
     };
-    view.put(space, &change_of(true, region, group)?)
+    view.put(cuts, code, &share, group.spread.rows())
 }
 
 /// The changes that put the groups that there are at these codes. No row is copied.

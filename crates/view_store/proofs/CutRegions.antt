@@ -33,10 +33,22 @@ pub record IsLifted (dims : List Dimension) (depths leaves nodes : List ℕ) : T
   pub cuts : is_in_cuts dims depths nodes ≡ true
   pub inside : is_inside dims nodes leaves ≡ true
 
+pub lifted-cons : (dim : Dimension) (dims : List Dimension) (depth : ℕ) (depths : List ℕ) (leaf node : ℕ) (leaves nodes : List ℕ) → IsCutNode dim depth leaf node → IsLifted dims depths leaves nodes → IsLifted (dim ∷ dims) (depth ∷ depths) (leaf ∷ leaves) (node ∷ nodes)
+unfolding is_inside
+lifted-cons dim dims depth depths leaf node leaves nodes here rest = record {
+  region = together (grind (arith, nat_tests, here.within)) rest.region;
+  cuts = together here.in_cut rest.cuts;
+  inside = together here.over rest.inside;
+}
+
+pub lifted-none : IsLifted [] [] [] []
+unfolding is_inside
+lifted-none = record { region = refl; cuts = refl; inside = refl }
+
 pub lifted : (dims : List Dimension) (depths leaves nodes : List ℕ) → length depths ≡ length dims → length leaves ≡ length dims → length nodes ≡ length dims
     → AreLifted dims depths leaves nodes (length dims) → IsLifted dims depths leaves nodes
 unfolding is_inside
-lifted [] [] [] [] a b c are = record { region = refl; cuts = refl; inside = refl }
+lifted [] [] [] [] a b c are = lifted-none
 lifted [] (depth ∷ depths) leaves nodes a b c are = absurd (omega arith)
 lifted [] [] (leaf ∷ leaves) nodes a b c are = absurd (omega arith)
 lifted [] [] [] (node ∷ nodes) a b c are = absurd (omega arith)
@@ -44,13 +56,7 @@ lifted (dim ∷ dims) [] leaves nodes a b c are = absurd (omega arith)
 lifted (dim ∷ dims) (depth ∷ depths) [] nodes a b c are = absurd (omega arith)
 lifted (dim ∷ dims) (depth ∷ depths) (leaf ∷ leaves) [] a b c are = absurd (omega arith)
 lifted (dim ∷ dims) (depth ∷ depths) (leaf ∷ leaves) (node ∷ nodes) a b c are =
-    let here : IsCutNode dim depth leaf node = are.each 0 (omega arith) in
-    let rest = lifted dims depths leaves nodes (omega (arith, a)) (omega (arith, b)) (omega (arith, c)) (record { each = λ d lt. are.each (suc d) (omega arith) }) in
-    record {
-      region = together (grind (arith, nat_tests, here.within)) rest.region;
-      cuts = together here.in_cut rest.cuts;
-      inside = together here.over rest.inside;
-    }
+    lifted-cons dim dims depth depths leaf node leaves nodes (are.each 0 (omega arith)) (lifted dims depths leaves nodes (omega (arith, a)) (omega (arith, b)) (omega (arith, c)) (record { each = λ d lt. are.each (suc d) (omega arith) }))
 
 -- one dimension more
 pub lifted-next : (dims : List Dimension) (depths leaves nodes : List ℕ) (d : ℕ) (dim : Dimension) (depth leaf node : ℕ) → AreLifted dims depths leaves nodes d

@@ -20,10 +20,11 @@ use Rattle.group_sum.specs.Terms.{AddsUnits, AreTerms, FitsUnits, TermList, are_
 use Rattle.group_sum.proofs.Ascending.{first_is}
 use Rattle.group_sum.proofs.MergeLaws.{merge_commutes, merge_nothing}
 use Rattle.staged_map.specs.Staged.{Places, Sets, value_at}
+use Rattle.view_store.specs.declared.change.Share.{Share}
 use Rattle.view_store.specs.declared.change.ViewChange.{ViewChange}
 use Rattle.view_store.specs.Changes.{IsChange, IsWithinWide}
-use Rattle.view_store.specs.Cuts.{HoldsCells, IsCodeOver}
-use Rattle.view_store.specs.Drafts.{AddsChange, AddsRow, AreOver, KeepsToView, draft_at, weight_at}
+use Rattle.view_store.specs.Cuts.{HoldsCells, HoldsRows, IsCodeOver}
+use Rattle.view_store.specs.Drafts.{AddsRow, AddsSpread, AreOver, IsSpread, KeepsToView, draft_at, share_of, weight_in}
 use Rattle.view_store.specs.Views.{AreEntries, IsEntry, IsOver, held_at, is_in_view, no_terms, region_at}
 use Rattle.view_store.proofs.Merges.{AreRegular}
 use Rattle.view_store.proofs.Shares.{AddsUnits-more, AddsUnits-none, FitsUnits-part}
@@ -110,18 +111,18 @@ weight-next cells rows j within =
 weight-most : (cells : List ℕ) (rows : List (ℕ × ℕ)) (j : ℕ) → weight_of_rows cells (take j rows) ≤ weight_of_rows cells rows
 weight-most cells rows j = omega (arith, ap (weight_of_rows cells) (take-append-drop j rows), weight-append cells (take j rows) (drop j rows))
 
--- The shares of the first rows of a change were added to the drafts.
-pub record HasRows (dims : List Dimension) (depths : List ℕ) (columns : ℕ) (entries : Places TermList) (change : ViewChange) (rows : List (ℕ × ℕ)) (old now : Places TermList) : Type 0 where
+-- The shares of the first rows of facts were added to the drafts.
+pub record HasRows (dims : List Dimension) (depths : List ℕ) (columns : ℕ) (entries : Places TermList) (share : Share) (rows : List (ℕ × ℕ)) (old now : Places TermList) : Type 0 where
   pub shares : (code : ℕ) → is_in_view dims depths code ≡ true
-      → AddsUnits (draft_at columns entries old code) (draft_at columns entries now code) change.den (weight_of_rows (cells_of dims (region_at dims code)) rows * change.facts) (weight_of_rows (cells_of dims (region_at dims code)) rows)
-      change.cols
+      → AddsUnits (draft_at columns entries old code) (draft_at columns entries now code) share.den (weight_of_rows (cells_of dims (region_at dims code)) rows * share.facts) (weight_of_rows (cells_of dims (region_at dims code)) rows)
+      share.cols
   pub keys : KeepsToView dims depths old now
   pub over : AreOver columns now
   pub whole : AreEntries columns old → AreEntries columns now
 
-pub HasRows-none : (dims : List Dimension) (depths : List ℕ) (columns : ℕ) (entries : Places TermList) (change : ViewChange) (now : Places TermList) → AreOver columns now → HasRows dims depths columns entries change [] now now
-HasRows-none dims depths columns entries change now over = record {
-  shares = λ code in_view. AddsUnits-none change.den (0 * change.facts) change.cols (draft_at columns entries now code) (omega arith);
+pub HasRows-none : (dims : List Dimension) (depths : List ℕ) (columns : ℕ) (entries : Places TermList) (share : Share) (now : Places TermList) → AreOver columns now → HasRows dims depths columns entries share [] now now
+HasRows-none dims depths columns entries share now over = record {
+  shares = λ code in_view. AddsUnits-none share.den (0 * share.facts) share.cols (draft_at columns entries now code) (omega arith);
   keys = λ code there. grind (arith, there);
   over = over;
   whole = λ are. are;
@@ -154,65 +155,65 @@ module _ (columns : ℕ) (entries : Places TermList) (code : ℕ) (old new : Pla
         rw (set-elsewhere k apart) (each k)
   ]
 
-  module _ (change : ViewChange) (weight : ℕ) (over : AreOver columns old) (are : AreTerms raised) where
-    is-over : AddsUnits held raised change.den (weight * change.facts) weight change.cols → IsOver columns raised
-    is-over share =
+  module _ (share : Share) (weight : ℕ) (over : AreOver columns old) (are : AreTerms raised) where
+    is-over : AddsUnits held raised share.den (weight * share.facts) weight share.cols → IsOver columns raised
+    is-over added =
         let was : IsOver columns held = rw is at (over code) in
-        record { columns_are = share.columns ∙ was.columns_are; are_terms = are }
+        record { columns_are = added.columns ∙ was.columns_are; are_terms = are }
 
-    raised-row : AddsUnits held raised change.den (weight * change.facts) weight change.cols → AddsRow columns entries change code weight old new
-    raised-row share = record {
+    raised-row : AddsUnits held raised share.den (weight * share.facts) weight share.cols → AddsRow columns entries share code weight old new
+    raised-row added = record {
       share =
           let before : draft_at columns entries old code ≡ held = ap (λ o. unwrap_or o (held_at columns entries code)) is in
           let behind : draft_at columns entries new code ≡ raised = ap (λ o. unwrap_or o (held_at columns entries code)) set-there in
-          rw (before, behind) share;
+          rw (before, behind) added;
       others = set-elsewhere;
-      over = set-each (IsOver columns) (is-over share) over;
+      over = set-each (IsOver columns) (is-over added) over;
     }
 
     -- a share that was added leaves a term
-    raised-entry : 1 ≤ weight → 1 ≤ change.facts → AddsUnits held raised change.den (weight * change.facts) weight change.cols → IsEntry columns raised
-    raised-entry some facts share = record { over = is-over share; some = by raised.terms refl }
+    raised-entry : 1 ≤ weight → 1 ≤ share.facts → AddsUnits held raised share.den (weight * share.facts) weight share.cols → IsEntry columns raised
+    raised-entry some facts added = record { over = is-over added; some = by raised.terms refl }
       where
-        counted : count_of raised.terms change.den ≡ count_of held.terms change.den + weight * change.facts
+        counted : count_of raised.terms share.den ≡ count_of held.terms share.den + weight * share.facts
         counted =
-            let same : (change.den == change.den) ≡ true = grind (arith, nat_tests) in
-            rw same at (share.counts change.den)
+            let same : (share.den == share.den) ≡ true = grind (arith, nat_tests) in
+            rw same at (added.counts share.den)
 
         by : (terms : List Term) → raised.terms ≡ terms → 1 ≤ length raised.terms
         by [] none =
-            let least : 1 * 1 ≤ weight * change.facts = mul-le-mul some facts in
-            let zero : count_of raised.terms change.den ≡ 0 = ap (λ (ts : List Term). count_of ts change.den) none in
+            let least : 1 * 1 ≤ weight * share.facts = mul-le-mul some facts in
+            let zero : count_of raised.terms share.den ≡ 0 = ap (λ (ts : List Term). count_of ts share.den) none in
             absurd (omega (arith, counted, zero, least))
         by (t ∷ ts) some = rw some (omega arith)
 
     -- so where the share of a row was added to them, that is done to the drafts
-    pub raised-adds : (result : Result (Unit {0}) Memory) → OnOk result (AddsUnits held raised change.den (weight * change.facts) weight change.cols) → OnOk result (AddsRow columns entries change code weight old new)
-    raised-adds (Ok u) share = raised-row share
-    raised-adds (Err e) share = tt
+    pub raised-adds : (result : Result (Unit {0}) Memory) → OnOk result (AddsUnits held raised share.den (weight * share.facts) weight share.cols) → OnOk result (AddsRow columns entries share code weight old new)
+    raised-adds (Ok u) added = raised-row added
+    raised-adds (Err e) added = tt
 
-    pub raised-whole : (result : Result (Unit {0}) Memory) → OnOk result (AddsUnits held raised change.den (weight * change.facts) weight change.cols) → OnErr result (raised ≡ held)
-        → 1 ≤ weight → 1 ≤ change.facts → AreEntries columns old → AreEntries columns new
-    raised-whole (Ok u) share same some facts entries = record { least = entries.least; most = entries.most; each = set-each (IsEntry columns) (raised-entry some facts share) entries.each }
-    raised-whole (Err e) share same some facts entries =
+    pub raised-whole : (result : Result (Unit {0}) Memory) → OnOk result (AddsUnits held raised share.den (weight * share.facts) weight share.cols) → OnErr result (raised ≡ held)
+        → 1 ≤ weight → 1 ≤ share.facts → AreEntries columns old → AreEntries columns new
+    raised-whole (Ok u) added same some facts entries = record { least = entries.least; most = entries.most; each = set-each (IsEntry columns) (raised-entry some facts added) entries.each }
+    raised-whole (Err e) added same some facts entries =
         let was : IsEntry columns held = rw is at (entries.each code) in
         record { least = entries.least; most = entries.most; each = set-each (IsEntry columns) (rw same was) entries.each }
 
-module _ (dims : List Dimension) (depths : List ℕ) (columns : ℕ) (entries : Places TermList) (change : ViewChange) (rows : List (ℕ × ℕ)) (old now : Places TermList)
-    (j code : ℕ) (within : j < length rows) (before : HasRows dims depths columns entries change (take j rows) old now) (over : IsCodeOver dims depths (get_or rows j (0, 0)).0 code) where
+module _ (dims : List Dimension) (depths : List ℕ) (columns : ℕ) (entries : Places TermList) (share : Share) (rows : List (ℕ × ℕ)) (old now : Places TermList)
+    (j code : ℕ) (within : j < length rows) (before : HasRows dims depths columns entries share (take j rows) old now) (over : IsCodeOver dims depths (get_or rows j (0, 0)).0 code) where
   -- the share of the next row fits where that of the change does
-  pub row-fits : length change.cols + 1 ≡ columns → IsWithinWide columns (draft_at columns entries old code).terms
-      → FitsUnits (draft_at columns entries old code).terms change.den (weight_of_rows (cells_of dims (region_at dims code)) rows * change.facts) (weight_of_rows (cells_of dims (region_at dims code)) rows) change.cols
-      → FitsUnits (draft_at columns entries now code).terms change.den ((get_or rows j (0, 0)).1 * change.facts) (get_or rows j (0, 0)).1 change.cols
+  pub row-fits : length share.cols + 1 ≡ columns → IsWithinWide columns (draft_at columns entries old code).terms
+      → FitsUnits (draft_at columns entries old code).terms share.den (weight_of_rows (cells_of dims (region_at dims code)) rows * share.facts) (weight_of_rows (cells_of dims (region_at dims code)) rows) share.cols
+      → FitsUnits (draft_at columns entries now code).terms share.den ((get_or rows j (0, 0)).1 * share.facts) (get_or rows j (0, 0)).1 share.cols
   row-fits width held fits =
       let cells = cells_of dims (region_at dims code) in
       let inside : is_among cells (get_or rows j (0, 0)).0 ≡ true = over.only code over.in_view ∙ grind (arith, nat_tests) in
       let next = weight-next cells rows j within in
       let le : weight_of_rows cells (take j rows) + (get_or rows j (0, 0)).1 ≤ weight_of_rows cells rows = omega (arith, rw inside at next, weight-most cells rows (j + 1)) in
-      FitsUnits-part columns change.den change.facts change.cols (draft_at columns entries old code) (draft_at columns entries now code) (weight_of_rows cells (take j rows)) (get_or rows j (0, 0)).1 (weight_of_rows cells rows) width le held fits (before.shares code over.in_view)
+      FitsUnits-part columns share.den share.facts share.cols (draft_at columns entries old code) (draft_at columns entries now code) (weight_of_rows cells (take j rows)) (get_or rows j (0, 0)).1 (weight_of_rows cells rows) width le held fits (before.shares code over.in_view)
 
   -- and once it is added, the shares of one row more are
-  pub HasRows-next : (new : Places TermList) → AddsRow columns entries change code (get_or rows j (0, 0)).1 now new → (AreEntries columns now → AreEntries columns new) → HasRows dims depths columns entries change (take (j + 1) rows) old new
+  pub HasRows-next : (new : Places TermList) → AddsRow columns entries share code (get_or rows j (0, 0)).1 now new → (AreEntries columns now → AreEntries columns new) → HasRows dims depths columns entries share (take (j + 1) rows) old new
   HasRows-next new adds whole = record {
     shares = λ k in_view.
         let cells = cells_of dims (region_at dims k) in
@@ -222,8 +223,8 @@ module _ (dims : List Dimension) (depths : List ℕ) (columns : ℕ) (entries : 
           | inl same ↦
               let test : (k == code) ≡ true = grind (arith, nat_tests) in
               let inside : is_among cells (get_or rows j (0, 0)).0 ≡ true = among ∙ test in
-              let share : AddsUnits (draft_at columns entries now k) (draft_at columns entries new k) change.den ((get_or rows j (0, 0)).1 * change.facts) (get_or rows j (0, 0)).1 change.cols = rw same adds.share in
-              let both = AddsUnits-more columns change.den change.facts change.cols (draft_at columns entries old k) (draft_at columns entries now k) (draft_at columns entries new k) (weight_of_rows cells (take j rows)) (get_or rows j (0, 0)).1 (before.shares k in_view) share in
+              let one : AddsUnits (draft_at columns entries now k) (draft_at columns entries new k) share.den ((get_or rows j (0, 0)).1 * share.facts) (get_or rows j (0, 0)).1 share.cols = rw same adds.share in
+              let both = AddsUnits-more columns share.den share.facts share.cols (draft_at columns entries old k) (draft_at columns entries now k) (draft_at columns entries new k) (weight_of_rows cells (take j rows)) (get_or rows j (0, 0)).1 (before.shares k in_view) one in
               let sum : weight_of_rows cells (take j rows) + (get_or rows j (0, 0)).1 ≡ weight_of_rows cells (take (j + 1) rows) = sym (rw inside at next) in
               rw sum at both
           | inr other ↦
@@ -265,39 +266,39 @@ on-ok : {P Q : Type 0} → (P → Q) → (result : Result (Unit {0}) Memory) →
 on-ok f (Ok u) is = f is
 on-ok f (Err e) is = tt
 
--- a change whose region is held by one region of the product of the cuts
-module _ (dims : List Dimension) (depths : List ℕ) (columns : ℕ) (entries : Places TermList) (change : ViewChange) (is : IsChange dims columns change) (code : ℕ) (holds : HoldsCells dims depths change.region code) where
+-- rows that one region of the product of the cuts holds
+module _ (dims : List Dimension) (depths : List ℕ) (columns : ℕ) (entries : Places TermList) (share : Share) (rows : List (ℕ × ℕ)) (is : IsSpread dims columns share rows) (code : ℕ) (holds : HoldsRows dims depths rows code) where
   -- all of it lies there, and nothing elsewhere
-  pub weight-whole : weight_at dims change code ≡ change.den
+  pub weight-whole : weight_in dims share rows code ≡ share.den
   weight-whole =
       let same : (code == code) ≡ true = grind (arith, nat_tests) in
-      let there : All (λ row. is_among (cells_of dims (region_at dims code)) row.0 ≡ true) change.rows =
-      All-weaker (λ (row : ℕ × ℕ). is_among (cells_of dims change.region) row.0 ≡ true) (λ row. is_among (cells_of dims (region_at dims code)) row.0 ≡ true) (λ row among. (holds.each row.0 among).only code holds.in_view ∙ same) change.rows is.inside in
-      weight-all (cells_of dims (region_at dims code)) change.rows there ∙ is.whole
+      let there : All (λ row. is_among (cells_of dims (region_at dims code)) row.0 ≡ true) rows =
+      All-weaker (λ (row : ℕ × ℕ). IsCodeOver dims depths row.0 code) (λ row. is_among (cells_of dims (region_at dims code)) row.0 ≡ true) (λ row over. over.only code holds.in_view ∙ same) rows holds.each in
+      weight-all (cells_of dims (region_at dims code)) rows there ∙ is.whole
 
-  weight-elsewhere : (k : ℕ) → is_in_view dims depths k ≡ true → (k == code) ≡ false → weight_at dims change k ≡ 0
+  weight-elsewhere : (k : ℕ) → is_in_view dims depths k ≡ true → (k == code) ≡ false → weight_in dims share rows k ≡ 0
   weight-elsewhere k in_view other =
-      weight-no (cells_of dims (region_at dims k)) change.rows
-      (All-weaker (λ (row : ℕ × ℕ). is_among (cells_of dims change.region) row.0 ≡ true) (λ row. is_among (cells_of dims (region_at dims k)) row.0 ≡ false) (λ row among. (holds.each row.0 among).only k in_view ∙ other) change.rows is.inside)
+      weight-no (cells_of dims (region_at dims k)) rows
+      (All-weaker (λ (row : ℕ × ℕ). IsCodeOver dims depths row.0 code) (λ row. is_among (cells_of dims (region_at dims k)) row.0 ≡ false) (λ row over. over.only k in_view ∙ other) rows holds.each)
 
   -- so the whole of it fits where its share does
-  pub whole-fits : (draft : TermList) → FitsUnits draft.terms change.den (weight_at dims change code * change.facts) (weight_at dims change code) change.cols → FitsUnits draft.terms change.den (change.den * change.facts) change.den change.cols
-  whole-fits draft fits = subst (λ (n : ℕ). FitsUnits draft.terms change.den (n * change.facts) n change.cols) weight-whole fits
+  pub whole-fits : (draft : TermList) → FitsUnits draft.terms share.den (weight_in dims share rows code * share.facts) (weight_in dims share rows code) share.cols → FitsUnits draft.terms share.den (share.den * share.facts) share.den share.cols
+  whole-fits draft fits = subst (λ (n : ℕ). FitsUnits draft.terms share.den (n * share.facts) n share.cols) weight-whole fits
 
-  module _ (old new : Places TermList) (adds : AddsRow columns entries change code change.den old new) where
+  module _ (old new : Places TermList) (adds : AddsRow columns entries share code share.den old new) where
     -- and once it was added, its shares in all regions were
-    whole-shares : (k : ℕ) → is_in_view dims depths k ≡ true → AddsChange dims change k (draft_at columns entries old k) (draft_at columns entries new k)
+    whole-shares : (k : ℕ) → is_in_view dims depths k ≡ true → AddsSpread dims share rows k (draft_at columns entries old k) (draft_at columns entries new k)
     whole-shares k in_view = elim (cases_eq k code) [
       | inl same ↦
-          let all = subst (λ (n : ℕ). AddsUnits (draft_at columns entries old code) (draft_at columns entries new code) change.den (n * change.facts) n change.cols) (sym weight-whole) adds.share in
-          subst (λ (c : ℕ). AddsChange dims change c (draft_at columns entries old c) (draft_at columns entries new c)) (sym same) all
+          let all = subst (λ (n : ℕ). AddsUnits (draft_at columns entries old code) (draft_at columns entries new code) share.den (n * share.facts) n share.cols) (sym weight-whole) adds.share in
+          subst (λ (c : ℕ). AddsSpread dims share rows c (draft_at columns entries old c) (draft_at columns entries new c)) (sym same) all
       | inr other ↦
           let test : (k == code) ≡ false = grind (arith, nat_tests) in
           let apart : (code == k) ≡ false = grind (arith, nat_tests) in
           let stays : draft_at columns entries new k ≡ draft_at columns entries old k = ap (λ o. unwrap_or o (held_at columns entries k)) (adds.others k apart) in
           let none = weight-elsewhere k in_view test in
-          subst (λ (n : ℕ). AddsUnits (draft_at columns entries old k) (draft_at columns entries new k) change.den (n * change.facts) n change.cols) (sym none)
-          (subst (λ (draft : TermList). AddsUnits (draft_at columns entries old k) draft change.den (0 * change.facts) 0 change.cols) (sym stays) (AddsUnits-none change.den (0 * change.facts) change.cols (draft_at columns entries old k) (omega arith)))
+          subst (λ (n : ℕ). AddsUnits (draft_at columns entries old k) (draft_at columns entries new k) share.den (n * share.facts) n share.cols) (sym none)
+          (subst (λ (draft : TermList). AddsUnits (draft_at columns entries old k) draft share.den (0 * share.facts) 0 share.cols) (sym stays) (AddsUnits-none share.den (0 * share.facts) share.cols (draft_at columns entries old k) (omega arith)))
     ]
 
     whole-keys : KeepsToView dims depths old new
@@ -312,12 +313,23 @@ module _ (dims : List Dimension) (depths : List ℕ) (columns : ℕ) (entries : 
     ]
 
   -- so where adding it ended well
-  module _ (old new : Places TermList) (result : Result (Unit {0}) Memory) (adds : OnOk result (AddsRow columns entries change code change.den old new)) where
-    pub shares-whole : OnOk result ((k : ℕ) → is_in_view dims depths k ≡ true → AddsChange dims change k (draft_at columns entries old k) (draft_at columns entries new k))
+  module _ (old new : Places TermList) (result : Result (Unit {0}) Memory) (adds : OnOk result (AddsRow columns entries share code share.den old new)) where
+    pub shares-whole : OnOk result ((k : ℕ) → is_in_view dims depths k ≡ true → AddsSpread dims share rows k (draft_at columns entries old k) (draft_at columns entries new k))
     shares-whole = on-ok (whole-shares old new) result adds
 
     pub keys-whole : OnOk result (KeepsToView dims depths old new)
     keys-whole = on-ok (whole-keys old new) result adds
 
     pub over-whole : OnOk result (AreOver columns new)
-    over-whole = on-ok (λ (one : AddsRow columns entries change code change.den old new). one.over) result adds
+    over-whole = on-ok (λ (one : AddsRow columns entries share code share.den old new). one.over) result adds
+
+-- a change is of such facts, and where one region holds all cells of its region, it holds its rows
+pub spread-of : (dims : List Dimension) (columns : ℕ) (change : ViewChange) → IsChange dims columns change → IsSpread dims columns (share_of change) change.rows
+spread-of dims columns change is = record { facts = is.facts; den = is.den; width = is.width; cells = is.cells; whole = is.whole }
+
+pub rows-held : (dims : List Dimension) (depths : List ℕ) (columns : ℕ) (change : ViewChange) (over : Option ℕ) → IsChange dims columns change → IfSome over (HoldsCells dims depths change.region) → IfSome over (HoldsRows dims depths change.rows)
+rows-held dims depths columns change None is holds = tt
+rows-held dims depths columns change (Some code) is holds = record {
+  in_view = holds.in_view;
+  each = All-weaker (λ (row : ℕ × ℕ). is_among (cells_of dims change.region) row.0 ≡ true) (λ row. IsCodeOver dims depths row.0 code) (λ row among. holds.each row.0 among) change.rows is.inside;
+}

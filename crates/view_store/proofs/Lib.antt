@@ -2,6 +2,7 @@ pub mod ChangeFacts
 pub mod Shares
 pub mod CutNodes
 pub mod CutRegions
+pub mod CutTables
 pub mod Reaching
 pub mod Drafting
 pub mod AllChanges

@@ -1,5 +1,5 @@
 -- The nodes of a cut over leaves, the regions of a product of cuts over cells, and all regions where the cuts of a view meet.
-use Rattle.std.specs.Prelude.{◌≡◌, ℕ, ◌<◌, Bool, true, false, List, [], ◌∷◌, length, map, filter, nat_le, nat_lt, ◌==◌, ◌&&◌, ◌||◌}
+use Rattle.std.specs.Prelude.{◌≡◌, ℕ, ◌<◌, All, Bool, true, false, List, [], ◌∷◌, length, map, filter, nat_le, nat_lt, ◌==◌, ◌&&◌, ◌||◌}
 use Rattle.std.specs.List.{flat_map}
 use Rattle.std.specs.Option.{option_map_or}
 use Rattle.cube_model.specs.Cells.{cells_of, is_among, is_inside}
@@ -7,6 +7,11 @@ use Rattle.cube_model.specs.Cut.{cut}
 use Rattle.cube_model.specs.Tree.{Dimension, entry_of, is_leaf, is_under}
 use Rattle.group_sum.specs.Terms.{TermList}
 use Rattle.view_store.specs.Views.{is_in_view, region_at}
+
+-- the product of the cuts at these depths, one for each dimension: its regions have a node of its cut in each
+pub record CutProduct : Type 0 where
+  pub dims : List Dimension
+  pub depths : List ℕ
 
 -- a node of the cut at a depth, and another is under it
 pub record IsCutNode (dim : Dimension) (depth low node : ℕ) : Type 0 where
@@ -38,6 +43,11 @@ pub record HoldsRegion (dims : List Dimension) (depths region : List ℕ) (code 
 pub record HoldsCells (dims : List Dimension) (depths region : List ℕ) (code : ℕ) : Type 0 where
   pub in_view : is_in_view dims depths code ≡ true
   pub each : (cell : ℕ) → is_among (cells_of dims region) cell ≡ true → IsCodeOver dims depths cell code
+
+-- the same of the cells of rows
+pub record HoldsRows (dims : List Dimension) (depths : List ℕ) (rows : List (ℕ × ℕ)) (code : ℕ) : Type 0 where
+  pub in_view : is_in_view dims depths code ≡ true
+  pub each : All (λ row. IsCodeOver dims depths row.0 code) rows
 
 -- nodes before each of these regions
 abbrev pub regions_behind : List ℕ → List (List ℕ) → List (List ℕ)

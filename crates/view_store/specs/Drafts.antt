@@ -1,14 +1,15 @@
 -- Drafts: terms by region code, made from entries by shares.
 use Rattle.std.specs.Prelude.{◌≡◌, ℕ, ◌+◌, ◌*◌, ◌<◌, ◌≤◌, Bool, true, false, List, [], IfSome, length, map, filter, nat_abs, not, ◌||◌, ◌==◌, ◌+ℤ◌, is_some, unwrap_or, take, Option, Some, None, if◌then◌else◌}
-use Rattle.std.specs.List.{flat_map}
+use Rattle.std.specs.List.{flat_map, sum_by}
 use Rattle.cube_model.specs.Allocation.{ExtendedFact}
 use Rattle.cube_model.specs.Answer.{count_at, count_of, numerator_of, sum_at, weight_inside}
-use Rattle.cube_model.specs.Cells.{cells_of}
+use Rattle.cube_model.specs.Cells.{AreRows, cells_of}
 use Rattle.cube_model.specs.Limits.{WIDE}
 use Rattle.cube_model.specs.Tree.{Dimension}
 use Rattle.group_sum.specs.Merge.{FitsDifference, HasDifference, IsDifference}
 use Rattle.group_sum.specs.Terms.{AddsUnits, FitsUnits, TermList}
 use Rattle.staged_map.specs.Staged.{Entries, Places, value_at}
+use Rattle.view_store.specs.declared.change.Share.{Share}
 use Rattle.view_store.specs.declared.change.ViewChange.{ViewChange}
 use Rattle.view_store.specs.Changes.{IsMadeAnew, IsWithinWide, change_facts, facts_put, facts_taken_away, shares}
 use Rattle.view_store.specs.Views.{IsOver, ViewMap, entry_at, held_at, is_in_view, region_at}
@@ -21,29 +22,58 @@ draft_at columns entries drafts code = unwrap_or (value_at drafts code) (held_at
 abbrev pub AreOver : ℕ → Places TermList → Type 0
 AreOver columns places = (code : ℕ) → IfSome (value_at places code) (IsOver columns)
 
--- how much of each fact of a change lies in the region of a code
+-- what a change's facts bring for each unit of weight
+abbrev pub share_of : ViewChange → Share
+share_of change = record { facts = change.facts; den = change.den; cols = change.cols }
+
+-- a change that puts facts of the region of a code, which have these rows
+abbrev pub put_at : List Dimension → ℕ → Share → List (ℕ × ℕ) → ViewChange
+put_at dims code share rows = record { put = true; facts = share.facts; den = share.den; region = region_at dims code; rows = rows; cols = share.cols }
+
+-- how much of each of the facts that have these rows lies in the region of a code
+abbrev pub weight_in : List Dimension → Share → List (ℕ × ℕ) → ℕ → ℕ
+weight_in dims share rows code = weight_inside (cells_of dims (region_at dims code)) (record { den = share.den; rows = rows })
+
+-- of each fact of a change
 abbrev pub weight_at : List Dimension → ViewChange → ℕ → ℕ
-weight_at dims change code = weight_inside (cells_of dims (region_at dims code)) (record { den = change.den; rows = change.rows })
+weight_at dims change code = weight_in dims (share_of change) change.rows code
 
--- the draft at a code is within the limit, and stays there with the share of a change
-pub record FitsChange (columns : ℕ) (dims : List Dimension) (change : ViewChange) (code : ℕ) (draft : TermList) : Type 0 where
+-- facts over columns with their rows: at least one, a denominator of at least 1, a value for each column but the count's, and cells
+-- of the space; the weights add up to the denominator
+pub record IsSpread (dims : List Dimension) (columns : ℕ) (share : Share) (rows : List (ℕ × ℕ)) : Type 0 where
+  pub facts : 1 ≤ share.facts
+  pub den : 1 ≤ share.den
+  pub width : length share.cols + 1 ≡ columns
+  pub cells : AreRows dims rows
+  pub whole : sum_by (λ row. row.1) rows ≡ share.den
+
+-- the draft at a code is within the limit, and stays there with what such facts add
+pub record FitsSpread (columns : ℕ) (dims : List Dimension) (unit : Share) (rows : List (ℕ × ℕ)) (code : ℕ) (draft : TermList) : Type 0 where
   pub held : IsWithinWide columns draft.terms
-  pub share : FitsUnits draft.terms change.den (weight_at dims change code * change.facts) (weight_at dims change code) change.cols
+  pub share : FitsUnits draft.terms unit.den (weight_in dims unit rows code * unit.facts) (weight_in dims unit rows code) unit.cols
 
--- the share of a change was added to the draft of a code
+-- and with the share of a change
+abbrev pub FitsChange : ℕ → List Dimension → ViewChange → ℕ → TermList → Type 0
+FitsChange columns dims change code draft = FitsSpread columns dims (share_of change) change.rows code draft
+
+-- what such facts have in the region of a code was added to its draft
+abbrev pub AddsSpread : List Dimension → Share → List (ℕ × ℕ) → ℕ → TermList → TermList → Type 0
+AddsSpread dims share rows code old new = AddsUnits old new share.den (weight_in dims share rows code * share.facts) (weight_in dims share rows code) share.cols
+
+-- and the share of a change
 abbrev pub AddsChange : List Dimension → ViewChange → ℕ → TermList → TermList → Type 0
-AddsChange dims change code old new = AddsUnits old new change.den (weight_at dims change code * change.facts) (weight_at dims change code) change.cols
+AddsChange dims change code old new = AddsSpread dims (share_of change) change.rows code old new
 
--- a code has got a draft: these terms, with the share of a row of a change
-pub record BeginsDraft (columns : ℕ) (terms : TermList) (change : ViewChange) (code weight : ℕ) (old new : Places TermList) : Type 0 where
-  pub share : AddsUnits terms (held_at columns new code) change.den (weight * change.facts) weight change.cols
+-- a code has got a draft: these terms, with what a row of this weight brings
+pub record BeginsDraft (columns : ℕ) (terms : TermList) (unit : Share) (code weight : ℕ) (old new : Places TermList) : Type 0 where
+  pub share : AddsUnits terms (held_at columns new code) unit.den (weight * unit.facts) weight unit.cols
   pub there : IfSome (value_at new code) (IsOver columns)
   pub some : is_some (value_at new code) ≡ true
   pub others : (k : ℕ) → (code == k) ≡ false → value_at new k ≡ value_at old k
 
--- the share of a row of a change was added to the draft of a code, and no other has changed
-pub record AddsRow (columns : ℕ) (entries : Places TermList) (change : ViewChange) (code weight : ℕ) (old new : Places TermList) : Type 0 where
-  pub share : AddsUnits (draft_at columns entries old code) (draft_at columns entries new code) change.den (weight * change.facts) weight change.cols
+-- what a row of this weight brings was added to the draft of a code, and no other has changed
+pub record AddsRow (columns : ℕ) (entries : Places TermList) (unit : Share) (code weight : ℕ) (old new : Places TermList) : Type 0 where
+  pub share : AddsUnits (draft_at columns entries old code) (draft_at columns entries new code) unit.den (weight * unit.facts) weight unit.cols
   pub others : (k : ℕ) → (code == k) ≡ false → value_at new k ≡ value_at old k
   pub over : AreOver columns new
 

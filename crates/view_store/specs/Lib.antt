@@ -1,4 +1,5 @@
 pub mod Changes
+pub mod CutTables
 pub mod Cuts
 pub mod Drafts
 pub mod Examples

@@ -1,10 +1,31 @@
 //! Changes of facts' shares, and the entries that they will set.
 ghost use Rattle.std.specs.Prelude.{◌≡◌, ◌*◌};
+ghost use Rattle.view_store.specs.Drafts.{share_of};
 
 use cube_base::{Cols, PlainList, SharedPairs};
 use cube_model::Region;
 use group_sum::Terms;
 use std::marker::Model;
+
+/// What facts that have their rows between them bring for each unit of a row's weight.
+#[derive(Clone, Copy, Debug)]
+pub struct Share {
+    /// How many facts they are: at least 1.
+    pub facts: u64,
+    /// The denominator of the weights.
+    pub den: u64,
+    /// The values of all these facts added up, one for each column but the count.
+    pub cols: Cols,
+}
+
+impl Share {
+    /// What a row adds to the count: its weight, once for each of the facts.
+    pub(crate) fn units(&self, weight: u64) -> u128
+        ensures { result ≡ weight * self.now.facts }
+    {
+        u128::from(weight) * u128::from(self.facts)
+    }
+}
 
 /// Rows that are put or taken away for one fact, or at once for several that all have these rows: each a cell of a region and its
 /// weight, over a denominator, to which the weights add up, with what the values of the facts add up to.
@@ -25,11 +46,15 @@ pub struct ViewChange {
 }
 
 impl ViewChange {
-    /// What a row adds to the count: its weight, once for each of the facts.
-    pub(crate) fn units(&self, weight: u64) -> u128
-        ensures { result ≡ weight * self.now.facts }
+    /// What its facts bring for each unit of weight.
+    pub(crate) fn share(&self) -> Share
+        ensures { result ≡ share_of self.now }
     {
-        u128::from(weight) * u128::from(self.facts)
+        Share {
+            facts: self.facts,
+            den: self.den,
+            cols: self.cols,
+        }
     }
 }
 

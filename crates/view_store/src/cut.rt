@@ -10,7 +10,7 @@ use dim_tree::Dim;
 use region_algebra::Space;
 
 /// Whether a node reaches the cut at a depth: it lies there or deeper, or is a leaf.
-fn reaches_cut(dim: &Dim, node: u32, depth: u8) -> bool
+pub fn reaches_cut(dim: &Dim, node: u32, depth: u8) -> bool
     requires tree { IsTree dim.now }
     requires within { node < length dim.now }
     ensures { result ≡ reaches_cut dim.now depth node }
@@ -33,7 +33,7 @@ fn reaches_cuts(space: &Space, depths: &[u8], r: Region) -> bool
 }
 
 /// The node of the cut at a depth that a node is under, which reaches the cut.
-fn cut_node(dim: &Dim, low: u32, depth: u8) -> u32
+pub fn cut_node(dim: &Dim, low: u32, depth: u8) -> u32
     requires tree { IsTree dim.now }
     requires within { low < length dim.now }
     requires reaches { reaches_cut dim.now depth low ≡ true }

@@ -7,14 +7,13 @@ ghost use Rattle.group_sum.specs.Merge.{FitsDifference, HasDifference, IsDiffere
 ghost use Rattle.group_sum.specs.Terms.{AddsUnits, AreTerms, FitsUnits};
 ghost use Rattle.staged_map.specs.Staged.{AreKeys, AreOfDifferentKeys, Reserves, Sets, value_at};
 ghost use Rattle.view_store.specs.Changes.{AreWhole, FitsView, IsChange, IsMadeFor, facts_taken_away};
+ghost use Rattle.view_store.specs.Cuts.{HoldsRows};
 ghost use Rattle.view_store.specs.Views.{AreEntries, held_at, is_in_view, IsOver, no_terms};
-ghost use Rattle.view_store.specs.Drafts.{AddsChange, AddsRow, AreLeftOver, AreOver, AreRemade, AreWithout, BeginsDraft, CanTake, FitsChange, FitsShares, HasShares, KeepsToView, draft_at, facts_of_kind, kept, kept_drafts};
+ghost use Rattle.view_store.specs.Drafts.{AddsChange, AddsRow, AddsSpread, AreLeftOver, AreOver, AreRemade, AreWithout, BeginsDraft, CanTake, FitsChange, FitsShares, FitsSpread, IsSpread, HasShares, KeepsToView, draft_at, facts_of_kind, kept, kept_drafts};
 
-use crate::ViewChange;
-use crate::cut::{code_over, cut_code};
+use crate::{Cuts, Share, ViewChange};
 use cube_base::{Ids, Memory};
 use group_sum::{SubFault, Terms};
-use region_algebra::Space;
 use staged_map::Staged;
 use std::alloc::Global;
 
@@ -42,20 +41,20 @@ fn copy_or_none(alloc: Global, columns: u32, terms: Option<&Terms>) -> Result<Te
     }
 }
 
-/// Adds the share of a change's row to terms. An error leaves them as they were.
-fn raise(terms: &mut Terms, change: &ViewChange, weight: u64) -> Result<(), Memory>
-    requires facts { 1 ≤ change.now.facts }
-    requires den { 1 ≤ change.now.den }
-    requires width { length change.now.cols + 1 ≡ terms.old.columns }
-    requires within { FitsUnits terms.old.terms change.now.den (weight * change.now.facts) weight change.now.cols }
-    ensures ok { OnOk result (AddsUnits terms.old terms.new change.now.den (weight * change.now.facts) weight change.now.cols) }
+/// Adds what a row of a weight brings to terms. An error leaves them as they were.
+fn raise(terms: &mut Terms, share: &Share, weight: u64) -> Result<(), Memory>
+    requires facts { 1 ≤ share.now.facts }
+    requires den { 1 ≤ share.now.den }
+    requires width { length share.now.cols + 1 ≡ terms.old.columns }
+    requires within { FitsUnits terms.old.terms share.now.den (weight * share.now.facts) weight share.now.cols }
+    ensures ok { OnOk result (AddsUnits terms.old terms.new share.now.den (weight * share.now.facts) weight share.now.cols) }
     ensures err { OnErr result (terms.new ≡ terms.old) }
     ensures terms { AreTerms terms.new }
 {
-    terms.add_units(change.den, change.units(weight), weight, change.cols)
+    terms.add_units(share.den, share.units(weight), weight, share.cols)
 }
 
-/// Begins the draft of a code that has none: it is the entry there, with the share of a change's row. An error leaves the drafts
+/// Begins the draft of a code that has none: it is the entry there, with what a row of a weight brings. An error leaves the drafts
 /// as they were.
 fn begin(
     alloc: Global,
@@ -63,27 +62,27 @@ fn begin(
     entries: &Staged<Terms>,
     drafts: &mut Staged<Terms>,
     code: u64,
-    change: &ViewChange,
+    share: &Share,
     weight: u64,
 ) -> Result<(), Memory>
     requires some { 1 ≤ columns }
     requires most { columns ≤ MAX_COLS + 1 }
-    requires facts { 1 ≤ change.now.facts }
-    requires den { 1 ≤ change.now.den }
-    requires width { length change.now.cols + 1 ≡ columns }
+    requires facts { 1 ≤ share.now.facts }
+    requires den { 1 ≤ share.now.den }
+    requires width { length share.now.cols + 1 ≡ columns }
     requires entries { AreOver columns entries.now }
-    requires within { FitsUnits (held_at columns entries.now code).terms change.now.den (weight * change.now.facts) weight change.now.cols }
-    ensures begins { OnOk result (BeginsDraft columns (held_at columns entries.now code) change.now code weight drafts.old drafts.new) }
+    requires within { FitsUnits (held_at columns entries.now code).terms share.now.den (weight * share.now.facts) weight share.now.cols }
+    ensures begins { OnOk result (BeginsDraft columns (held_at columns entries.now code) share.now code weight drafts.old drafts.new) }
     ensures same { OnErr result ((k : ℕ) → value_at drafts.new k ≡ value_at drafts.old k) }
 {
     let mut terms = copy_or_none(alloc, columns, entries.get(code))?;
-    raise(&mut terms, change, weight)?;
+    raise(&mut terms, share, weight)?;
     drafts.reserve(&[code])?;
     let _ = drafts.set(code, terms);
     Ok(())
 }
 
-/// Adds the share of a change's row to the draft of a code: where there is none yet, that is the entry there. An error leaves all
+/// Adds what a row of a weight brings to the draft of a code: where there is none yet, that is the entry there. An error leaves all
 /// entries whole, and so does a row without weight.
 fn add_share(
     alloc: Global,
@@ -91,64 +90,95 @@ fn add_share(
     entries: &Staged<Terms>,
     drafts: &mut Staged<Terms>,
     code: u64,
-    change: &ViewChange,
+    share: &Share,
     weight: u64,
 ) -> Result<(), Memory>
     requires some { 1 ≤ columns }
     requires most { columns ≤ MAX_COLS + 1 }
-    requires facts { 1 ≤ change.now.facts }
-    requires den { 1 ≤ change.now.den }
-    requires width { length change.now.cols + 1 ≡ columns }
+    requires facts { 1 ≤ share.now.facts }
+    requires den { 1 ≤ share.now.den }
+    requires width { length share.now.cols + 1 ≡ columns }
     requires entries { AreOver columns entries.now }
     requires drafts { AreOver columns drafts.old }
-    requires within { FitsUnits (draft_at columns entries.now drafts.old code).terms change.now.den (weight * change.now.facts) weight change.now.cols }
-    ensures adds { OnOk result (AddsRow columns entries.now change.now code weight drafts.old drafts.new) }
+    requires within { FitsUnits (draft_at columns entries.now drafts.old code).terms share.now.den (weight * share.now.facts) weight share.now.cols }
+    ensures adds { OnOk result (AddsRow columns entries.now share.now code weight drafts.old drafts.new) }
     ensures whole { AreEntries columns drafts.old → AreEntries columns drafts.new }
 {
     if weight == 0 {
         return Ok(());
     }
     match drafts.get_mut(code) {
-        Some(terms) => raise(terms, change, weight),
-        None => begin(alloc, columns, entries, drafts, code, change, weight),
+        Some(terms) => raise(terms, share, weight),
+        None => begin(alloc, columns, entries, drafts, code, share, weight),
     }
 }
 
-/// Adds the shares of a change, row by row, to the drafts of the regions of the product of the cuts.
+/// Adds what facts with these rows have, row by row, to the drafts of the regions of the product of the cuts.
 fn add_rows(
     alloc: Global,
-    space: &Space,
-    depths: &[u8],
+    cuts: &Cuts,
     columns: u32,
     entries: &Staged<Terms>,
     drafts: &mut Staged<Terms>,
-    change: &ViewChange,
+    share: &Share,
+    rows: &[(u64, u64)],
 ) -> Result<(), Memory>
     requires some { 1 ≤ columns }
     requires most { columns ≤ MAX_COLS + 1 }
-    requires depths { length depths.now ≡ length space.now }
-    requires change { IsChange space.now columns change.now }
+    requires spread { IsSpread cuts.now.dims columns share.now rows.now }
     requires entries { AreOver columns entries.now }
     requires drafts { AreOver columns drafts.old }
-    requires within { (code : ℕ) → is_in_view space.now depths.now code ≡ true → FitsChange columns space.now change.now code (draft_at columns entries.now drafts.old code) }
-    ensures shares { OnOk result ((code : ℕ) → is_in_view space.now depths.now code ≡ true
-        → AddsChange space.now change.now code (draft_at columns entries.now drafts.old code) (draft_at columns entries.now drafts.new code)) }
-    ensures keys { OnOk result (KeepsToView space.now depths.now drafts.old drafts.new) }
+    requires within { (code : ℕ) → is_in_view cuts.now.dims cuts.now.depths code ≡ true
+        → FitsSpread columns cuts.now.dims share.now rows.now code (draft_at columns entries.now drafts.old code) }
+    ensures shares { OnOk result ((code : ℕ) → is_in_view cuts.now.dims cuts.now.depths code ≡ true
+        → AddsSpread cuts.now.dims share.now rows.now code (draft_at columns entries.now drafts.old code) (draft_at columns entries.now drafts.new code)) }
+    ensures keys { OnOk result (KeepsToView cuts.now.dims cuts.now.depths drafts.old drafts.new) }
     ensures over { OnOk result (AreOver columns drafts.new) }
     ensures whole { AreEntries columns drafts.old → AreEntries columns drafts.new }
 {
-    for (cell, weight) in change.rows.as_slice() {
-        let code = cut_code(space, depths, *cell);
-        add_share(alloc, columns, entries, drafts, code, change, *weight)?;
+    for (cell, weight) in rows {
+        let code = cuts.over_cell(*cell);
+        add_share(alloc, columns, entries, drafts, code, share, *weight)?;
     }
     Ok(())
 }
 
-/// Adds the shares of a change to the drafts of the regions of the product of the cuts. An error leaves all entries whole.
-pub fn add_change(
+/// The same. Where one region of the product holds all rows, it is told.
+pub fn add_spread(
     alloc: Global,
-    space: &Space,
-    depths: &[u8],
+    cuts: &Cuts,
+    columns: u32,
+    entries: &Staged<Terms>,
+    drafts: &mut Staged<Terms>,
+    over: Option<u64>,
+    share: &Share,
+    rows: &[(u64, u64)],
+) -> Result<(), Memory>
+    requires some { 1 ≤ columns }
+    requires most { columns ≤ MAX_COLS + 1 }
+    requires over { IfSome over (HoldsRows cuts.now.dims cuts.now.depths rows.now) }
+    requires spread { IsSpread cuts.now.dims columns share.now rows.now }
+    requires entries { AreOver columns entries.now }
+    requires drafts { AreOver columns drafts.old }
+    requires within { (code : ℕ) → is_in_view cuts.now.dims cuts.now.depths code ≡ true
+        → FitsSpread columns cuts.now.dims share.now rows.now code (draft_at columns entries.now drafts.old code) }
+    ensures shares { OnOk result ((code : ℕ) → is_in_view cuts.now.dims cuts.now.depths code ≡ true
+        → AddsSpread cuts.now.dims share.now rows.now code (draft_at columns entries.now drafts.old code) (draft_at columns entries.now drafts.new code)) }
+    ensures keys { OnOk result (KeepsToView cuts.now.dims cuts.now.depths drafts.old drafts.new) }
+    ensures over { OnOk result (AreOver columns drafts.new) }
+    ensures whole { AreEntries columns drafts.old → AreEntries columns drafts.new }
+{
+    match over {
+        // Their weights need not be added up.
+        Some(code) => add_share(alloc, columns, entries, drafts, code, share, share.den),
+        None => add_rows(alloc, cuts, columns, entries, drafts, share, rows),
+    }
+}
+
+/// Adds the shares of a change to the drafts of the regions of the product of the cuts.
+fn add_change(
+    alloc: Global,
+    cuts: &Cuts,
     columns: u32,
     entries: &Staged<Terms>,
     drafts: &mut Staged<Terms>,
@@ -156,30 +186,34 @@ pub fn add_change(
 ) -> Result<(), Memory>
     requires some { 1 ≤ columns }
     requires most { columns ≤ MAX_COLS + 1 }
-    requires depths { length depths.now ≡ length space.now }
-    requires change { IsChange space.now columns change.now }
+    requires change { IsChange cuts.now.dims columns change.now }
     requires entries { AreOver columns entries.now }
     requires drafts { AreOver columns drafts.old }
-    requires within { (code : ℕ) → is_in_view space.now depths.now code ≡ true → FitsChange columns space.now change.now code (draft_at columns entries.now drafts.old code) }
-    ensures shares { OnOk result ((code : ℕ) → is_in_view space.now depths.now code ≡ true
-        → AddsChange space.now change.now code (draft_at columns entries.now drafts.old code) (draft_at columns entries.now drafts.new code)) }
-    ensures keys { OnOk result (KeepsToView space.now depths.now drafts.old drafts.new) }
+    requires within { (code : ℕ) → is_in_view cuts.now.dims cuts.now.depths code ≡ true → FitsChange columns cuts.now.dims change.now code (draft_at columns entries.now drafts.old code) }
+    ensures shares { OnOk result ((code : ℕ) → is_in_view cuts.now.dims cuts.now.depths code ≡ true
+        → AddsChange cuts.now.dims change.now code (draft_at columns entries.now drafts.old code) (draft_at columns entries.now drafts.new code)) }
+    ensures keys { OnOk result (KeepsToView cuts.now.dims cuts.now.depths drafts.old drafts.new) }
     ensures over { OnOk result (AreOver columns drafts.new) }
-    ensures whole { AreEntries columns drafts.old → AreEntries columns drafts.new }
 {
-    // Where one region of the product holds all rows, their weights need not be added up.
-    match code_over(space, depths, change.region) {
-        Some(code) => add_share(alloc, columns, entries, drafts, code, change, change.den),
-        None => add_rows(alloc, space, depths, columns, entries, drafts, change),
-    }
+    let over = cuts.over_region(change.region);
+    let rows = change.rows.as_slice();
+    add_spread(
+        alloc,
+        cuts,
+        columns,
+        entries,
+        drafts,
+        over,
+        &change.share(),
+        rows,
+    )
 }
 
 /// Adds the shares of the changes that put, or of those that take away, to the drafts of the regions of the product of the
 /// cuts.
 pub fn add_changes(
     alloc: Global,
-    space: &Space,
-    depths: &[u8],
+    cuts: &Cuts,
     columns: u32,
     entries: &Staged<Terms>,
     drafts: &mut Staged<Terms>,
@@ -188,20 +222,19 @@ pub fn add_changes(
 ) -> Result<(), Memory>
     requires some { 1 ≤ columns }
     requires most { columns ≤ MAX_COLS + 1 }
-    requires depths { length depths.now ≡ length space.now }
-    requires changes { All (IsChange space.now columns) changes.now }
+    requires changes { All (IsChange cuts.now.dims columns) changes.now }
     requires entries { AreOver columns entries.now }
     requires drafts { AreOver columns drafts.old }
-    requires within { (code : ℕ) → is_in_view space.now depths.now code ≡ true
-        → FitsShares columns space.now put changes.now code (draft_at columns entries.now drafts.old code) }
-    ensures shares { OnOk result ((code : ℕ) → is_in_view space.now depths.now code ≡ true
-        → HasShares columns space.now (facts_of_kind put changes.now) code (draft_at columns entries.now drafts.old code) (draft_at columns entries.now drafts.new code)) }
-    ensures keys { OnOk result (KeepsToView space.now depths.now drafts.old drafts.new) }
+    requires within { (code : ℕ) → is_in_view cuts.now.dims cuts.now.depths code ≡ true
+        → FitsShares columns cuts.now.dims put changes.now code (draft_at columns entries.now drafts.old code) }
+    ensures shares { OnOk result ((code : ℕ) → is_in_view cuts.now.dims cuts.now.depths code ≡ true
+        → HasShares columns cuts.now.dims (facts_of_kind put changes.now) code (draft_at columns entries.now drafts.old code) (draft_at columns entries.now drafts.new code)) }
+    ensures keys { OnOk result (KeepsToView cuts.now.dims cuts.now.depths drafts.old drafts.new) }
     ensures over { OnOk result (AreOver columns drafts.new) }
 {
     for change in changes {
         if change.put == put {
-            add_change(alloc, space, depths, columns, entries, drafts, change)?;
+            add_change(alloc, cuts, columns, entries, drafts, change)?;
         }
     }
     Ok(())
@@ -310,25 +343,21 @@ pub fn entries_of(
 /// The shares that changes take away, by region code.
 fn taken_away(
     alloc: Global,
-    space: &Space,
-    depths: &[u8],
+    cuts: &Cuts,
     columns: u32,
     changes: &[ViewChange],
 ) -> Result<Staged<Terms>, Memory>
     requires some { 1 ≤ columns }
     requires most { columns ≤ MAX_COLS + 1 }
-    requires depths { length depths.now ≡ length space.now }
-    requires changes { All (IsChange space.now columns) changes.now }
-    requires within { (code : ℕ) → is_in_view space.now depths.now code ≡ true → FitsShares columns space.now false changes.now code (no_terms columns) }
-    ensures shares { IfOk result (λ parts. (code : ℕ) → is_in_view space.now depths.now code ≡ true → HasShares columns space.now (facts_taken_away changes.now) code (no_terms columns) (held_at columns parts code)) }
-    ensures keys { IfOk result (KeepsToView space.now depths.now []) }
+    requires changes { All (IsChange cuts.now.dims columns) changes.now }
+    requires within { (code : ℕ) → is_in_view cuts.now.dims cuts.now.depths code ≡ true → FitsShares columns cuts.now.dims false changes.now code (no_terms columns) }
+    ensures shares { IfOk result (λ parts. (code : ℕ) → is_in_view cuts.now.dims cuts.now.depths code ≡ true → HasShares columns cuts.now.dims (facts_taken_away changes.now) code (no_terms columns) (held_at columns parts code)) }
+    ensures keys { IfOk result (KeepsToView cuts.now.dims cuts.now.depths []) }
     ensures over { IfOk result (AreOver columns) }
 {
     let none = Staged::new(alloc);
     let mut parts = Staged::new(alloc);
-    add_changes(
-        alloc, space, depths, columns, &none, &mut parts, changes, false,
-    )?;
+    add_changes(alloc, cuts, columns, &none, &mut parts, changes, false)?;
     Ok(parts)
 }
 
@@ -336,67 +365,52 @@ fn taken_away(
 /// is taken away.
 fn left_over(
     alloc: Global,
-    space: &Space,
-    depths: &[u8],
+    cuts: &Cuts,
     columns: u32,
     entries: &Staged<Terms>,
     changes: &[ViewChange],
 ) -> Result<Staged<Terms>, Memory>
-    requires depths { length depths.now ≡ length space.now }
     requires entries { AreEntries columns entries.now }
-    requires changes { FitsView space.now changes.now (record { columns = columns; depths = depths.now; entries = entries.now }) }
-    ensures { IfOk result (AreLeftOver space.now changes.now (record { columns = columns; depths = depths.now; entries = entries.now })) }
+    requires changes { FitsView cuts.now.dims changes.now (record { columns = columns; depths = cuts.now.depths; entries = entries.now }) }
+    ensures { IfOk result (AreLeftOver cuts.now.dims changes.now (record { columns = columns; depths = cuts.now.depths; entries = entries.now })) }
 {
-    let parts = taken_away(alloc, space, depths, columns, changes)?;
+    let parts = taken_away(alloc, cuts, columns, changes)?;
     take_all_away(alloc, columns, entries, &parts)
 }
 
 /// What changes make of the entries of a view that they change, by region code.
 fn remake_entries(
     alloc: Global,
-    space: &Space,
-    depths: &[u8],
+    cuts: &Cuts,
     columns: u32,
     entries: &Staged<Terms>,
     changes: &[ViewChange],
 ) -> Result<Staged<Terms>, Memory>
-    requires depths { length depths.now ≡ length space.now }
     requires entries { AreEntries columns entries.now }
-    requires changes { FitsView space.now changes.now (record { columns = columns; depths = depths.now; entries = entries.now }) }
-    ensures { IfOk result (AreRemade space.now changes.now (record { columns = columns; depths = depths.now; entries = entries.now })) }
+    requires changes { FitsView cuts.now.dims changes.now (record { columns = columns; depths = cuts.now.depths; entries = entries.now }) }
+    ensures { IfOk result (AreRemade cuts.now.dims changes.now (record { columns = columns; depths = cuts.now.depths; entries = entries.now })) }
 {
-    let mut drafts = left_over(alloc, space, depths, columns, entries, changes)?;
-    add_changes(
-        alloc,
-        space,
-        depths,
-        columns,
-        entries,
-        &mut drafts,
-        changes,
-        true,
-    )?;
+    let mut drafts = left_over(alloc, cuts, columns, entries, changes)?;
+    add_changes(alloc, cuts, columns, entries, &mut drafts, changes, true)?;
     Ok(drafts)
 }
 
 /// The entries that changes make of those of a view, each once, with their codes, ascending.
 pub fn make_entries(
     alloc: Global,
-    space: &Space,
-    depths: &[u8],
+    cuts: &Cuts,
     columns: u32,
     entries: &Staged<Terms>,
     changes: &[ViewChange],
 ) -> Result<(Ids, Vec<(u64, Option<Terms>)>), Memory>
-    requires depths { length depths.now ≡ length space.now }
     requires entries { AreEntries columns entries.now }
-    requires changes { FitsView space.now changes.now (record { columns = columns; depths = depths.now; entries = entries.now }) }
-    ensures made { IfOk result (λ made. IsMadeFor space.now changes.now (record { columns = columns; depths = depths.now; entries = entries.now }) made.1.items) }
+    requires changes { FitsView cuts.now.dims changes.now (record { columns = columns; depths = cuts.now.depths; entries = entries.now }) }
+    ensures made { IfOk result (λ made. IsMadeFor cuts.now.dims changes.now (record { columns = columns; depths = cuts.now.depths; entries = entries.now }) made.1.items) }
     ensures codes { IfOk result (λ made. keys_of made.1.items ≡ made.0) }
     ensures distinct { IfOk result (λ made. AreOfDifferentKeys made.1.items) }
     ensures whole { IfOk result (λ made. AreWhole columns made.1.items) }
 {
-    let drafts = remake_entries(alloc, space, depths, columns, entries, changes)?;
+    let drafts = remake_entries(alloc, cuts, columns, entries, changes)?;
     let codes = drafts.keys()?;
     let made = entries_of(alloc, drafts, codes.as_slice())?;
     Ok((codes, made))

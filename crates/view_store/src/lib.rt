@@ -3,12 +3,15 @@
 
 mod change;
 mod cut;
+mod cut_table;
+mod cuts;
 mod drafts;
 mod laws;
 mod view;
 mod views;
 
-pub use change::{ViewChange, ViewStage};
+pub use change::{Share, ViewChange, ViewStage};
+pub use cuts::Cuts;
 pub use group_sum::ViewList;
 pub use laws::{
     views_answer_as_their_facts, views_follow_their_facts, views_list_in_the_order_of_their_cuts,

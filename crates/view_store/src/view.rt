@@ -8,12 +8,13 @@ ghost use Rattle.group_sum.specs.Terms.{TermList};
 ghost use Rattle.region_algebra.specs.Space.{IsRegion, region_total};
 ghost use Rattle.staged_map.specs.Staged.{PutsAll, value_at};
 ghost use Rattle.view_store.specs.Changes.{FitsView, HasRoomFor, IsMadeFor, IsSameView};
+ghost use Rattle.view_store.specs.Drafts.{put_at};
 ghost use Rattle.view_store.specs.Facts.{AddsFacts};
 ghost use Rattle.view_store.specs.Rolling.{AreCodes, FitsBelow, FitsUnder, has_depths, is_below, listed_under, rolled_up, serves, term_lists_below};
 ghost use Rattle.view_store.specs.Views.{AreEntries, IsEntry, IsViewOf, listed, without_entries};
 
-use crate::ViewChange;
-use crate::drafts::{add_change, copy_of, make_entries};
+use crate::drafts::{add_spread, copy_of, make_entries};
+use crate::{Cuts, Share, ViewChange};
 use cube_base::{Memory, PlainList};
 use cube_model::Region;
 use group_sum::{Terms, ViewList};
@@ -72,24 +73,33 @@ impl View {
         self.entries.get(code)
     }
 
-    /// Adds the facts that a change puts to those whose shares the entries are. On an error some of their shares may have been added.
+    /// Adds facts of the region of a code, which have these rows, to those whose shares the entries are. `cuts` are its own over the
+    /// space. On an error some of their shares may have been added.
     ///
     /// No numerator passes 2^120 with them.
-    pub fn put(&mut self, space: &Space, change: &ViewChange) -> Result<(), Memory>
-        requires view { IsViewOf space.now self.old }
-        requires puts { change.now.put ≡ true }
-        requires fits { FitsView space.now (change.now ∷ []) self.old }
-        ensures { OnOk result (AddsFacts space.now change.now self.old self.new) }
+    pub fn put(
+        &mut self,
+        cuts: &Cuts,
+        code: u64,
+        share: &Share,
+        rows: &[(u64, u64)],
+    ) -> Result<(), Memory>
+        requires cuts { cuts.now.depths ≡ self.old.depths }
+        requires view { IsViewOf cuts.now.dims self.old }
+        requires code { code < region_total cuts.now.dims }
+        requires fits { FitsView cuts.now.dims (put_at cuts.now.dims code share.now rows.now ∷ []) self.old }
+        ensures { OnOk result (AddsFacts cuts.now.dims (put_at cuts.now.dims code share.now rows.now) self.old self.new) }
     {
         let none = Staged::new(self.alloc);
-        add_change(
+        add_spread(
             self.alloc,
-            space,
-            self.depths.as_slice(),
+            cuts,
             self.columns,
             &none,
             &mut self.entries,
-            change,
+            cuts.over_code(code),
+            share,
+            rows,
         )
     }
 
@@ -105,10 +115,10 @@ impl View {
         ensures room { IfOk result (λ entries. HasRoomFor self.new entries.items) }
         ensures made { IfOk result (λ entries. IsMadeFor space.now changes.now self.new entries.items) }
     {
+        let cuts = Cuts::climbed(space, self.depths.as_slice());
         let (codes, entries) = make_entries(
             self.alloc,
-            space,
-            self.depths.as_slice(),
+            &cuts,
             self.columns,
             &self.entries,
             changes,

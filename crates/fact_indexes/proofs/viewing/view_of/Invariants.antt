@@ -8,4 +8,4 @@ use Rattle.fact_indexes.proofs.OneView.{groups_before}
 use Rattle.fact_indexes.proofs.viewing.view_of.Given as goal
 
 abbrev pub invariant-loop-i : goal.invariant-loop-i
-invariant-loop-i g l = IsCutView l.space l.fn.cuts (width_of_all l.shape.measures + 1) (flat_map group_facts (groups_before l.groups l.i)) l.view
+invariant-loop-i g l = IsCutView l.space l.depths (width_of_all l.shape.measures + 1) (flat_map group_facts (groups_before l.groups l.i)) l.view

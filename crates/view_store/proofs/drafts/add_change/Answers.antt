@@ -1,21 +1,13 @@
--- The whole of the change is added to the draft of the region that holds it.
-use Rattle.view_store.proofs.Drafting.{keys-whole, over-whole, shares-whole, whole-fits}
-use Rattle.view_store.specs.Drafts.{draft_at}
+-- Its facts with their rows are added; the region that holds all cells of its region holds the rows.
+use Rattle.view_store.proofs.Drafting.{rows-held, spread-of}
 use Rattle.view_store.proofs.drafts.add_change.Goals as goal
 
-pub add_share-requires-clause-within : goal.add_share-requires-clause-within
-add_share-requires-clause-within c =
-    let holds = c.in-Some.ensures.over in
-    whole-fits c.args.space.now c.args.depths.now c.args.columns c.args.entries.now c.args.change.now c.requires.change c.in-Some.code holds (draft_at c.args.columns c.args.entries.now c.args.drafts.now c.in-Some.code) (c.requires.within c.in-Some.code holds.in_view).share
+pub add_spread-requires-clause-over : goal.add_spread-requires-clause-over
+add_spread-requires-clause-over c =
+    rw c.as_slice-rows.ensures (rows-held c.args.cuts.now.dims c.args.cuts.now.depths c.args.columns c.args.change.now c.over_region-over.result c.requires.change c.over_region-over.ensures.over)
 
-pub returns-in-Some-clause-shares : goal.returns-in-Some-clause-shares
-returns-in-Some-clause-shares c =
-    shares-whole c.args.space.now c.args.depths.now c.args.columns c.args.entries.now c.args.change.now c.requires.change c.in-Some.code c.in-Some.ensures.over c.args.drafts.now c.add_share.new.drafts c.add_share.result c.add_share.ensures.adds
+pub add_spread-requires-clause-spread : goal.add_spread-requires-clause-spread
+add_spread-requires-clause-spread c = rw (c.share.ensures, c.as_slice-rows.ensures) (spread-of c.args.cuts.now.dims c.args.columns c.args.change.now c.requires.change)
 
-pub returns-in-Some-clause-keys : goal.returns-in-Some-clause-keys
-returns-in-Some-clause-keys c =
-    keys-whole c.args.space.now c.args.depths.now c.args.columns c.args.entries.now c.args.change.now c.requires.change c.in-Some.code c.in-Some.ensures.over c.args.drafts.now c.add_share.new.drafts c.add_share.result c.add_share.ensures.adds
-
-pub returns-in-Some-clause-over : goal.returns-in-Some-clause-over
-returns-in-Some-clause-over c =
-    over-whole c.args.space.now c.args.depths.now c.args.columns c.args.entries.now c.args.change.now c.requires.change c.in-Some.code c.in-Some.ensures.over c.args.drafts.now c.add_share.new.drafts c.add_share.result c.add_share.ensures.adds
+pub returns-clause-shares : goal.returns-clause-shares
+returns-clause-shares c = rw (c.share.ensures, c.as_slice-rows.ensures) at c.add_spread.ensures.shares

@@ -5,4 +5,4 @@ use Rattle.view_store.proofs.AllChanges.{HasFacts}
 use Rattle.view_store.proofs.drafts.add_changes.Given as goal
 
 abbrev pub invariant-loop-change : goal.invariant-loop-change
-invariant-loop-change l = HasFacts l.space l.depths l.columns l.entries (facts_of_kind l.put (take l.change-index l.changes)) l.initial.drafts l.drafts
+invariant-loop-change l = HasFacts l.cuts.dims l.cuts.depths l.columns l.entries (facts_of_kind l.put (take l.change-index l.changes)) l.initial.drafts l.drafts

@@ -7,11 +7,11 @@ loop-cell-init c = HasRows-none _ _ _ _ _ _ c.requires.drafts
 
 pub add_share-requires-clause-within : goal.add_share-requires-clause-within
 add_share-requires-clause-within c =
-    let fits = c.requires.within c.cut_code-code.result c.cut_code-code.ensures.in_view in
-    row-fits c.args.space.now c.args.depths.now c.args.columns c.args.entries.now c.args.change.now c.as_slice-cell-items.result.now c.args.drafts.now c.loop-cell.drafts c.loop-cell.cell-index c.cut_code-code.result c.loop-cell-test.true
-    c.loop-cell.invariant c.cut_code-code.ensures c.requires.change.width fits.held (rw c.as_slice-cell-items.ensures fits.share)
+    let fits = c.requires.within c.over_cell-code.result c.over_cell-code.ensures.in_view in
+    row-fits c.args.cuts.now.dims c.args.cuts.now.depths c.args.columns c.args.entries.now c.args.share.now c.args.rows.now c.args.drafts.now c.loop-cell.drafts c.loop-cell.cell-index c.over_cell-code.result c.loop-cell-test.true
+    c.loop-cell.invariant c.over_cell-code.ensures c.requires.spread.width fits.held fits.share
 
 pub loop-cell-preserved : goal.loop-cell-preserved
 loop-cell-preserved c =
-    HasRows-next c.args.space.now c.args.depths.now c.args.columns c.args.entries.now c.args.change.now c.as_slice-cell-items.result.now c.args.drafts.now c.loop-cell.drafts c.loop-cell.cell-index c.cut_code-code.result c.loop-cell-test.true
-    c.loop-cell.invariant c.cut_code-code.ensures c.add_share.new.drafts c.in_ok-add_share.ensures.adds c.in_ok-add_share.ensures.whole
+    HasRows-next c.args.cuts.now.dims c.args.cuts.now.depths c.args.columns c.args.entries.now c.args.share.now c.args.rows.now c.args.drafts.now c.loop-cell.drafts c.loop-cell.cell-index c.over_cell-code.result c.loop-cell-test.true
+    c.loop-cell.invariant c.over_cell-code.ensures c.add_share.new.drafts c.in_ok-add_share.ensures.adds c.in_ok-add_share.ensures.whole

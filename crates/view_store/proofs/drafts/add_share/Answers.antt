@@ -9,11 +9,11 @@ pub returns-in-Some-clause-adds : goal.returns-in-Some-clause-adds
 returns-in-Some-clause-adds c =
     let raised = c.raise.new.terms in
     let sets = subst (λ r. OnSome r (Sets c.args.drafts.now (c.get_mut.follows.lender raised) c.args.code raised)) c.in-Some.is (c.get_mut.follows.holds raised) in
-    raised-adds c.args.columns c.args.entries.now c.args.code c.args.drafts.now _ c.in-Some.terms.now raised (sym c.in-Some.ensures.value) sets c.args.change.now c.args.weight c.requires.drafts c.raise.ensures.terms c.raise.result c.raise.ensures.ok
+    raised-adds c.args.columns c.args.entries.now c.args.code c.args.drafts.now _ c.in-Some.terms.now raised (sym c.in-Some.ensures.value) sets c.args.share.now c.args.weight c.requires.drafts c.raise.ensures.terms c.raise.result c.raise.ensures.ok
 
 pub returns-in-Some-clause-whole : goal.returns-in-Some-clause-whole
 returns-in-Some-clause-whole c =
     let raised = c.raise.new.terms in
     let sets = subst (λ r. OnSome r (Sets c.args.drafts.now (c.get_mut.follows.lender raised) c.args.code raised)) c.in-Some.is (c.get_mut.follows.holds raised) in
-    raised-whole c.args.columns c.args.entries.now c.args.code c.args.drafts.now _ c.in-Some.terms.now raised (sym c.in-Some.ensures.value) sets c.args.change.now c.args.weight c.requires.drafts c.raise.ensures.terms c.raise.result c.raise.ensures.ok c.raise.ensures.err
+    raised-whole c.args.columns c.args.entries.now c.args.code c.args.drafts.now _ c.in-Some.terms.now raised (sym c.in-Some.ensures.value) sets c.args.share.now c.args.weight c.requires.drafts c.raise.ensures.terms c.raise.result c.raise.ensures.ok c.raise.ensures.err
     (omega (arith, c.if-weight-eq0.false)) c.requires.facts

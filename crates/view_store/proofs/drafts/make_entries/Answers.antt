@@ -14,7 +14,7 @@ returns c =
     let keys = c.in_ok-codes.ensures in
     let is : c.in_ok-made.made.items ≡ kept_drafts drafts codes = rw c.as_slice.ensures at c.in_ok-made.ensures in
     record {
-      made = rw is (made-for c.args.columns drafts codes keys c.args.space.now c.args.depths.now c.args.entries.now c.args.changes.now c.in_ok-drafts.ensures);
+      made = rw is (made-for c.args.columns drafts codes keys c.args.cuts.now.dims c.args.cuts.now.depths c.args.entries.now c.args.changes.now c.in_ok-drafts.ensures);
       codes = ap keys_of is ∙ codes-made c.args.columns drafts codes keys;
       distinct = subst AreOfDifferentKeys (sym is) (distinct-made c.args.columns drafts codes keys);
       whole = subst (AreWhole c.args.columns) (sym is) (whole-made c.args.columns drafts codes keys c.in_ok-drafts.ensures.over);

@@ -1,0 +1,117 @@
+//! The product of cuts, listed: what the nodes of each dimension add to the code of the region over them.
+ghost use Rattle.std.specs.Prelude.{◌≡◌, ◌<◌, ◌≤◌, ◌*◌, IfOk, IfSome, length};
+ghost use Rattle.cube_model.specs.Limits.{SPACE_LIMIT};
+ghost use Rattle.cube_model.specs.Tree.{IsTree, leaves, numbers};
+ghost use Rattle.view_store.specs.CutTables.{AreDigitsOf, AreShares, IsShareOf, IsTable, share_sum};
+
+use crate::cut::{cut_node, reaches_cut};
+use cube_base::{Memory, PlainList};
+use dim_tree::Dim;
+use region_algebra::Space;
+use std::alloc::Global;
+
+/// A dimension's digit of the codes of regions, or of cells.
+#[derive(Drop)]
+pub struct CutDigit {
+    /// How far apart codes lie that differ by one place in this dimension alone.
+    pub step: u64,
+    /// By the place of a node, or of a leaf: what it adds to the code of the region over it. None where it lies above the cut and is
+    /// no leaf.
+    pub shares: PlainList<Option<u64>>,
+}
+
+/// For each dimension its digit of the codes of regions, and of those of cells.
+#[derive(Drop)]
+pub struct CutTable {
+    pub regions: PlainList<CutDigit>,
+    pub cells: PlainList<CutDigit>,
+}
+
+/// The table of the product of the cuts at these depths. It takes a step for each node.
+pub fn table_of(alloc: Global, space: &Space, depths: &[u8]) -> Result<CutTable, Memory>
+    requires { length depths.now ≡ length space.now }
+    ensures { IfOk result (IsTable space.now depths.now) }
+{
+    let mut regions = PlainList::new(alloc);
+    let mut cells = PlainList::new(alloc);
+    for d in 0..space.dims() {
+        let (dim, depth, step) = (space.dim(d), depths[d as usize], space.region_step(d));
+        let nodes = node_shares(alloc, dim, depth, step)?;
+        let leaves = leaf_shares(alloc, dim, depth, step)?;
+        regions.push(CutDigit {
+            step,
+            shares: nodes,
+        })?;
+        cells.push(CutDigit {
+            step: space.cell_step(d),
+            shares: leaves,
+        })?;
+    }
+    Ok(CutTable { regions, cells })
+}
+
+/// What the nodes of a dimension add, where its places are this far apart.
+fn node_shares(
+    alloc: Global,
+    dim: &Dim,
+    depth: u8,
+    step: u64,
+) -> Result<PlainList<Option<u64>>, Memory>
+    requires { length dim.now * step < SPACE_LIMIT }
+    ensures { IfOk result (AreShares dim.now depth step (numbers dim.now) (length (numbers dim.now))) }
+{
+    let mut shares = Vec::with_capacity(alloc, dim.len() as usize)?;
+    for place in 0..dim.len() {
+        shares.push(share_over(dim, dim.at(place), depth, step))?;
+    }
+    Ok(PlainList::from(shares))
+}
+
+/// What its leaves add.
+fn leaf_shares(
+    alloc: Global,
+    dim: &Dim,
+    depth: u8,
+    step: u64,
+) -> Result<PlainList<Option<u64>>, Memory>
+    requires { length dim.now * step < SPACE_LIMIT }
+    ensures { IfOk result (AreShares dim.now depth step (leaves dim.now) (length (leaves dim.now))) }
+{
+    let _ = dim.len();
+    let mut shares = Vec::with_capacity(alloc, dim.leaf_count() as usize)?;
+    for i in 0..dim.leaf_count() {
+        shares.push(share_over(dim, dim.leaf_node(i), depth, step))?;
+    }
+    Ok(PlainList::from(shares))
+}
+
+/// What a node adds: the place of the node of the cut over it, `step` times.
+fn share_over(dim: &Dim, node: u32, depth: u8, step: u64) -> Option<u64>
+    requires tree { IsTree dim.now }
+    requires within { node < length dim.now }
+    requires small { length dim.now * step < SPACE_LIMIT }
+    ensures { IsShareOf dim.now depth step node result }
+{
+    if !reaches_cut(dim, node, depth) {
+        return None;
+    }
+    let over = dim.place(cut_node(dim, node, depth));
+    Some(u64::from(over) * step)
+}
+
+/// What the nodes at the digits of a code add together: None where one of them adds nothing.
+pub fn share_sum(digits: &[CutDigit], code: u64) -> Option<u64>
+    requires { AreDigitsOf digits.now code }
+    ensures { result ≡ share_sum digits.now code }
+{
+    let mut rest = code;
+    let mut sum = 0;
+    for digit in digits {
+        let Some(share) = digit.shares.as_slice()[(rest / digit.step) as usize] else {
+            return None;
+        };
+        sum += share;
+        rest %= digit.step;
+    }
+    Some(sum)
+}
