@@ -27,8 +27,8 @@ use Rattle.region_index.specs.Indexed.{covers}
 use Rattle.region_index.specs.Over.{codes_over}
 use Rattle.cube_state.specs.declared.edit_moves.Moves.{Moves}
 use Rattle.cube_state.specs.Covering.{covers_one, is_over_one, probes_over}
-use Rattle.cube_state.specs.Moves.{AreMoves}
-use Rattle.cube_state.specs.Regrouped.{HoldChanged}
+use Rattle.cube_state.specs.Moves.{AreMoves, region_code}
+use Rattle.cube_state.specs.Regrouped.{HoldChanged, is_edited_at}
 use Rattle.touched_cells.specs.Touched.{reweighing, touched}
 use Rattle.fact_records.proofs.SmallValues.{none_of}
 use Rattle.fact_groups.proofs.Elsewhere.{group_at-uncovered}
@@ -123,26 +123,34 @@ module _ (policy : Policy) (dims : List Dimension) (edit : Edit) (facts : List F
       first : (a b : Bool) → (a && b) ≡ false → b ≡ true → a ≡ false
       first a b none is = grind (arith, none, is)
 
+-- the facts that an edit takes and gives have regions of the space
+pub region-taken : (shape : ShapeValue) (dims : List Dimension) (facts : List Fact) (edit : Edit) (took : Option Fact) → AreValid shape dims facts → took ≡ taken edit facts → IfSome took (λ f. IsRegion dims f.region)
+region-taken shape dims facts edit None valid is = tt
+region-taken shape dims facts edit (Some fact) valid is = first-holds (λ f. IsRegion dims f.region) (λ f. f.id == edited_id edit) facts fact (valid-regions shape dims facts valid) (sym is)
+
+pub region-given : (dims : List Dimension) (edit : Edit) (gave : Option Fact) → IsEditOver dims edit → gave ≡ given edit → IfSome gave (λ f. IsRegion dims f.region)
+region-given dims edit gave over is = rw is (by edit over)
+  where
+    by : (edit : Edit) → IsEditOver dims edit → IfSome (given edit) (λ f. IsRegion dims f.region)
+    by (Put fact) over = over.region
+    by (Change fact) over = over.region
+    by (Withdraw id) over = tt
+
+-- the code of a fact's region is one where the fact has it
+pub is-coded : (dims : List Dimension) (code : ℕ) (fact : Option Fact) (at : Option ℕ) → at ≡ region_code dims fact → option_map_or (λ k. k == code) at false ≡ option_map_or (has_code dims code) fact false
+is-coded dims code None at is = rw is refl
+is-coded dims code (Some fact) at is = rw is refl
+
+-- so the codes of an edit's facts tell whether it edits a region
+pub edited-coded : (policy : Policy) (shape : ShapeValue) (dims : List Dimension) (facts : List Fact) (moves : Moves) (code : ℕ) → AreMoves policy shape dims facts moves
+    → (option_map_or (λ k. k == code) moves.taken_code false || option_map_or (λ k. k == code) moves.given_code false) ≡ is_edited_at dims moves.edit facts code
+edited-coded policy shape dims facts moves code are =
+    rw (is-coded dims code moves.taken moves.taken_code are.taken_at, is-coded dims code moves.given moves.given_code are.given_at, are.takes, are.gives) refl
+
 module _ (policy : Policy) (shape : ShapeValue) (dims : List Dimension) (facts : List Fact) (moves : Moves) (are : AreMoves policy shape dims facts moves) (valid : AreValid shape dims facts) where
   -- the cells that are reweighed are cells of the space
   pub cells-within : All (λ change. change.0 < length (all_cells dims)) moves.reweighing
   cells-within = subst (λ (cs : List CellChange). All (λ change. change.0 < length (all_cells dims)) cs) (sym are.reweighs) (reweighing-below policy dims moves.edit facts)
-
-  -- the facts that are taken and given have regions of the space
-  pub taken-region : IfSome moves.taken (λ f. IsRegion dims f.region)
-  taken-region = by moves.taken are.takes
-    where
-      by : (took : Option Fact) → took ≡ taken moves.edit facts → IfSome took (λ f. IsRegion dims f.region)
-      by None is = tt
-      by (Some fact) is = first-holds (λ f. IsRegion dims f.region) (λ f. f.id == edited_id moves.edit) facts fact (valid-regions shape dims facts valid) (sym is)
-
-  pub given-region : IfSome moves.given (λ f. IsRegion dims f.region)
-  given-region = rw are.gives (by moves.edit are.over)
-    where
-      by : (edit : Edit) → IsEditOver dims edit → IfSome (given edit) (λ f. IsRegion dims f.region)
-      by (Put fact) over = over.region
-      by (Change fact) over = over.region
-      by (Withdraw id) over = tt
 
   -- ascending codes that are those over the cells that are reweighed, and those of these two, hold all whose group changes
   pub hold-changed : (columns : ℕ) (codes : List ℕ) → AreAscending codes

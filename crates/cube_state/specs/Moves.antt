@@ -1,6 +1,6 @@
 -- What an edit moves.
-use Rattle.std.specs.Prelude.{◌≡◌, List, Option, Some, None, if◌then◌else◌}
-use Rattle.std.specs.Option.{option_and_then}
+use Rattle.std.specs.Prelude.{◌≡◌, ℕ, List, Option, Some, None, if◌then◌else◌}
+use Rattle.std.specs.Option.{option_and_then, option_map}
 use Rattle.cube_model.specs.declared.edit.Fact.{Fact}
 use Rattle.cube_model.specs.Allocation.{Policy}
 use Rattle.cube_model.specs.Facts.{is_precise}
@@ -14,13 +14,19 @@ use Rattle.region_index.specs.Changes.{Pair}
 use Rattle.cube_state.specs.declared.edit_moves.Moves.{Moves}
 use Rattle.touched_cells.specs.Touched.{reweighing, touched}
 
--- An edit that is refused by no code that is judged before the rows, with its old fact and its new fact, the changes of
+-- the code of a fact's region, if there is a fact
+abbrev pub region_code : List Dimension → Option Fact → Option ℕ
+region_code dims fact = option_map (λ f. code_of dims f.region) fact
+
+-- An edit that is refused by no code that is judged before the rows, with its old fact and its new fact, the codes of their regions, the changes of
 -- the cells that it touches, and those of them that make a cell weigh otherwise.
 pub record AreMoves (policy : Policy) (shape : ShapeValue) (dims : List Dimension) (facts : List Fact) (moves : Moves) : Type 0 where
   pub over : IsEditOver dims moves.edit
   pub accepted : fact_refusal shape dims moves.edit facts ≡ None
   pub takes : moves.taken ≡ taken moves.edit facts
   pub gives : moves.given ≡ given moves.edit
+  pub taken_at : moves.taken_code ≡ region_code dims moves.taken
+  pub given_at : moves.given_code ≡ region_code dims moves.given
   pub touches : moves.touched ≡ touched policy dims moves.edit facts
   pub reweighs : moves.reweighing ≡ reweighing policy.weigh (touched policy dims moves.edit facts)
 

@@ -3,13 +3,15 @@ use cube_base::PlainList;
 use cube_model::{Edit, Fact};
 use touched_cells::Change;
 
-/// An edit, its old fact and its new fact, the changes of the cells that it touches, and those of them that make a cell
+/// An edit, its old fact and its new fact, the codes of their regions, the changes of the cells that it touches, and those of them that make a cell
 /// weigh otherwise.
 #[derive(Drop)]
 pub struct Moves {
     pub edit: Edit,
     pub taken: Option<Fact>,
     pub given: Option<Fact>,
+    pub taken_code: Option<u64>,
+    pub given_code: Option<u64>,
     pub touched: PlainList<Change>,
     pub reweighing: PlainList<Change>,
 }

@@ -1,6 +1,6 @@
 //! What an edit moves: the cells that it touches, and the regions whose groups may differ after it.
-ghost use Rattle.std.specs.Prelude.{◌≡◌, ◌+◌, ◌<◌, ◌≤◌, ◌||◌, ℕ, All, IfOk, IfSome, None, false, length};
-ghost use Rattle.std.specs.Option.{option_map_or};
+ghost use Rattle.std.specs.Prelude.{◌≡◌, ◌==◌, ◌+◌, ◌<◌, ◌≤◌, ◌||◌, ℕ, All, IfOk, IfSome, None, false, length};
+ghost use Rattle.std.specs.Option.{option_copied, option_map_or};
 ghost use Rattle.cube_model.specs.Cells.{all_cells, is_among};
 ghost use Rattle.fact_groups.specs.Groups.{has_code};
 ghost use Rattle.fact_records.specs.Judge.{fact_refusal};
@@ -9,7 +9,7 @@ ghost use Rattle.fact_records.specs.Valid.{IsEditOver};
 ghost use Rattle.region_algebra.specs.Space.{IsRegion};
 ghost use Rattle.region_index.specs.Content.{AreAscending};
 ghost use Rattle.cube_state.specs.Covering.{is_over_one, probes_over};
-ghost use Rattle.cube_state.specs.Moves.{AreMoves};
+ghost use Rattle.cube_state.specs.Moves.{AreMoves, region_code};
 ghost use Rattle.cube_state.specs.Regrouped.{HoldChanged};
 ghost use Rattle.cube_state.specs.State.{policy_in};
 ghost use Rattle.touched_cells.specs.Touched.{touched};
@@ -36,13 +36,30 @@ impl<P: WeightPolicy + Drop> State<P> {
         let _ = self.shape().columns();
         let touched = self.cell_changes(edit)?;
         let reweighing = reweighing_changes(self.alloc, &self.policy, &touched)?;
+        let taken = taken_fact(edit, &self.facts);
+        let given = given_fact(edit);
+        let taken_code = self.region_code(taken.as_ref());
+        let given_code = self.region_code(given.as_ref());
         Ok(Moves {
             edit: *edit,
-            taken: taken_fact(edit, &self.facts),
-            given: given_fact(edit),
+            taken,
+            given,
+            taken_code,
+            given_code,
             touched: PlainList::from(touched),
             reweighing: PlainList::from(reweighing),
         })
+    }
+
+    /// The code of a fact's region, if there is a fact.
+    fn region_code(&self, fact: Option<&Fact>) -> Option<u64>
+        requires { IfSome (option_copied fact) (λ f. IsRegion self.now.dims f.region) }
+        ensures { result ≡ region_code self.now.dims (option_copied fact.entry) }
+    {
+        match fact {
+            Some(fact) => Some(self.space.code(fact.region)),
+            None => None,
+        }
     }
 
     /// The codes of the regions whose groups an edit may change, ascending. They are those of its old fact and its new
@@ -55,8 +72,8 @@ impl<P: WeightPolicy + Drop> State<P> {
     {
         let _ = self.facts();
         let over = self.codes_over(moves.reweighing.as_slice(), steps)?;
-        let taken = self.with_code(over, moves.taken)?;
-        let all = self.with_code(taken, moves.given)?;
+        let taken = with_code(over, moves.taken_code)?;
+        let all = with_code(taken, moves.given_code)?;
         Ok(Ids::from(sort_distinct(all)))
     }
 
@@ -79,17 +96,6 @@ impl<P: WeightPolicy + Drop> State<P> {
         Ok(codes)
     }
 
-    /// The codes, with that of a fact's region after them, if there is a fact.
-    fn with_code(&self, mut codes: Vec<u64>, fact: Option<Fact>) -> Result<Vec<u64>, Memory>
-        requires { IfSome fact (λ f. IsRegion self.now.dims f.region) }
-        ensures { IfOk result (λ more. (code : ℕ) → is_among more.items code ≡ (is_among codes.items code || option_map_or (has_code self.now.dims code) fact false)) }
-    {
-        if let Some(fact) = fact {
-            codes.push(self.space.code(fact.region))?;
-        }
-        Ok(codes)
-    }
-
     /// The cells that an edit touches, ascending, each with its statistics before and after it. No code that is judged before
     /// the rows refuses the edit.
     fn cell_changes(&self, edit: &Edit) -> Result<Vec<Change>, Memory>
@@ -102,4 +108,14 @@ impl<P: WeightPolicy + Drop> State<P> {
         let won = cell_of_fact(&self.space, &self.shape, given_fact(edit));
         changes(self.alloc, &self.stats, lost, won)
     }
+}
+
+/// The codes, with one more after them, if there is one.
+fn with_code(mut codes: Vec<u64>, code: Option<u64>) -> Result<Vec<u64>, Memory>
+    ensures { IfOk result (λ more. (c : ℕ) → is_among more.items c ≡ (is_among codes.items c || option_map_or (λ k. k == c) code false)) }
+{
+    if let Some(code) = code {
+        codes.push(code)?;
+    }
+    Ok(codes)
 }

@@ -1,13 +1,12 @@
 //! The group of a code after an edit.
-ghost use Rattle.std.specs.Prelude.{◌≡◌, ◌*◌, ◌<◌, ◌≤◌, ◌+ℤ◌, ◌-ℤ◌, IfOk, IfSome, length, nat_abs};
-ghost use Rattle.std.specs.Option.{option_copied};
+ghost use Rattle.std.specs.Prelude.{◌≡◌, ◌==◌, false, ◌*◌, ◌<◌, ◌≤◌, ◌+ℤ◌, ◌-ℤ◌, IfOk, IfSome, length, nat_abs};
+ghost use Rattle.std.specs.Option.{option_copied, option_map_or};
 ghost use Rattle.cube_model.specs.Facts.{after};
 ghost use Rattle.cube_model.specs.Limits.{MAX_COLS, MAX_FACTS, MAX_VALUE};
 ghost use Rattle.fact_groups.specs.Groups.{group_at};
 ghost use Rattle.fact_records.specs.Shape.{width_of_all};
-ghost use Rattle.region_algebra.specs.Space.{IsRegion};
 ghost use Rattle.cube_state.specs.GroupAfter.{AreValuesWithin, fact_value, fact_with_code, group_total, members_of, number_of, sums_after};
-ghost use Rattle.cube_state.specs.Moves.{AreMoves};
+ghost use Rattle.cube_state.specs.Moves.{AreMoves, region_code};
 ghost use Rattle.cube_state.specs.Regrouped.{is_edited_at};
 ghost use Rattle.cube_state.specs.State.{policy_in};
 
@@ -18,14 +17,20 @@ use cube_base::{Cols, MAX_COLS, Memory};
 use cube_model::Fact;
 
 impl<P: WeightPolicy + Drop> State<P> {
-    /// The group of a code after an edit: None where no fact has a region of the code.
-    pub(crate) fn group_after(&self, moves: &Moves, code: u64) -> Result<Option<Group>, Memory>
+    /// The group of a code after an edit: None where no fact has a region of the code. Where neither the old fact nor the new fact is
+    /// of the code, it need not be asked whether a cell weighs otherwise.
+    pub(crate) fn group_after(
+        &self,
+        moves: &Moves,
+        code: u64,
+        edited: bool,
+    ) -> Result<Option<Group>, Memory>
         requires { AreMoves (policy_in P.weigh self.now) self.now.shape self.now.dims self.now.facts moves.now }
         ensures { IfOk result (λ group. group ≡ group_at (policy_in P.weigh self.now) (width_of_all self.now.shape.measures) self.now.dims (after moves.now.edit self.now.facts) code) }
     {
         let before = self.groups.get(code);
-        let taken = self.fact_at(moves.taken.as_ref(), code);
-        let given = self.fact_at(moves.given.as_ref(), code);
+        let taken = self.fact_at(moves.taken.as_ref(), moves.taken_code, code);
+        let given = self.fact_at(moves.given.as_ref(), moves.given_code, code);
         let members = members_of(before) + number_of(given) - number_of(taken);
         if members == 0 {
             return Ok(None);
@@ -33,7 +38,7 @@ impl<P: WeightPolicy + Drop> State<P> {
         let Some(region) = self.space.uncode(code) else {
             unreachable!()
         };
-        let spread = self.spread_after(moves, region, before)?;
+        let spread = self.spread_after(moves, region, before, edited)?;
         let sums = sums_after(self.shape.columns() - 1, before, taken, given);
         Ok(Some(Group {
             spread,
@@ -47,20 +52,25 @@ impl<P: WeightPolicy + Drop> State<P> {
         requires { AreMoves (policy_in P.weigh self.now) self.now.shape self.now.dims self.now.facts moves.now }
         ensures { result ≡ is_edited_at self.now.dims moves.now.edit self.now.facts code }
     {
-        let _ = self.space.dims();
-        self.fact_at(moves.taken.as_ref(), code).is_some()
-            || self.fact_at(moves.given.as_ref(), code).is_some()
+        is_at(moves.taken_code, code) || is_at(moves.given_code, code)
     }
 
-    /// The fact, if it is there and its region has the code.
-    fn fact_at<'a>(&self, fact: Option<&'a Fact>, code: u64) -> Option<&'a Fact>
-        requires { IfSome (option_copied fact) (λ f. IsRegion self.now.dims f.region) }
+    /// The fact, if it is there and its region, which is at `at`, has the code.
+    fn fact_at<'a>(&self, fact: Option<&'a Fact>, at: Option<u64>, code: u64) -> Option<&'a Fact>
+        requires { at ≡ region_code self.now.dims (option_copied fact) }
         ensures { option_copied result ≡ fact_with_code self.now.dims code (option_copied fact.entry) }
     {
-        match fact {
-            Some(fact) if self.space.code(fact.region) == code => Some(fact),
-            _ => None,
-        }
+        if is_at(at, code) { fact } else { None }
+    }
+}
+
+/// Whether there is a code, and it is this one.
+fn is_at(at: Option<u64>, code: u64) -> bool
+    ensures { result ≡ option_map_or (λ k. k == code) at false }
+{
+    match at {
+        Some(at) => at == code,
+        None => false,
     }
 }
 

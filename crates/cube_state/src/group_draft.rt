@@ -97,11 +97,11 @@ impl<P: WeightPolicy + Drop> State<P> {
         ensures groups { OnOk result (draft.new.after ≤ MAX_ROWS → draft.new.groups ≡ draft.old.groups ++ groups_after (policy_in P.weigh self.now) (width_of_all self.now.shape.measures) self.now.dims moves.now.edit self.now.facts (code ∷ [])) }
     {
         let group = self.groups.get(code);
-        let next = self.group_after(moves, code)?;
+        let edited = self.is_edited_at(moves, code);
+        let next = self.group_after(moves, code, edited)?;
         draft.before += rows_of(group);
         draft.after += rows_of(next.as_ref());
-        let anew = self.is_spread_anew(moves, code, group, next.as_ref());
-        let edited = self.is_edited_at(moves, code);
+        let anew = self.is_spread_anew(moves, code, edited, group, next.as_ref());
         draft.hold(code, next, anew, edited)
     }
 
@@ -110,6 +110,7 @@ impl<P: WeightPolicy + Drop> State<P> {
         &self,
         moves: &Moves,
         code: u64,
+        edited: bool,
         before: Option<&Group>,
         now: Option<&Group>,
     ) -> bool
@@ -121,11 +122,16 @@ impl<P: WeightPolicy + Drop> State<P> {
         let (Some(before), Some(now)) = (before, now) else {
             return false;
         };
-        let Some(region) = self.space.uncode(code) else {
-            unreachable!()
-        };
-        // Where no cell weighs otherwise, the rows are the same without a look at them.
-        !self.is_kept(moves, region) && !before.spread.is_same(&now.spread)
+        if edited {
+            let Some(region) = self.space.uncode(code) else {
+                unreachable!()
+            };
+            // Where no cell weighs otherwise, the rows are the same without a look at them.
+            if self.is_kept(moves, region, edited) {
+                return false;
+            }
+        }
+        !before.spread.is_same(&now.spread)
     }
 }
 

@@ -28,6 +28,7 @@ impl<P: WeightPolicy + Drop> State<P> {
         moves: &Moves,
         r: Region,
         group: Option<&Group>,
+        edited: bool,
     ) -> Result<Alloc, Memory>
         requires moves { AreMoves (policy_in P.weigh self.now) self.now.shape self.now.dims self.now.facts moves.now }
         requires region { IsRegion self.now.dims r }
@@ -37,7 +38,7 @@ impl<P: WeightPolicy + Drop> State<P> {
     {
         let _ = self.shape.columns();
         let before = self.spread_before(r, group)?;
-        if self.is_kept(moves, r) {
+        if self.is_kept(moves, r, edited) {
             return Ok(before);
         }
         let changed = changes_inside(self.alloc, &self.space, r, moves.touched.as_slice())?;
@@ -52,14 +53,16 @@ impl<P: WeightPolicy + Drop> State<P> {
         )
     }
 
-    /// Whether a region is spread after an edit as before, since it is one cell or none of its cells weighs otherwise.
-    pub(crate) fn is_kept(&self, moves: &Moves, r: Region) -> bool
+    /// Whether a region is known to be spread after an edit as before: it is one cell, or none of its cells weighs otherwise. This is
+    /// asked where the edit's old fact or new fact is of the region. Others have groups that may change since a cell does.
+    pub(crate) fn is_kept(&self, moves: &Moves, r: Region, edited: bool) -> bool
         requires moves { AreMoves (policy_in P.weigh self.now) self.now.shape self.now.dims self.now.facts moves.now }
         requires region { IsRegion self.now.dims r }
         ensures kept { result ≡ true → spread_at (policy_in P.weigh self.now) self.now.dims self.now.facts r ≡ spread_at (policy_in P.weigh self.now) self.now.dims (after moves.now.edit self.now.facts) r }
         ensures several { result ≡ false → 1 < length (cells_of self.now.dims r) }
     {
-        self.space.cell_count(r) == 1 || !holds_any(&self.space, r, moves.reweighing.as_slice())
+        self.space.cell_count(r) == 1
+            || (edited && !holds_any(&self.space, r, moves.reweighing.as_slice()))
     }
 
     /// How a region is spread before it.

@@ -1,11 +1,15 @@
 -- The group after an edit is that before it with the fact that the edit gives and without the one that it takes.
-use Rattle.std.proofs.Common.{ap, refl, ◌∙◌, arith}
+use Rattle.std.proofs.Common.{ap, refl, sym, ◌∙◌, arith}
 use Rattle.cube_state.specs.GroupAfter.{fact_with_code}
-use Rattle.cube_state.proofs.GroupSeen.{enough-seen, few-cells-seen, few-seen, given-within, made-seen, none-seen, spread-seen, sums-seen, taken-placed, taken-within, there-seen}
+use Rattle.cube_state.specs.Moves.{region_code}
+use Rattle.cube_state.proofs.GroupSeen.{enough-seen, few-cells-seen, few-seen, given-within, made-seen, none-seen, spread-seen, sums-seen, taken-within, there-seen}
 use Rattle.cube_state.proofs.state.State.group_after.Goals as goal
 
 pub fact_at-taken-requires : goal.fact_at-taken-requires
-fact_at-taken-requires g c = taken-placed g.P.WeightPolicy.weigh _ _ c.self.view_is c.self.invariant c.self.invariant.trees c.args.moves.now c.requires _ c.as_ref.ensures.value
+fact_at-taken-requires g c = c.requires.taken_at ∙ ap (region_code c.args.self.now.dims) (sym c.as_ref.ensures.value)
+
+pub fact_at-given-requires : goal.fact_at-given-requires
+fact_at-given-requires g c = c.requires.given_at ∙ ap (region_code c.args.self.now.dims) (sym c.as_ref-2.ensures.value)
 
 pub overflow_add-members : goal.overflow_add-members
 overflow_add-members g c =

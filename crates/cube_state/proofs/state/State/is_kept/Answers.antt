@@ -16,7 +16,7 @@ pub returns-then-cell_count-eq1-clause-kept : goal.returns-then-cell_count-eq1-c
 returns-then-cell_count-eq1-clause-kept g c = λ single.
     kept-single g.P.WeightPolicy.weigh _ _ c.self.view_is c.self.invariant c.args.moves.now c.requires.moves c.args.r (grind (arith, nat_tests, c.if-cell_count-eq1.true, c.cell_count.ensures.count))
 
-pub returns-else-cell_count-eq1-clause-kept : goal.returns-else-cell_count-eq1-clause-kept
-returns-else-cell_count-eq1-clause-kept g c = λ none.
+pub returns-then-edited-clause-kept : goal.returns-then-edited-clause-kept
+returns-then-edited-clause-kept g c = λ none.
     kept-elsewhere g.P.WeightPolicy.weigh _ _ c.self.view_is c.self.invariant c.args.moves.now c.requires.moves c.args.r
     (sym (c.holds_any.ensures ∙ ap (list_any (λ (change : Change). is_among (cells_of c.self.inside.space c.args.r) change.0)) c.as_slice.ensures) ∙ grind (arith, none))
