@@ -310,7 +310,7 @@ impl<P: WeightPolicy + Drop> Cube<P> {
         if let Some(bad) = judge_seq(self.alloc, shape, space, facts, seq)? {
             return Err(ImportFault::BadRecord(bad));
         }
-        let plan = plan_all(self.alloc, &self.state, &seq.facts)?;
+        let plan = plan_all(self.alloc, &self.state, &seq.facts, Detail::Lists)?;
         let lists = carry_out(&mut self.state, plan, keeper)?;
         Ok(receipt_of(lists, None))
     }

@@ -12,7 +12,7 @@ use cell_weight::WeightPolicy;
 use cube_base::{Code, Ids, Memory};
 use cube_model::Fact;
 use cube_state::{State, look_up};
-use edit_plan::{Refreshed, install, plan_all};
+use edit_plan::{Detail, Refreshed, install, plan_all};
 use fact_keeper::KeptRowsList;
 use fact_records::{FactList, FactRun, check_region};
 use region_algebra::Space;
@@ -39,7 +39,7 @@ pub(crate) fn state_over<P: WeightPolicy + Drop + Copy>(
     }
     let all = run_of(alloc, facts)?;
     let mut later = state.fresh(space.copy()?)?;
-    let plan = match plan_all(alloc, &later, &all) {
+    let plan = match plan_all(alloc, &later, &all, Detail::Number) {
         Ok(plan) => plan,
         Err(fault) => {
             drop(later);

@@ -1,7 +1,8 @@
 -- Which of all facts are new or have another allocation than before.
-use Rattle.std.proofs.Common.{◌≡◌, ℕ, ◌<◌, ◌≤◌, Bool, true, false, List, [], ◌∷◌, ◌++◌, get_or, map, refl, ap, sym, ◌∙◌, subst}
+use Rattle.std.proofs.Common.{◌≡◌, ℕ, ◌+◌, ◌<◌, ◌≤◌, Bool, true, false, List, [], ◌∷◌, ◌++◌, get_or, length, map, refl, ap, sym, ◌∙◌, subst, arith}
 use Rattle.std.specs.Prelude.{All, AllPairs, Option, Some, None, filter, find, ◌==◌}
 use Rattle.std.specs.Option.{option_map, option_map_or}
+use Rattle.std.proofs.lemmas.List.{length-append}
 use Rattle.std.proofs.lemmas.List.Elements.{All-head, All-tail}
 use Rattle.cube_model.specs.declared.edit.Fact.{Fact}
 use Rattle.cube_model.specs.Allocation.{Allocation, Policy, allocation, extended}
@@ -57,6 +58,18 @@ module _ {X Y : Type 0} (p : X → Bool) (f : X → Y) where
 
   pub gathered-all : (all : List Y) (so_far : List Y) (left : List X) → so_far ++ gathered left ≡ all → left ≡ [] → so_far ≡ all
   gathered-all all so_far left whole none = sym (append-none so_far) ∙ sym (ap (λ xs. so_far ++ gathered xs) none) ∙ whole
+
+  -- and how many
+  added : (all so_far now one left rest : ℕ) → so_far + left ≡ all → now ≡ so_far + one → left ≡ one + rest → now + rest ≡ all
+  added all so_far now one left rest whole more parts = omega (arith, whole, more, parts)
+
+  pub counted-next : (all so_far now : ℕ) (left : List X) (x : X) (rest : List X) → so_far + length (gathered left) ≡ all → left ≡ x ∷ rest → now ≡ so_far + length (gathered (x ∷ [])) → now + length (gathered rest) ≡ all
+  counted-next all so_far now left x rest whole is more =
+      added all so_far now (length (gathered (x ∷ []))) (length (gathered left)) (length (gathered rest)) whole more
+      (ap {B = ℕ} length (ap gathered is ∙ gathered-first x rest) ∙ length-append (gathered (x ∷ [])) (gathered rest))
+
+  pub counted-all : (all so_far : ℕ) (left : List X) → so_far + length (gathered left) ≡ all → left ≡ [] → so_far ≡ all
+  counted-all all so_far left whole none = omega (arith, whole, ap {B = ℕ} (λ xs. length (gathered xs)) none)
 
 -- of facts that are left, the first
 pub left-first : (Q : Fact → Type 0) (left : List Fact) (fact : Fact) (rest : List Fact) → All Q left → left ≡ fact ∷ rest → Q fact × All Q rest

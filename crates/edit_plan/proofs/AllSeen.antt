@@ -12,17 +12,18 @@ use Rattle.fact_keeper.specs.declared.content.Batch.{Batch}
 use Rattle.fact_keeper.specs.declared.content.KeptFact.{KeptFact}
 use Rattle.fact_keeper.specs.declared.content.KeptRows.{KeptRows}
 use Rattle.fact_groups.specs.Groups.{Group, group_at}
-use Rattle.fact_records.specs.New.{AreNew}
+use Rattle.fact_records.specs.New.{AreNew, put_all}
 use Rattle.fact_records.specs.Shape.{width_of_all}
 use Rattle.fact_records.specs.Valid.{AreValid, IsValid}
 use Rattle.fact_indexes.specs.Anew.{kept_of}
 use Rattle.fact_indexes.specs.declared.kept.FactsKept.{FactsKept}
 use Rattle.region_algebra.specs.Space.{code_of}
 use Rattle.cube_state.specs.Sets.{AreAllFor}
+use Rattle.edit_plan.specs.Plan.{AreNewFor, lists_for}
 use Rattle.edit_plan.specs.Refreshing.{is_same_spread}
-use Rattle.edit_plan.specs.declared.plan_lists.PlanLists.{PlanLists}
+use Rattle.edit_plan.specs.declared.plan_lists.Detail.{Detail}
 use Rattle.cube_state.specs.State.{StateValue, policy_in}
-use Rattle.edit_plan.specs.Whole.{difference_with, facts_with_new, ids_otherwise, lay_so, new_kept, refreshed_by, rows_otherwise}
+use Rattle.edit_plan.specs.Whole.{batch_otherwise, difference_with, facts_with_new, ids_otherwise, lay_so, new_kept, refreshed_by, rows_otherwise}
 use Rattle.cube_state.proofs.Accepting.{AreValid-new}
 use Rattle.edit_plan.proofs.AllRefreshed.{IsKeptFact, ascend-refreshed, ids-refreshed, kept-each, lay-none, lay-some, rows-refreshed}
 use Rattle.edit_plan.proofs.AllStored.{new-stored}
@@ -57,8 +58,8 @@ module _ {P : Type 0} (weigh : P → CellStat → ℕ) (state : StateValue P) (n
   all-valid : AreValid state.shape state.dims (facts_with_new state new)
   all-valid = AreValid-new state.shape state.dims new state.facts are valid
 
-  pub ids-planned : (ids : List ℕ) → ids ≡ ids_otherwise (policy_in weigh state) state.dims state.facts later later → ids ≡ refreshed_by weigh state new
-  ids-planned ids ids_are = ids_are ∙ ap (λ fs. ids_otherwise (policy_in weigh state) state.dims state.facts fs fs) is ∙ ids-refreshed (policy_in weigh state) state.dims state.facts (facts_with_new state new) all-valid.ascending
+  pub ids-planned : ids_otherwise (policy_in weigh state) state.dims state.facts later later ≡ refreshed_by weigh state new
+  ids-planned = ap (λ fs. ids_otherwise (policy_in weigh state) state.dims state.facts fs fs) is ∙ ids-refreshed (policy_in weigh state) state.dims state.facts (facts_with_new state new) all-valid.ascending
 
   pub new-ascend : ascends_from (λ id. id) 1 (refreshed_by weigh state new) ≡ true
   new-ascend =
@@ -67,15 +68,19 @@ module _ {P : Type 0} (weigh : P → CellStat → ℕ) (state : StateValue P) (n
   abbrev batch_of : List KeptFact → List KeptRows → Batch
   batch_of facts rows = record { schema = None; gone = []; facts = facts; rows = rows }
 
-  pub batch-planned : (gone : List ℕ) (facts : List KeptFact) (rows : List KeptRows) → gone ≡ [] → facts ≡ new_kept state.facts later → rows ≡ rows_otherwise (policy_in weigh state) state.dims state.facts later later
-      → record { schema = None; gone = gone; facts = facts; rows = rows } ≡ difference_with (policy_in weigh state) state.dims new state.facts
-  batch-planned gone facts rows none facts_are rows_are =
-      ap (λ (ids : List ℕ). record { schema = None; gone = ids; facts = facts; rows = rows }) none
-      ∙ ap (λ fs. batch_of fs rows) (facts_are ∙ ap (new_kept state.facts) is ∙ new-stored state.shape state.dims new state.facts are all-valid.ascending)
+  batch-planned : batch_otherwise (policy_in weigh state) state.dims state.facts later ≡ difference_with (policy_in weigh state) state.dims new state.facts
+  batch-planned =
+      ap (λ fs. batch_of fs (rows_otherwise (policy_in weigh state) state.dims state.facts later later)) (ap (new_kept state.facts) is ∙ new-stored state.shape state.dims new state.facts are all-valid.ascending)
       ∙ ap (batch_of (difference_with (policy_in weigh state) state.dims new state.facts).facts)
-      (rows_are ∙ ap (λ fs. rows_otherwise (policy_in weigh state) state.dims state.facts fs fs) is ∙ rows-refreshed (policy_in weigh state) state.dims state.facts (facts_with_new state new) all-valid.ascending)
+      (ap (λ fs. rows_otherwise (policy_in weigh state) state.dims state.facts fs fs) is ∙ rows-refreshed (policy_in weigh state) state.dims state.facts (facts_with_new state new) all-valid.ascending)
 
--- lists are those of their parts
-pub same-lists : (lists : PlanLists) (refreshed : List ℕ) (batch : Batch) → lists.refreshed ≡ refreshed → lists.batch ≡ batch → Some lists ≡ Some (record { refreshed = refreshed; batch = batch })
-same-lists lists refreshed batch ids changes =
-    ap (λ (r : List ℕ). Some (record { refreshed = r; batch = lists.batch })) ids ∙ ap (λ (b : Batch). Some (record { refreshed = refreshed; batch = b })) changes
+  pub lists-planned : (detail : Detail)
+      → lists_for detail (ids_otherwise (policy_in weigh state) state.dims state.facts later later) (batch_otherwise (policy_in weigh state) state.dims state.facts later)
+      ≡ lists_for detail (refreshed_by weigh state new) (difference_with (policy_in weigh state) state.dims new state.facts)
+  lists-planned detail =
+      ap (λ ids. lists_for detail ids (batch_otherwise (policy_in weigh state) state.dims state.facts later)) ids-planned ∙ ap (lists_for detail (refreshed_by weigh state new)) batch-planned
+
+-- what is planned fits, where it is named
+pub new-fits : {P : Type 0} (weigh : P → CellStat → ℕ) (state : StateValue P) (new named : List Fact) (all : FactsKept) → AreNew state.shape state.dims state.facts new → named ≡ new → all.facts.facts ≡ facts_with_new state new → AreAllFor weigh state all
+    → AreNewFor weigh state named all
+new-fits weigh state new named all are is facts kept = record { accepted = subst (AreNew state.shape state.dims state.facts) (sym is) are; facts = facts ∙ ap (λ fs. put_all fs state.facts) (sym is); kept = kept }

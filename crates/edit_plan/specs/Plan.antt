@@ -14,7 +14,9 @@ use Rattle.fact_keeper.specs.declared.content.Batch.{Batch}
 use Rattle.fact_keeper.specs.declared.content.KeptFact.{KeptFact}
 use Rattle.fact_keeper.specs.declared.content.KeptRows.{KeptRows}
 use Rattle.fact_groups.specs.Edits.{given}
+use Rattle.fact_indexes.specs.declared.kept.FactsKept.{FactsKept}
 use Rattle.fact_records.specs.Judge.{fact_refusal}
+use Rattle.fact_records.specs.New.{AreNew, put_all}
 use Rattle.cube_state.specs.Sets.{AreAllFor, IsEditFor}
 use Rattle.cube_state.specs.State.{StateValue, judge_in, rows_after, withdrawn}
 use Rattle.edit_plan.specs.declared.plan_lists.Detail.{Detail}
@@ -56,7 +58,12 @@ lists_for detail.Lists refreshed batch = Some (record { refreshed = refreshed; b
 -- the edit that a plan does, if it does one
 abbrev pub edit_in : PlanChange → Option Edit
 edit_in (plan_change.Edit edit sets rows) = Some edit
-edit_in (plan_change.All all) = None
+edit_in (plan_change.All new all) = None
+
+-- the new facts that it puts, if it puts such all at once
+abbrev pub new_in : PlanChange → Option (List Fact)
+new_in (plan_change.Edit edit sets rows) = None
+new_in (plan_change.All new all) = Some new.value
 
 -- the id that it withdraws, if it withdraws one
 abbrev pub withdrawn_in : PlanChange → Option ℕ
@@ -65,12 +72,19 @@ withdrawn_in change = option_and_then withdrawn (edit_in change)
 -- the facts that it leaves
 abbrev pub facts_after : PlanChange → List Fact → List Fact
 facts_after (plan_change.Edit edit sets rows) facts = after edit facts
-facts_after (plan_change.All all) facts = all.facts.facts
+facts_after (plan_change.All new all) facts = put_all new.value facts
+
+-- New facts fit a state, with all that is kept then: the state accepts them, in their order and the number of rows aside; the
+-- facts that are kept are its own with these; and what is kept of them is what they make it.
+pub record AreNewFor {P : Type 0} (weigh : P → CellStat → ℕ) (state : StateValue P) (new : List Fact) (all : FactsKept) : Type 0 where
+  pub accepted : AreNew state.shape state.dims state.facts new
+  pub facts : all.facts.facts ≡ put_all new state.facts
+  pub kept : AreAllFor weigh state all
 
 -- what a plan does fits a state
 abbrev pub IsChangeFor : {P : Type 0} → (P → CellStat → ℕ) → StateValue P → PlanChange → Type 0
 IsChangeFor weigh state (plan_change.Edit edit sets rows) = IsEditFor weigh state edit sets rows
-IsChangeFor weigh state (plan_change.All all) = AreAllFor weigh state all
+IsChangeFor weigh state (plan_change.All new all) = AreNewFor weigh state new.value all
 
 -- and so does a plan
 abbrev pub IsPlanFor : {P : Type 0} → (P → CellStat → ℕ) → StateValue P → PlanValue → Type 0

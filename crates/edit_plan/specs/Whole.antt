@@ -64,6 +64,10 @@ rows_otherwise policy dims facts later some = map (rows_among policy dims later)
 abbrev pub new_kept : List Fact → List Fact → List KeptFact
 new_kept facts some = map kept_fact (filter (λ f. not (has_id f.id facts)) some)
 
+-- What the later facts change of what is kept, where no fact is gone and those that stay have their values.
+abbrev pub batch_otherwise : Policy → List Dimension → List Fact → List Fact → Batch
+batch_otherwise policy dims facts later = record { schema = None; gone = []; facts = new_kept facts later; rows = rows_otherwise policy dims facts later later }
+
 -- Why new facts are not planned: there would be too many rows, so many; or out of memory, of which nothing is said.
 abbrev pub IsAllFaultOf : {P : Type 0} → (P → CellStat → ℕ) → StateValue P → List Fact → PlanAllFault → Type 0
 IsAllFaultOf weigh state new (plan_all_fault.Rows would) = (would ≡ row_count (rows_with_new weigh state new)) × (MAX_ROWS < would)

@@ -21,6 +21,9 @@ pub fn install<P: WeightPolicy + Drop>(state: &mut State<P>, plan: Plan)
     drop(lists);
     match change {
         PlanChange::Edit { edit, sets, rows } => state.set(edit, sets, rows),
-        PlanChange::All { all } => state.replace(all),
+        PlanChange::All { new, all } => {
+            drop(new);
+            state.replace(all);
+        }
     }
 }

@@ -1,5 +1,5 @@
 //! New facts, planned all at once.
-ghost use Rattle.std.specs.Prelude.{◌≡◌, ◌++◌, ◌∷◌, ◌≤◌, [], true, None, Some, IfErr, IfOk, OnOk, length, option_map};
+ghost use Rattle.std.specs.Prelude.{◌≡◌, ◌++◌, ◌∷◌, ◌≤◌, [], true, Some, IfErr, IfOk, OnOk, length, option_map};
 ghost use Rattle.std.specs.Option.{option_copied};
 ghost use Rattle.cube_model.specs.Allocation.{allocation, row_count};
 ghost use Rattle.cube_model.specs.Ascending.{ascends_from};
@@ -8,15 +8,14 @@ ghost use Rattle.fact_records.specs.New.{AreNew};
 ghost use Rattle.region_algebra.specs.Space.{IsRegion, code_of};
 ghost use Rattle.staged_map.specs.Staged.{value_at};
 ghost use Rattle.cube_state.specs.Sets.{AreAllFor};
-ghost use Rattle.edit_plan.specs.Plan.{IsPlanFor, facts_after};
+ghost use Rattle.edit_plan.specs.Plan.{IsPlanFor, facts_after, lists_for, new_in};
 ghost use Rattle.cube_state.specs.State.{policy_in};
-ghost use Rattle.edit_plan.specs.declared.plan_change.PlanChange.TheVariants as plan_change;
-ghost use Rattle.edit_plan.specs.Whole.{IsAllFaultOf, difference_with, facts_with_new, ids_otherwise, lay_so, new_kept, refreshed_by, rows_otherwise, rows_with_new};
+ghost use Rattle.edit_plan.specs.Whole.{IsAllFaultOf, batch_otherwise, difference_with, facts_with_new, ids_otherwise, lay_so, new_kept, refreshed_by, rows_otherwise, rows_with_new};
 
 use crate::plan_change::PlanChange;
 use crate::spread::is_same_spread;
 use crate::storing::kept_fact;
-use crate::{Plan, PlanAllFault, PlanLists, Refreshed};
+use crate::{Detail, Plan, PlanAllFault, PlanLists, Refreshed};
 use alloc_rows::Alloc;
 use cell_weight::WeightPolicy;
 use cube_base::{Ids, Memory};
@@ -26,49 +25,92 @@ use fact_indexes::FactsKept;
 use fact_keeper::{Batch, KeptFacts, KeptRowsList};
 use fact_records::FactRun;
 use std::alloc::Global;
+use std::snapshot::Snapshot;
 
 /// Prepares that all of the facts are put, so that this can be installed without memory. In their order, each must be one that a put
 /// accepts over the state's facts and those before it, the number of rows aside. All that is kept of the facts is made anew, with one
 /// spread for each region that facts have. `Rows` is answered where they would have more than 2^21 rows, with their number, unless
-/// it is out of memory.
+/// it is out of memory. The plan tells how many facts are new or have an allocation that changed. It lists these, and what changes
+/// in a store, where the detail asks for it, and makes no list where not.
 pub fn plan_all<P: WeightPolicy + Drop>(
     alloc: Global,
     state: &State<P>,
     facts: &FactRun,
+    detail: Detail,
 ) -> Result<Plan, PlanAllFault>
     requires { AreNew state.now.shape state.now.dims state.now.facts facts.now }
+    ensures new { IfOk result (λ plan. new_in plan.change ≡ Some facts.now) }
     ensures facts { IfOk result (λ plan. facts_after plan.change state.now.facts ≡ facts_with_new state.now facts.now) }
     ensures fits { IfOk result (IsPlanFor P.weigh state.now) }
     ensures count { IfOk result (λ plan. plan.count ≡ length (refreshed_by P.weigh state.now facts.now)) }
-    ensures lists { IfOk result (λ plan. plan.lists ≡ Some (record {
-      refreshed = refreshed_by P.weigh state.now facts.now;
-      batch = difference_with (policy_in P.weigh state.now) state.now.dims facts.now state.now.facts;
-    })) }
+    ensures lists { IfOk result (λ plan. plan.lists ≡ lists_for detail (refreshed_by P.weigh state.now facts.now) (difference_with (policy_in P.weigh state.now) state.now.dims facts.now state.now.facts)) }
     ensures ascending { OnOk result (ascends_from (λ id. id) 1 (refreshed_by P.weigh state.now facts.now) ≡ true) }
     ensures accepted { OnOk result (row_count (rows_with_new P.weigh state.now facts.now) ≤ MAX_ROWS) }
     ensures fault { IfErr result (IsAllFaultOf P.weigh state.now facts.now) }
 {
     let _ = state.facts();
     let all = state.kept_with(facts.as_slice())?;
-    match list_all(alloc, state, &all) {
-        Ok(lists) => Ok(plan_of_all(all, lists)),
+    let (count, lists) = match tell_all(alloc, state, &all, detail) {
+        Ok(told) => told,
         Err(fault) => {
             drop(all);
-            Err(PlanAllFault::from(fault))
+            return Err(PlanAllFault::from(fault));
+        }
+    };
+    Ok(Plan {
+        change: PlanChange::All {
+            new: Snapshot::of(facts),
+            all,
+        },
+        count,
+        lists,
+    })
+}
+
+/// How many of all facts are new or have an allocation that changed, and the lists of a plan, where the detail asks for them.
+fn tell_all<P: WeightPolicy + Drop>(
+    alloc: Global,
+    state: &State<P>,
+    all: &FactsKept,
+    detail: Detail,
+) -> Result<(u64, Option<PlanLists>), Memory>
+    requires { AreAllFor P.weigh state.now all.now }
+    ensures count { IfOk result (λ told. told.0 ≡ length (ids_otherwise (policy_in P.weigh state.now) state.now.dims state.now.facts all.now.facts.facts all.now.facts.facts)) }
+    ensures lists { IfOk result (λ told. told.1 ≡ lists_for detail (ids_otherwise (policy_in P.weigh state.now) state.now.dims state.now.facts all.now.facts.facts all.now.facts.facts) (batch_otherwise (policy_in P.weigh state.now) state.now.dims state.now.facts all.now.facts.facts)) }
+{
+    match detail {
+        Detail::Number => Ok((count_all(state, all), None)),
+        Detail::Lists => {
+            let lists = list_all(alloc, state, all)?;
+            Ok((lists.refreshed.as_slice().len() as u64, Some(lists)))
         }
     }
 }
 
-/// The plan that puts all facts, which has these lists.
-fn plan_of_all(all: FactsKept, lists: PlanLists) -> Plan
-    ensures change { result.change ≡ plan_change.All all }
-    ensures count { result.count ≡ length lists.refreshed }
-    ensures lists { result.lists ≡ Some lists }
+/// How many of all facts are new or have an allocation that changed. It takes no memory.
+fn count_all<P: WeightPolicy + Drop>(state: &State<P>, all: &FactsKept) -> u64
+    requires { AreAllFor P.weigh state.now all.now }
+    ensures { result ≡ length (ids_otherwise (policy_in P.weigh state.now) state.now.dims state.now.facts all.now.facts.facts all.now.facts.facts) }
 {
-    Plan {
-        change: PlanChange::All { all },
-        count: lists.refreshed.as_slice().len() as u64,
-        lists: Some(lists),
+    let _ = state.facts();
+    let mut count = 0;
+    for fact in all.facts.iter() {
+        count += count_one(state, all, fact);
+    }
+    count
+}
+
+/// One, where one of all facts is new or its allocation changed, and else none.
+fn count_one<P: WeightPolicy + Drop>(state: &State<P>, all: &FactsKept, fact: &Fact) -> u64
+    requires region { IsRegion state.now.dims fact.now.region }
+    requires spread { option_map (λ g. g.spread) (value_at all.now.groups (code_of state.now.dims fact.now.region)) ≡ Some (allocation (policy_in P.weigh state.now) state.now.dims all.now.facts.facts fact.now) }
+    ensures count { result ≡ length (ids_otherwise (policy_in P.weigh state.now) state.now.dims state.now.facts all.now.facts.facts (fact.now ∷ [])) }
+    ensures few { result ≤ 1 }
+{
+    if lay_so(state, fact.id, spread_of(state, all, fact)) {
+        0
+    } else {
+        1
     }
 }
 
@@ -80,12 +122,7 @@ fn list_all<P: WeightPolicy + Drop>(
 ) -> Result<PlanLists, Memory>
     requires { AreAllFor P.weigh state.now all.now }
     ensures refreshed { IfOk result (λ lists. lists.refreshed ≡ ids_otherwise (policy_in P.weigh state.now) state.now.dims state.now.facts all.now.facts.facts all.now.facts.facts) }
-    ensures batch { IfOk result (λ lists. lists.batch ≡ record {
-      schema = None;
-      gone = [];
-      facts = new_kept state.now.facts all.now.facts.facts;
-      rows = rows_otherwise (policy_in P.weigh state.now) state.now.dims state.now.facts all.now.facts.facts all.now.facts.facts;
-    }) }
+    ensures batch { IfOk result (λ lists. lists.batch ≡ batch_otherwise (policy_in P.weigh state.now) state.now.dims state.now.facts all.now.facts.facts) }
 {
     let Refreshed { ids, rows } = refreshed_among(alloc, state, all)?;
     let facts = new_among(alloc, state, all)?;
@@ -133,9 +170,7 @@ fn refresh<P: WeightPolicy + Drop>(
     ensures ids { OnOk result (refreshed.new.ids ≡ refreshed.old.ids ++ ids_otherwise (policy_in P.weigh state.now) state.now.dims state.now.facts all.now.facts.facts (fact.now ∷ [])) }
     ensures rows { OnOk result (refreshed.new.rows ≡ refreshed.old.rows ++ rows_otherwise (policy_in P.weigh state.now) state.now.dims state.now.facts all.now.facts.facts (fact.now ∷ [])) }
 {
-    let Some(spread) = spread_in(all, state.code(fact.region)) else {
-        unreachable!()
-    };
+    let spread = spread_of(state, all, fact);
     if lay_so(state, fact.id, spread) {
         return Ok(());
     }
@@ -184,6 +219,22 @@ fn keep_new<P: WeightPolicy + Drop>(
     }
     kept.push(kept_fact(alloc, state.space(), *fact)?)?;
     Ok(())
+}
+
+/// How one of all facts is spread.
+fn spread_of<'a, P: WeightPolicy + Drop>(
+    state: &State<P>,
+    all: &'a FactsKept,
+    fact: &Fact,
+) -> &'a Alloc
+    requires region { IsRegion state.now.dims fact.now.region }
+    requires spread { option_map (λ g. g.spread) (value_at all.now.groups (code_of state.now.dims fact.now.region)) ≡ Some (allocation (policy_in P.weigh state.now) state.now.dims all.now.facts.facts fact.now) }
+    ensures { result.now ≡ allocation (policy_in P.weigh state.now) state.now.dims all.now.facts.facts fact.now }
+{
+    let Some(spread) = spread_in(all, state.code(fact.region)) else {
+        unreachable!()
+    };
+    spread
 }
 
 /// How the facts of a code are spread, None where there is none.
