@@ -18,8 +18,8 @@ use Rattle.touched_cells.specs.Touched.{reweighing, touched}
 abbrev pub region_code : List Dimension → Option Fact → Option ℕ
 region_code dims fact = option_map (λ f. code_of dims f.region) fact
 
--- An edit that is refused by no code that is judged before the rows, with its old fact and its new fact, the codes of their regions, the changes of
--- the cells that it touches, and those of them that make a cell weigh otherwise.
+-- An edit that is refused by no code that is judged before the rows, with its old fact and its new fact, the codes of their
+-- regions, the changes of the cells that it touches, and those of them that make a cell weigh otherwise.
 pub record AreMoves (policy : Policy) (shape : ShapeValue) (dims : List Dimension) (facts : List Fact) (moves : Moves) : Type 0 where
   pub over : IsEditOver dims moves.edit
   pub accepted : fact_refusal shape dims moves.edit facts ≡ None

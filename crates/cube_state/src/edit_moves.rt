@@ -3,8 +3,8 @@ use cube_base::PlainList;
 use cube_model::{Edit, Fact};
 use touched_cells::Change;
 
-/// An edit, its old fact and its new fact, the codes of their regions, the changes of the cells that it touches, and those of them that make a cell
-/// weigh otherwise.
+/// An edit, its old fact and its new fact, the codes of their regions, the changes of the cells that it touches, and those of
+/// them that make a cell weigh otherwise.
 #[derive(Drop)]
 pub struct Moves {
     pub edit: Edit,

@@ -53,8 +53,8 @@ impl<P: WeightPolicy + Drop> State<P> {
         )
     }
 
-    /// Whether a region is known to be spread after an edit as before: it is one cell, or none of its cells weighs otherwise. This is
-    /// asked where the edit's old fact or new fact is of the region. Others have groups that may change since a cell does.
+    /// Whether a region is known to be spread after an edit as before: it is one cell, or none of its cells weighs otherwise. Its cells
+    /// are asked only where the edit's old or new fact is of the region: any other is looked at since one of them weighs otherwise.
     pub(crate) fn is_kept(&self, moves: &Moves, r: Region, edited: bool) -> bool
         requires moves { AreMoves (policy_in P.weigh self.now) self.now.shape self.now.dims self.now.facts moves.now }
         requires region { IsRegion self.now.dims r }
