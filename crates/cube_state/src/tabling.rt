@@ -112,7 +112,7 @@ impl<P: WeightPolicy + Drop> State<P> {
             &self.groups,
             cuts.as_slice(),
         )?;
-        view.list_under(&self.space, r)
+        view.into_list_under(&self.space, r)
     }
 }
 

@@ -58,6 +58,17 @@ impl Rows {
         })
     }
 
+    /// Equal terms.
+    pub fn duplicate(&self, alloc: Global) -> Result<Self, Memory>
+        ensures { IfOk result (λ rows. rows ≡ self.now) }
+    {
+        Ok(Rows {
+            columns: self.columns,
+            dens: Vec::from_slice(alloc, &self.dens)?,
+            nums: Vec::from_slice(alloc, &self.nums)?,
+        })
+    }
+
     /// The number of columns, the count included.
     pub fn columns(&self) -> u32
         ensures columns { result ≡ self.now.columns }

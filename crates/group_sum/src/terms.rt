@@ -52,6 +52,17 @@ impl Terms {
         }
     }
 
+    /// Equal terms.
+    pub fn copy(&self) -> Result<Self, Memory>
+        ensures copy { IfOk result (λ terms. terms ≡ self.now) }
+        ensures terms { IfOk result AreTerms }
+    {
+        Ok(Terms {
+            alloc: self.alloc,
+            rows: self.rows.duplicate(self.alloc)?,
+        })
+    }
+
     /// The number of columns, the count included.
     pub fn columns(&self) -> u32
         ensures columns { result ≡ self.now.columns }

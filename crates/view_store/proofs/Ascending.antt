@@ -1,5 +1,5 @@
 -- Lists of numbers that ascend.
-use Rattle.std.proofs.Common.{◌≡◌, ℕ, zero, suc, ◌+◌, ◌<◌, Bool, true, false, List, [], ◌∷◌, ◌∙◌, eqb, length, get_or, drop, arith}
+use Rattle.std.proofs.Common.{◌≡◌, ℕ, zero, suc, ◌+◌, ◌<◌, Bool, true, false, List, [], ◌∷◌, ◌∙◌, eqb, length, get_or, drop, take, refl, ◌≤◌, arith}
 use Rattle.std.specs.Prelude.{◌==◌}
 use Rattle.std.specs.List.{AllByRecursion, IsDistinct, list_any}
 use Rattle.std.proofs.lemmas.Map.Keys.{IsDistinct-cons}
@@ -18,6 +18,22 @@ not_among-behind least (x ∷ xs) zero ascends within = any-turned x xs ∙ not_
 not_among-behind least (x ∷ xs) (suc i) ascends within =
     let next : suc i + 1 ≡ suc (i + 1) = omega arith in
     rw next (not_among-behind (x + 1) xs i (ascends_first (λ x. x) least x xs ascends).others (omega arith))
+
+-- nor among those before it
+pub not_among-before : (least : ℕ) (xs : List ℕ) (i : ℕ) → ascends_from (λ x. x) least xs ≡ true → i < length xs → has (take i xs) (get_or xs i 0) ≡ false
+not_among-before least [] i ascends within = absurd (omega arith)
+not_among-before least (x ∷ xs) zero ascends within = refl
+not_among-before least (x ∷ xs) (suc i) ascends within =
+    let first = ascends_first (λ x. x) least x xs ascends in
+    let later : x + 1 ≤ get_or xs i 0 = at_least (x + 1) xs i first.others (omega arith) in
+    grind (arith, nat_tests, later, not_among-before (x + 1) xs i first.others (omega arith))
+  where
+    at_least : (least : ℕ) (xs : List ℕ) (i : ℕ) → ascends_from (λ x. x) least xs ≡ true → i < length xs → least ≤ get_or xs i 0
+    at_least least [] i ascends within = absurd (omega arith)
+    at_least least (x ∷ xs) zero ascends within = (ascends_first (λ x. x) least x xs ascends).from
+    at_least least (x ∷ xs) (suc i) ascends within =
+        let first = ascends_first (λ x. x) least x xs ascends in
+        omega (arith, first.from, at_least (x + 1) xs i first.others (omega arith))
 
 -- so they differ
 apart : (least k : ℕ) (xs : List ℕ) → ascends_from (λ x. x) least xs ≡ true → k < least → AllByRecursion (λ x. eqb k x ≡ false) xs

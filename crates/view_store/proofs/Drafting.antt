@@ -72,20 +72,6 @@ terms_within list are = record {
 pub AreRegular-terms : (columns : ℕ) (list : TermList) → AreTerms list → AreRegular columns list.terms
 AreRegular-terms columns list are = record { zeros = λ d k lt zero. (terms_within-at list.columns 1 list.terms d are.terms).none k zero }
 
--- terms merged with none fit, and are what they were
-pub FitsMerge-none : (list : TermList) → AreTerms list → FitsMerge (no_terms list.columns) list
-FitsMerge-none list are =
-    let within = terms_within list are in
-    record {
-      counts = λ d. omega (arith, within.counts d);
-      sums = λ d k lt. omega (arith, ints, within.sums d k lt);
-    }
-
-pub copied : (list : TermList) → AreTerms list → record { columns = list.columns; terms = merge (list.columns - 1) [] list.terms } ≡ list
-copied list are =
-    let same : merge (list.columns - 1) [] list.terms ≡ list.terms = merge_commutes (list.columns - 1) [] list.terms ∙ merge_nothing list.columns are.some list.terms are.terms in
-    ap (λ terms. record { columns = list.columns; terms = terms }) same
-
 -- the weight of rows inside cells
 abbrev pub weight_of_rows : List ℕ → List (ℕ × ℕ) → ℕ
 weight_of_rows cells rows = sum_by (λ row. row.1) (filter (λ row. is_among cells row.0) rows)

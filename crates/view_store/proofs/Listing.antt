@@ -12,10 +12,11 @@ use Rattle.cube_model.specs.Cells.{is_inside}
 use Rattle.cube_model.specs.Tree.{Dimension}
 use Rattle.group_sum.specs.Terms.{TermList}
 use Rattle.region_algebra.specs.Space.{region_total}
-use Rattle.staged_map.specs.Staged.{AreKeys, value_at}
+use Rattle.staged_map.specs.Staged.{AreKeys, Places, value_at}
 use Rattle.view_store.specs.Rolling.{is_below}
 use Rattle.view_store.specs.Views.{IsViewOf, ViewMap, codes_of, entry_at, no_terms, region_at}
 use Rattle.view_store.proofs.Ascending.{has}
+use Rattle.view_store.proofs.Keeping.{AreAhead}
 
 -- the numbers of a range that pass ascend, and are those of it that pass
 ascends-from : (p : ℕ → Bool) (from n least : ℕ) → least ≤ from → ascends_from (λ x. x) least (filter p (range_with_len from n)) ≡ true
@@ -115,3 +116,8 @@ module _ (dims : List Dimension) (view : ViewMap) (under keys : List ℕ) (i : �
 
   pub below-same : is_below dims under (get_or keys i 0) ≡ false → list ≡ listed_below dims view under (take (i + 1) keys)
   below-same outside = sym (append-nil list) ∙ below-more false outside
+
+-- What is listed of a view by the codes before a place, while its entries are taken out; those of the codes from there on are there.
+pub record IsListedTo (dims : List Dimension) (view : ViewMap) (under keys : List ℕ) (i : ℕ) (list : List (List ℕ × TermList)) (now : Places TermList) : Type 0 where
+  pub listed : list ≡ listed_below dims view under (take i keys)
+  pub ahead : AreAhead view.entries keys i now

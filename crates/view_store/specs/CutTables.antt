@@ -3,7 +3,9 @@ use Rattle.std.specs.Prelude.{◌≡◌, ℕ, ◌+◌, ◌*◌, ◌/◌, ◌%◌
 use Rattle.std.specs.Option.{option_and_then, option_map}
 use Rattle.cube_model.specs.Limits.{SPACE_LIMIT}
 use Rattle.cube_model.specs.Tree.{Dimension, IsTree, leaves, numbers, place_of}
+use Rattle.group_sum.specs.Terms.{TermList}
 use Rattle.region_algebra.specs.Space.{cell_total, region_total}
+use Rattle.staged_map.specs.Staged.{Places}
 use Rattle.view_store.specs.Cuts.{IsCutNode, reaches_cut}
 use Rattle.view_store.specs.declared.cut_table.CutDigit.{CutDigit}
 use Rattle.view_store.specs.declared.cut_table.CutTable.{CutTable}
@@ -41,10 +43,11 @@ pub record IsTable (dims : List Dimension) (depths : List ℕ) (table : CutTable
   pub regions : AreDigits numbers region_total dims depths (length dims) table.regions
   pub cells : AreDigits leaves cell_total dims depths (length dims) table.cells
 
--- a product of cuts has a depth for each dimension; where there is a table, it is right
-pub record AreCuts (dims : List Dimension) (depths : List ℕ) (table : Option CutTable) : Type 0 where
+-- a product of cuts has a depth for each dimension; where there is a table, it is right; and beside it there are no entries
+pub record AreCuts (dims : List Dimension) (depths : List ℕ) (table : Option CutTable) (none : Places TermList) : Type 0 where
   pub deep : length depths ≡ length dims
   pub listed : IfSome table (IsTable dims depths)
+  pub empty : none ≡ []
 
 -- digits are those of some dimensions, and a code is among their codes
 pub record AreDigitsOf (digits : List CutDigit) (code : ℕ) : Type 0 where

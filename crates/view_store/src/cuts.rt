@@ -1,5 +1,5 @@
 //! The product of the cuts of a view, asked for the region over cells and regions.
-ghost use Rattle.std.specs.Prelude.{◌≡◌, ◌<◌, IfOk, IfSome, is_some, length};
+ghost use Rattle.std.specs.Prelude.{◌≡◌, ◌<◌, [], IfOk, IfSome, is_some, length};
 ghost use Rattle.cube_model.specs.Cells.{all_cells};
 ghost use Rattle.region_algebra.specs.Space.{IsRegion, region_total};
 ghost use Rattle.view_store.specs.Cuts.{HoldsCells, IsCodeOver, reaches_cuts};
@@ -9,7 +9,9 @@ use crate::cut::{code_over, cut_code};
 use crate::cut_table::{CutTable, share_sum, table_of};
 use cube_base::Memory;
 use cube_model::Region;
+use group_sum::Terms;
 use region_algebra::Space;
+use staged_map::Staged;
 use std::alloc::Global;
 use std::marker::Model;
 
@@ -20,6 +22,8 @@ pub struct Cuts<'a> {
     depths: &'a [u8],
     // What is looked up; where there is none, nodes are climbed.
     table: Option<CutTable>,
+    // No entries: over these the drafts of a view begin that is made.
+    none: Staged<Terms>,
 }
 
 impl<'a> Model for Cuts<'a> {
@@ -30,12 +34,12 @@ impl<'a> Model for Cuts<'a> {
 
     ghost view = { λ c. record { dims = c.space.now; depths = c.depths.now } };
 
-    ghost invariant = { λ c. AreCuts c.space.now c.depths.now c.table };
+    ghost invariant = { λ c. AreCuts c.space.now c.depths.now c.table c.none };
 }
 
 impl<'a> Cuts<'a> {
     /// The product, of which nothing is listed: each question climbs from the nodes that it is asked. It takes no memory.
-    pub fn climbed(space: &'a Space, depths: &'a [u8]) -> Self
+    pub fn climbed(alloc: Global, space: &'a Space, depths: &'a [u8]) -> Self
         requires { length depths.now ≡ length space.now }
         ensures { result ≡ record { dims = space.now; depths = depths.now } }
     {
@@ -43,6 +47,7 @@ impl<'a> Cuts<'a> {
             space,
             depths,
             table: None,
+            none: Staged::new(alloc),
         }
     }
 
@@ -56,11 +61,18 @@ impl<'a> Cuts<'a> {
         requires { length depths.now ≡ length space.now }
         ensures { IfOk result (λ cuts. cuts ≡ record { dims = space.now; depths = depths.now }) }
     {
-        let mut cuts = Cuts::climbed(space, depths);
+        let mut cuts = Cuts::climbed(alloc, space, depths);
         if node_count(space) <= questions as u64 {
             cuts.table = Some(table_of(alloc, space, depths)?);
         }
         Ok(cuts)
+    }
+
+    /// No entries.
+    pub(crate) fn no_entries(&self) -> &Staged<Terms>
+        ensures { result.now ≡ [] }
+    {
+        &self.none
     }
 
     /// The code of the region of the product that holds a cell.

@@ -17,16 +17,6 @@ use group_sum::{SubFault, Terms};
 use staged_map::Staged;
 use std::alloc::Global;
 
-/// Equal terms.
-pub fn copy_of(alloc: Global, terms: &Terms) -> Result<Terms, Memory>
-    ensures copy { IfOk result (λ list. list ≡ terms.now) }
-    ensures terms { IfOk result AreTerms }
-{
-    let mut copy = Terms::empty(alloc, terms.columns());
-    copy.add(terms)?;
-    Ok(copy)
-}
-
 /// Equal terms, or none over the columns where there are none.
 fn copy_or_none(alloc: Global, columns: u32, terms: Option<&Terms>) -> Result<Terms, Memory>
     requires some { 1 ≤ columns }
@@ -36,7 +26,7 @@ fn copy_or_none(alloc: Global, columns: u32, terms: Option<&Terms>) -> Result<Te
     ensures over { IfOk result (IsOver columns) }
 {
     match terms {
-        Some(terms) => copy_of(alloc, terms),
+        Some(terms) => terms.copy(),
         None => Ok(Terms::empty(alloc, columns)),
     }
 }
@@ -265,32 +255,30 @@ fn take_away(
     }
 }
 
-/// Gives each of these codes what is left of its entry without what is taken away from it.
+/// Puts at each of these codes what is left of its entry without what stands there.
 fn leave_each(
     alloc: Global,
     columns: u32,
     entries: &Staged<Terms>,
-    taken: &Staged<Terms>,
+    parts: &mut Staged<Terms>,
     codes: &[u64],
-    left: &mut Staged<Terms>,
 ) -> Result<(), Memory>
     requires some { 1 ≤ columns }
     requires most { columns ≤ MAX_COLS + 1 }
     requires entries { AreOver columns entries.now }
-    requires taken { AreOver columns taken.now }
-    requires there { CanTake columns entries.now taken.now }
-    requires codes { AreKeys taken.now codes.now }
-    requires none { Reserves [] left.old codes.now }
-    ensures { OnOk result (AreWithout columns entries.now taken.now left.new) }
+    requires parts { AreOver columns parts.old }
+    requires there { CanTake columns entries.now parts.old }
+    requires codes { AreKeys parts.old codes.now }
+    ensures { OnOk result (AreWithout columns entries.now parts.old parts.new) }
 {
     for code in codes {
         let rest = take_away(
             alloc,
             columns,
             entries.get(*code),
-            taken.get(*code).unwrap(),
+            parts.get(*code).unwrap(),
         )?;
-        let _ = left.set(*code, rest);
+        let _ = parts.set(*code, rest);
     }
     Ok(())
 }
@@ -300,20 +288,18 @@ pub fn take_all_away(
     alloc: Global,
     columns: u32,
     entries: &Staged<Terms>,
-    taken: &Staged<Terms>,
+    mut parts: Staged<Terms>,
 ) -> Result<Staged<Terms>, Memory>
     requires some { 1 ≤ columns }
     requires most { columns ≤ MAX_COLS + 1 }
     requires entries { AreOver columns entries.now }
-    requires taken { AreOver columns taken.now }
-    requires there { CanTake columns entries.now taken.now }
-    ensures { IfOk result (AreWithout columns entries.now taken.now) }
+    requires parts { AreOver columns parts }
+    requires there { CanTake columns entries.now parts }
+    ensures { IfOk result (AreWithout columns entries.now parts) }
 {
-    let codes = taken.keys()?;
-    let mut left = Staged::new(alloc);
-    left.reserve(codes.as_slice())?;
-    leave_each(alloc, columns, entries, taken, codes.as_slice(), &mut left)?;
-    Ok(left)
+    let codes = parts.keys()?;
+    leave_each(alloc, columns, entries, &mut parts, codes.as_slice())?;
+    Ok(parts)
 }
 
 /// What is staged for a draft: no entry where it has no term.
@@ -375,7 +361,7 @@ fn left_over(
     ensures { IfOk result (AreLeftOver cuts.now.dims changes.now (record { columns = columns; depths = cuts.now.depths; entries = entries.now })) }
 {
     let parts = taken_away(alloc, cuts, columns, changes)?;
-    take_all_away(alloc, columns, entries, &parts)
+    take_all_away(alloc, columns, entries, parts)
 }
 
 /// What changes make of the entries of a view that they change, by region code.

@@ -13,7 +13,7 @@ ghost use Rattle.view_store.specs.Facts.{AddsFacts};
 ghost use Rattle.view_store.specs.Rolling.{AreCodes, FitsBelow, FitsUnder, has_depths, is_below, listed_under, rolled_up, serves, term_lists_below};
 ghost use Rattle.view_store.specs.Views.{AreEntries, IsEntry, IsViewOf, listed, without_entries};
 
-use crate::drafts::{add_spread, copy_of, make_entries};
+use crate::drafts::{add_spread, make_entries};
 use crate::{Cuts, Share, ViewChange};
 use cube_base::{Memory, PlainList};
 use cube_model::Region;
@@ -90,12 +90,11 @@ impl View {
         requires fits { FitsView cuts.now.dims (put_at cuts.now.dims code share.now rows.now ∷ []) self.old }
         ensures { OnOk result (AddsFacts cuts.now.dims (put_at cuts.now.dims code share.now rows.now) self.old self.new) }
     {
-        let none = Staged::new(self.alloc);
         add_spread(
             self.alloc,
             cuts,
             self.columns,
-            &none,
+            cuts.no_entries(),
             &mut self.entries,
             cuts.over_code(code),
             share,
@@ -115,7 +114,7 @@ impl View {
         ensures room { IfOk result (λ entries. HasRoomFor self.new entries.items) }
         ensures made { IfOk result (λ entries. IsMadeFor space.now changes.now self.new entries.items) }
     {
-        let cuts = Cuts::climbed(space, self.depths.as_slice());
+        let cuts = Cuts::climbed(self.alloc, space, self.depths.as_slice());
         let (codes, entries) = make_entries(
             self.alloc,
             &cuts,
@@ -147,7 +146,7 @@ impl View {
         let mut list = Vec::with_capacity(self.alloc, codes.as_slice().len())?;
         for code in codes.as_slice() {
             let region = space.uncode(*code).unwrap();
-            let terms = copy_of(self.alloc, self.entries.get(*code).unwrap())?;
+            let terms = self.entries.get(*code).unwrap().copy()?;
             list.push((region, terms))?;
         }
         Ok(ViewList::from(list))
@@ -165,7 +164,31 @@ impl View {
         for code in codes.as_slice() {
             if is_below(space, r, *code) {
                 let region = space.uncode(*code).unwrap();
-                let terms = copy_of(self.alloc, self.entries.get(*code).unwrap())?;
+                let terms = self.entries.get(*code).unwrap().copy()?;
+                list.push((region, terms))?;
+            }
+        }
+        Ok(ViewList::from(list))
+    }
+
+    /// The same of a view that is wanted no longer: its own terms are listed, and none is copied.
+    pub fn into_list_under(self, space: &Space, r: Region) -> Result<ViewList, Memory>
+        requires view { IsViewOf space.now self }
+        requires region { IsRegion space.now r }
+        ensures entries { IfOk result (λ list. list ≡ listed_under space.now self r) }
+        ensures whole { OnOk result (All (λ entry. 1 ≤ length entry.1.terms) (listed space.now self)) }
+    {
+        let View {
+            alloc,
+            mut entries,
+            ..
+        } = self;
+        let codes = entries.keys()?;
+        let mut list = Vec::with_capacity(alloc, codes.as_slice().len())?;
+        for code in codes.as_slice() {
+            if is_below(space, r, *code) {
+                let region = space.uncode(*code).unwrap();
+                let terms = entries.remove(*code).unwrap();
                 list.push((region, terms))?;
             }
         }

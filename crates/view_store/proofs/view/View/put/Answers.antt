@@ -27,12 +27,12 @@ add_spread-requires-clause-within c =
     let dims = c.args.cuts.now.dims in
     let change = put_at dims c.args.code c.args.share.now c.args.rows.now in
     let fits = subst (FitsView dims (change ∷ [])) (sym c.self.view_is) c.requires.fits in
-    fits-drafts dims c.self.inside.depths c.self.inside.columns c.self.inside.entries change c.self.invariant fits refl c.new-none.result c.args.cuts.now.depths c.new-none.ensures (c.requires.cuts ∙ sym (ap (λ (view : ViewMap). view.depths) c.self.view_is))
+    fits-drafts dims c.self.inside.depths c.self.inside.columns c.self.inside.entries change c.self.invariant fits refl c.no_entries.result.now c.args.cuts.now.depths c.no_entries.ensures (c.requires.cuts ∙ sym (ap (λ (view : ViewMap). view.depths) c.self.view_is))
 
 pub returns : goal.returns
 returns c =
     let dims = c.args.cuts.now.dims in
     let change = put_at dims c.args.code c.args.share.now c.args.rows.now in
     let fits = subst (FitsView dims (change ∷ [])) (sym c.self.view_is) c.requires.fits in
-    adds-ok dims c.self.inside.depths c.self.inside.columns c.self.inside.entries change c.self.invariant fits refl c.new-none.result c.args.cuts.now.depths c.new-none.ensures (c.requires.cuts ∙ sym (ap (λ (view : ViewMap). view.depths) c.self.view_is))
+    adds-ok dims c.self.inside.depths c.self.inside.columns c.self.inside.entries change c.self.invariant fits refl c.no_entries.result.now c.args.cuts.now.depths c.no_entries.ensures (c.requires.cuts ∙ sym (ap (λ (view : ViewMap). view.depths) c.self.view_is))
     c.add_spread.new.drafts c.add_spread.result c.add_spread.ensures.shares c.add_spread.ensures.keys c.add_spread.ensures.over c.args.self.now c.self.view_is c.requires.view
