@@ -1,5 +1,5 @@
 -- Room made for what an edit sets leaves a state what it is, and what is staged is what the edit makes of it.
-use Rattle.std.proofs.Common.{◌≡◌, ℕ, true, List, refl, ap, sym, ◌∙◌, subst}
+use Rattle.std.proofs.Common.{◌≡◌, ◌≤◌, ℕ, true, List, [], ◌∷◌, length, refl, ap, sym, ◌∙◌, subst, arith}
 use Rattle.std.specs.Prelude.{IfSome, ◌==◌, Option, Some, None, slice_get}
 use Rattle.std.specs.Option.{option_to_list}
 use Rattle.cube_model.specs.declared.edit.Fact.{Fact}
@@ -19,6 +19,7 @@ use Rattle.fact_records.specs.Valid.{AreValid, IsValid}
 use Rattle.view_store.specs.declared.change.ViewChange.{ViewChange}
 use Rattle.view_store.specs.Changes.{AreStagedFor, FitsViews, HaveSameViews, IsSameView, facts_put, facts_taken_away}
 use Rattle.view_store.specs.Facts.{FollowBy}
+use Rattle.group_sum.specs.Terms.{TermList}
 use Rattle.view_store.specs.Views.{ViewMap, ViewMaps}
 use Rattle.cube_state.specs.declared.edit_moves.Moves.{Moves}
 use Rattle.cube_state.specs.declared.changed_groups.Regrouped.{Regrouped}
@@ -27,6 +28,7 @@ use Rattle.cube_state.specs.Sets.{AreSetsFor, SetGroups, SetStats, SetsValue, ha
 use Rattle.cube_state.specs.Regrouped.{IsRegrouped}
 use Rattle.fact_indexes.specs.Kept.{IsState, Kept}
 use Rattle.cube_state.specs.State.{HaveSameContent, StateValue, policy_in, rows_after, rows_in}
+use Rattle.cube_state.specs.ViewChanges.{SufficeFor, all_changes}
 use Rattle.cube_state.proofs.Accepting.{AreValid-after, allowed}
 use Rattle.cube_state.proofs.Keeping.{IsSameKept, IsState-same}
 use Rattle.cube_state.proofs.Staging.{SetGroups-staged, SetIndex-staged, SetStats-staged}
@@ -52,6 +54,17 @@ views-untouched views = record { columns = refl; views = record { count = refl; 
     either None = tt
     either (Some view) = record { columns = refl; depths = refl; values = λ _. refl; places = λ _ has. has }
 
+-- What is staged for changes that suffice is staged for all.
+staged-all : (dims : List Dimension) (before now : ViewMaps) (all changes : List ViewChange) (stage : List (Entries TermList)) → HaveSameViews before now → (1 ≤ length before.views → changes ≡ all)
+    → AreStagedFor dims changes now stage → AreStagedFor dims all now stage
+staged-all dims before now all changes stage alike whole staged = by now.views refl
+  where
+    by : (views : List ViewMap) → now.views ≡ views → AreStagedFor dims all now stage
+    by [] none = record { room = staged.room; each = λ v. rw none tt }
+    by (view ∷ views) some =
+        let count : length now.views ≡ length before.views = alike.views.count in
+        subst (λ (cs : List ViewChange). AreStagedFor dims cs now stage) (whole (omega (arith, sym count, ap (λ (vs : List ViewMap). length vs) some))) staged
+
 module _ {P : Type 0} (weigh : P → CellStat → ℕ) (state seen : StateValue P) (same : seen ≡ state) (kept : IsState (policy_in weigh seen) seen.shape seen.dims seen.cuts seen.facts seen.kept) where
   -- the state stays one
   pub state-kept : (cuts : List (List ℕ)) (facts : List Fact) (new : Kept) → cuts ≡ seen.cuts → facts ≡ seen.facts → IsSameKept seen.kept new → IsState (policy_in weigh seen) seen.shape seen.dims cuts facts new
@@ -76,13 +89,14 @@ module _ {P : Type 0} (weigh : P → CellStat → ℕ) (state seen : StateValue 
       either (Some f) is = (first-holds (IsValid seen.shape seen.dims) (λ f. f.id == edited_id edit_moves.edit) seen.facts f kept.valid.each (sym is)).accepted.placed.region
 
   -- the views can be changed
-  pub fits-seen : (changes : List ViewChange) → FitsViews state.dims changes state.kept.views → FitsViews seen.dims changes seen.kept.views
-  fits-seen changes fits = subst (λ (s : StateValue P). FitsViews s.dims changes s.kept.views) (sym same) fits
+  pub fits-seen : (groups : Entries Group) (changes : List ViewChange) → SufficeFor state.dims state.kept.views (all_changes state groups) changes → FitsViews seen.dims changes seen.kept.views
+  fits-seen groups changes suffice = subst (λ (s : StateValue P). FitsViews s.dims changes s.kept.views) (sym same) suffice.fit
 
   module _ (edit_moves : Moves) (regrouped : Regrouped) (changes : List ViewChange)
       (moves : AreMoves (policy_in weigh state) state.shape state.dims state.facts edit_moves)
       (groups : IsRegrouped (policy_in weigh state) (width_of_all state.shape.measures) state.dims edit_moves.edit state.facts regrouped)
-      (follow : FollowBy (rows_in weigh state) (facts_taken_away changes) (facts_put changes) (rows_after weigh state edit_moves.edit))
+      (follow : FollowBy (rows_in weigh state) (facts_taken_away (all_changes state regrouped.groups)) (facts_put (all_changes state regrouped.groups)) (rows_after weigh state edit_moves.edit))
+      (suffice : SufficeFor state.dims state.kept.views (all_changes state regrouped.groups) changes)
       (shape_is : IsShape seen.shape) where
     seen_moves : AreMoves (policy_in weigh seen) seen.shape seen.dims seen.facts edit_moves
     seen_moves = subst (λ (s : StateValue P). AreMoves (policy_in weigh s) s.shape s.dims s.facts edit_moves) (sym same) moves
@@ -90,8 +104,14 @@ module _ {P : Type 0} (weigh : P → CellStat → ℕ) (state seen : StateValue 
     seen_groups : IsRegrouped (policy_in weigh seen) (width_of_all seen.shape.measures) seen.dims edit_moves.edit seen.facts regrouped
     seen_groups = subst (λ (s : StateValue P). IsRegrouped (policy_in weigh s) (width_of_all s.shape.measures) s.dims edit_moves.edit s.facts regrouped) (sym same) groups
 
-    seen_follow : FollowBy (rows_in weigh seen) (facts_taken_away changes) (facts_put changes) (rows_after weigh seen edit_moves.edit)
-    seen_follow = subst (λ (s : StateValue P). FollowBy (rows_in weigh s) (facts_taken_away changes) (facts_put changes) (rows_after weigh s edit_moves.edit)) (sym same) follow
+    abbrev all : List ViewChange
+    all = all_changes state regrouped.groups
+
+    seen_follow : FollowBy (rows_in weigh seen) (facts_taken_away all) (facts_put all) (rows_after weigh seen edit_moves.edit)
+    seen_follow = subst (λ (s : StateValue P). FollowBy (rows_in weigh s) (facts_taken_away all) (facts_put all) (rows_after weigh s edit_moves.edit)) (sym same) follow
+
+    seen_suffice : SufficeFor seen.dims seen.kept.views all changes
+    seen_suffice = subst (λ (s : StateValue P). SufficeFor s.dims s.kept.views all changes) (sym same) suffice
 
     valid : AreValid seen.shape seen.dims (after edit_moves.edit seen.facts)
     valid = AreValid-after seen.shape seen.dims edit_moves.edit seen.facts seen_moves.over (allowed seen.shape seen.dims edit_moves.edit seen.facts seen_moves.accepted) kept.valid
@@ -119,7 +139,7 @@ module _ {P : Type 0} (weigh : P → CellStat → ℕ) (state seen : StateValue 
                 (staged.puts ∙ ap (λ o. option_to_list (indexed_as seen.dims o)) seen_moves.gives) (staged.drops ∙ ap (λ o. option_to_list (indexed_as seen.dims o)) seen_moves.takes);
             groups = subst (SetGroups policy (width_of_all seen.shape.measures) seen.dims (after edit seen.facts) new.groups) (sym anew)
                 (SetGroups-staged policy (width_of_all seen.shape.measures) seen.dims edit seen.facts up seen_groups.codes new.groups seen_groups.hold now.groups (subst (λ (es : Entries Group). have_places new.groups es ≡ true) anew staged.groups_placed));
-            views = record { room = staged.views.room; changes = changes; staged = staged.views; follow = seen_follow };
+            views = record { room = staged.views.room; changes = all; staged = staged-all seen.dims seen.kept.views new.views all changes sets.views still.views seen_suffice.whole staged.views; follow = seen_follow };
           }
 
       -- and what is staged is what the edit makes of it

@@ -1,8 +1,9 @@
 -- What an edit changes in views of facts: with it they are those of the facts after, and each entry can be changed so.
 use Rattle.std.proofs.Common.{◌≡◌, ℕ, ◌+◌, ◌*◌, ◌≤◌, true, List, [], ◌∷◌, ◌++◌, get_or, map, refl, ap, sym, ◌∙◌, subst, arith, ◌+ℤ◌}
-use Rattle.std.specs.Prelude.{All, ◌||◌, Option}
+use Rattle.std.specs.Prelude.{All, ◌==◌, ◌||◌, Option, length}
 use Rattle.std.specs.List.{flat_map}
 use Rattle.std.specs.List.Sorted.{IsStrictlyIncreasing}
+use Rattle.std.proofs.lemmas.Bool.Decides.{nat_tests}
 use Rattle.std.proofs.lemmas.List.Elements.{All-map, All-weaker}
 use Rattle.cube_model.specs.declared.edit.Edit.{Edit}
 use Rattle.cube_model.specs.declared.edit.Fact.{Fact}
@@ -23,7 +24,7 @@ use Rattle.fact_records.specs.Valid.{AreValid}
 use Rattle.view_store.specs.declared.change.ViewChange.{ViewChange}
 use Rattle.view_store.specs.Changes.{FitsView, FitsViews, facts_put, facts_taken_away}
 use Rattle.view_store.specs.Facts.{FollowBy, IsViewOfFacts}
-use Rattle.view_store.specs.Views.{ViewMap}
+use Rattle.view_store.specs.Views.{ViewMap, ViewMaps}
 use Rattle.cube_state.specs.declared.edit_moves.Moves.{Moves}
 use Rattle.cube_state.specs.declared.changed_groups.Regrouped.{Regrouped}
 use Rattle.cube_state.specs.Moves.{AreMoves}
@@ -32,7 +33,7 @@ use Rattle.cube_state.specs.Regrouped.{HoldChanged, group_is_respread, is_edited
 use Rattle.fact_indexes.specs.Kept.{IsState}
 use Rattle.cube_state.specs.State.{StateValue, policy_in, rows_after, rows_in}
 use Rattle.fact_indexes.specs.ViewChanges.{AreOfRegions, IsOfRegion}
-use Rattle.cube_state.specs.ViewChanges.{EntriesAreOfRegions, changes_at, changes_by}
+use Rattle.cube_state.specs.ViewChanges.{SufficeFor, EntriesAreOfRegions, all_changes, changes_at, changes_by}
 use Rattle.fact_indexes.proofs.ChangedEntries.{IsPlaced, StandFor, fits-views}
 use Rattle.fact_indexes.proofs.ChangeGroups.{facts_put-groups, facts_taken_away-groups}
 use Rattle.cube_state.proofs.CodeChanges.{changes_with, each-with, given-with, taken-with}
@@ -210,3 +211,17 @@ module _ {P : Type 0} (weigh : P → CellStat → ℕ) (state seen : StateValue 
     fit-seen =
         subst (λ (cs : List ViewChange). FitsViews state.dims cs state.kept.views) (sym changes-here)
         (fit-changes (weigh state.policy) bound-here state.shape state.dims moves.edit state.facts shape-here move-here from.codes from.hold state.kept.views.views kept-here.views.answers wide-here)
+
+    -- so they suffice for the views
+    pub suffice-seen : SufficeFor state.dims state.kept.views (all_changes state made.groups) all
+    suffice-seen = record {
+      fit = fit-seen;
+      whole = λ some. all_are ∙ ap (λ (s : StateValue P). all_changes s made.groups) shown;
+    }
+
+-- where there is no view, none suffice
+pub suffice-none : (dims : List Dimension) (maps : ViewMaps) (all : List ViewChange) → (length maps.views == 0) ≡ true → SufficeFor dims maps all []
+suffice-none dims maps all none = record {
+  fit = λ k d within. absurd (grind (arith, nat_tests, none));
+  whole = λ some. absurd (grind (arith, nat_tests, none));
+}

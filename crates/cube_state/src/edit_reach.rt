@@ -2,6 +2,7 @@
 ghost use Rattle.std.specs.Prelude.{◌≡◌, ◌==◌, ◌+◌, ◌<◌, ◌≤◌, ◌||◌, ℕ, All, IfOk, IfSome, None, false, length};
 ghost use Rattle.std.specs.Option.{option_copied, option_map_or};
 ghost use Rattle.cube_model.specs.Cells.{all_cells, is_among};
+ghost use Rattle.fact_groups.specs.Edits.{given, taken};
 ghost use Rattle.fact_groups.specs.Groups.{has_code};
 ghost use Rattle.fact_records.specs.Judge.{fact_refusal};
 ghost use Rattle.fact_records.specs.Shape.{width_of_all};
@@ -34,10 +35,10 @@ impl<P: WeightPolicy + Drop> State<P> {
     {
         let _ = self.facts();
         let _ = self.shape().columns();
-        let touched = self.cell_changes(edit)?;
-        let reweighing = reweighing_changes(self.alloc, &self.policy, &touched)?;
         let taken = taken_fact(edit, &self.facts);
         let given = given_fact(edit);
+        let touched = self.cell_changes(edit, taken, given)?;
+        let reweighing = reweighing_changes(self.alloc, &self.policy, &touched)?;
         let taken_code = self.region_code(taken.as_ref());
         let given_code = self.region_code(given.as_ref());
         Ok(Moves {
@@ -96,16 +97,23 @@ impl<P: WeightPolicy + Drop> State<P> {
         Ok(codes)
     }
 
-    /// The cells that an edit touches, ascending, each with its statistics before and after it. No code that is judged before
-    /// the rows refuses the edit.
-    fn cell_changes(&self, edit: &Edit) -> Result<Vec<Change>, Memory>
+    /// The cells that an edit touches, ascending, each with its statistics before and after it. These are its old fact and its new
+    /// fact, and no code that is judged before the rows refuses it.
+    fn cell_changes(
+        &self,
+        edit: &Edit,
+        before: Option<Fact>,
+        after: Option<Fact>,
+    ) -> Result<Vec<Change>, Memory>
         requires over { IsEditOver self.now.dims edit.now }
         requires accepted { fact_refusal self.now.shape self.now.dims edit.now self.now.facts ≡ None }
+        requires before { before ≡ taken edit.now self.now.facts }
+        requires after { after ≡ given edit.now }
         ensures { IfOk result (λ changes. changes.items ≡ touched (policy_in P.weigh self.now) self.now.dims edit.now self.now.facts) }
     {
         let _ = self.shape.columns();
-        let lost = cell_of_fact(&self.space, &self.shape, taken_fact(edit, &self.facts));
-        let won = cell_of_fact(&self.space, &self.shape, given_fact(edit));
+        let lost = cell_of_fact(&self.space, &self.shape, before);
+        let won = cell_of_fact(&self.space, &self.shape, after);
         changes(self.alloc, &self.stats, lost, won)
     }
 }

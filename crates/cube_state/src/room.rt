@@ -8,12 +8,13 @@ ghost use Rattle.fact_records.specs.Shape.{width_of_all};
 ghost use Rattle.region_algebra.specs.Space.{IsRegion};
 ghost use Rattle.region_index.specs.Changes.{IsStagedFor, IsUnchanged};
 ghost use Rattle.staged_map.specs.Staged.{have_places, value_at};
-ghost use Rattle.view_store.specs.Changes.{FitsViews, facts_put, facts_taken_away};
+ghost use Rattle.view_store.specs.Changes.{facts_put, facts_taken_away};
 ghost use Rattle.view_store.specs.Facts.{FollowBy};
 ghost use Rattle.cube_state.specs.Moves.{AreMoves, indexed_as};
 ghost use Rattle.cube_state.specs.Sets.{AreSetsFor, has_room};
 ghost use Rattle.cube_state.specs.Regrouped.{IsRegrouped};
 ghost use Rattle.cube_state.specs.State.{HaveSameContent, policy_in, rows_after, rows_in};
+ghost use Rattle.cube_state.specs.ViewChanges.{SufficeFor, all_changes};
 
 use crate::changed_groups::Regrouped;
 use crate::edit_moves::Moves;
@@ -68,8 +69,8 @@ impl<P: WeightPolicy + Drop> State<P> {
     ) -> Result<Sets, Memory>
         requires moves { AreMoves (policy_in P.weigh self.old) self.old.shape self.old.dims self.old.facts moves.now }
         requires regrouped { IsRegrouped (policy_in P.weigh self.old) (width_of_all self.old.shape.measures) self.old.dims moves.now.edit self.old.facts regrouped }
-        requires follow { FollowBy (rows_in P.weigh self.old) (facts_taken_away changes.now) (facts_put changes.now) (rows_after P.weigh self.old moves.now.edit) }
-        requires fit { FitsViews self.old.dims changes.now self.old.kept.views }
+        requires follow { FollowBy (rows_in P.weigh self.old) (facts_taken_away (all_changes self.old regrouped.groups)) (facts_put (all_changes self.old regrouped.groups)) (rows_after P.weigh self.old moves.now.edit) }
+        requires changes { SufficeFor self.old.dims self.old.kept.views (all_changes self.old regrouped.groups) changes.now }
         ensures same { HaveSameContent self.old self.new }
         ensures sets { IfOk result (AreSetsFor P.weigh self.new moves.now.edit) }
         ensures steps { steps.new ≤ steps.old + 2 }
@@ -88,8 +89,8 @@ impl<P: WeightPolicy + Drop> State<P> {
     ) -> Result<Stages, Memory>
         requires moves { AreMoves (policy_in P.weigh self.old) self.old.shape self.old.dims self.old.facts moves.now }
         requires regrouped { IsRegrouped (policy_in P.weigh self.old) (width_of_all self.old.shape.measures) self.old.dims moves.now.edit self.old.facts regrouped.now }
-        requires follow { FollowBy (rows_in P.weigh self.old) (facts_taken_away changes.now) (facts_put changes.now) (rows_after P.weigh self.old moves.now.edit) }
-        requires fit { FitsViews self.old.dims changes.now self.old.kept.views }
+        requires follow { FollowBy (rows_in P.weigh self.old) (facts_taken_away (all_changes self.old regrouped.now.groups)) (facts_put (all_changes self.old regrouped.now.groups)) (rows_after P.weigh self.old moves.now.edit) }
+        requires changes { SufficeFor self.old.dims self.old.kept.views (all_changes self.old regrouped.now.groups) changes.now }
         ensures same { HaveSameContent self.old self.new }
         ensures sets { IfOk result (λ stages. AreSetsFor P.weigh self.new moves.now.edit (record { stats = stages.stats; index = stages.index; groups = regrouped.now.groups; views = stages.views })) }
         ensures steps { steps.new ≤ steps.old + 2 }

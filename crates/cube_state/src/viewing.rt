@@ -4,13 +4,13 @@ ghost use Rattle.std.specs.Option.{option_copied};
 ghost use Rattle.fact_records.specs.Shape.{width_of_all};
 ghost use Rattle.region_algebra.specs.Space.{IsRegion};
 ghost use Rattle.staged_map.specs.Staged.{value_at};
-ghost use Rattle.view_store.specs.Changes.{FitsViews, facts_put, facts_taken_away};
+ghost use Rattle.view_store.specs.Changes.{facts_put, facts_taken_away};
 ghost use Rattle.view_store.specs.Facts.{FollowBy};
 ghost use Rattle.fact_indexes.specs.ViewChanges.{AreOfRegions, IsOfRegion};
 ghost use Rattle.cube_state.specs.Moves.{AreMoves};
 ghost use Rattle.cube_state.specs.Regrouped.{IsRegrouped};
 ghost use Rattle.cube_state.specs.State.{policy_in, rows_after, rows_in, view_at};
-ghost use Rattle.cube_state.specs.ViewChanges.{EntriesAreOfRegions, changes_at, changes_by};
+ghost use Rattle.cube_state.specs.ViewChanges.{SufficeFor, EntriesAreOfRegions, all_changes, changes_at, changes_by};
 
 use crate::changed_groups::Regrouped;
 use crate::edit_moves::Moves;
@@ -25,7 +25,7 @@ use view_store::{ViewChange, ViewList};
 
 impl<P: WeightPolicy + Drop> State<P> {
     /// What an edit changes in every view: of each region whose group changes, the shares before are taken away and those after
-    /// are put.
+    /// are put. Where there is no view nothing is listed.
     pub(crate) fn view_changes(
         &self,
         moves: &Moves,
@@ -33,11 +33,14 @@ impl<P: WeightPolicy + Drop> State<P> {
     ) -> Result<Vec<ViewChange>, Memory>
         requires moves { AreMoves (policy_in P.weigh self.now) self.now.shape self.now.dims self.now.facts moves.now }
         requires regrouped { IsRegrouped (policy_in P.weigh self.now) (width_of_all self.now.shape.measures) self.now.dims moves.now.edit self.now.facts regrouped.now }
-        ensures follow { IfOk result (λ changes. FollowBy (rows_in P.weigh self.now) (facts_taken_away changes.items) (facts_put changes.items) (rows_after P.weigh self.now moves.now.edit)) }
-        ensures fit { IfOk result (λ changes. FitsViews self.now.dims changes.items self.now.kept.views) }
+        ensures follow { FollowBy (rows_in P.weigh self.now) (facts_taken_away (all_changes self.now regrouped.now.groups)) (facts_put (all_changes self.now regrouped.now.groups)) (rows_after P.weigh self.now moves.now.edit) }
+        ensures changes { IfOk result (λ changes. SufficeFor self.now.dims self.now.kept.views (all_changes self.now regrouped.now.groups) changes.items) }
     {
         let _ = self.shape.columns();
         let _ = self.views.columns();
+        if self.views.is_empty() {
+            return Ok(Vec::new(self.alloc));
+        }
         changes_by(
             self.alloc,
             &self.space,

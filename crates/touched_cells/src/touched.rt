@@ -1,6 +1,6 @@
 //! The cells that an edit touches, with their statistics before and after it.
-ghost use Rattle.std.specs.Prelude.{◌≡◌, ◌≤◌, ◌<◌, ℕ, All, IfOk, IfSome, None, length, map, nat_abs, pos, slice_index_or};
-ghost use Rattle.std.specs.Option.{option_map, option_map_or};
+ghost use Rattle.std.specs.Prelude.{◌≡◌, ◌++◌, ◌≤◌, ◌<◌, ℕ, All, IfOk, IfSome, OnOk, None, length, map, nat_abs, pos, slice_index_or};
+ghost use Rattle.std.specs.Option.{option_map, option_map_or, option_to_list};
 ghost use Rattle.cube_model.specs.Limits.{MAX_VALUE};
 ghost use Rattle.cell_weight.specs.Stats.{IsStat, stat_at};
 ghost use Rattle.fact_groups.specs.Changes.{cells_in_order};
@@ -94,22 +94,15 @@ fn change_at(
     (cell, stat, after)
 }
 
-/// The cells that there are, ascending, one that is there twice once.
-fn cells_in_order(alloc: Global, a: Option<u64>, b: Option<u64>) -> Result<Vec<u64>, Memory>
-    ensures { IfOk result (λ cells. cells.items ≡ cells_in_order a b) }
+/// The cells that there are, the smaller first, one that is there twice once.
+fn cells_in_order(a: Option<u64>, b: Option<u64>) -> (Option<u64>, Option<u64>)
+    ensures { option_to_list result.0 ++ option_to_list result.1 ≡ cells_in_order a b }
 {
-    let mut cells = Vec::new(alloc);
     match (a, b) {
-        (None, None) => {}
-        (Some(cell), None) | (None, Some(cell)) => cells.push(cell)?,
-        (Some(a), Some(b)) => {
-            cells.push(a.min(b))?;
-            if a != b {
-                cells.push(a.max(b))?;
-            }
-        }
+        (Some(a), Some(b)) if a != b => (Some(a.min(b)), Some(a.max(b))),
+        (None, _) => (b, None),
+        _ => (a, None),
     }
-    Ok(cells)
 }
 
 /// The changes of the cells of both facts, ascending.
@@ -124,8 +117,11 @@ pub fn changes(
     requires light { (cell : ℕ) → added_at given cell ≤ MAX_VALUE }
     ensures { IfOk result (λ changes. changes.items ≡ changes_of (stat_at stats.now) taken given) }
 {
-    let cells = cells_in_order(alloc, cell_of(taken), cell_of(given))?;
-    changes_at(alloc, stats, taken, given, &cells)
+    let (first, second) = cells_in_order(cell_of(taken), cell_of(given));
+    let mut changes = Vec::new(alloc);
+    push_change(&mut changes, stats, taken, given, first)?;
+    push_change(&mut changes, stats, taken, given, second)?;
+    Ok(changes)
 }
 
 /// The cell of a fact that lies on one.
@@ -138,24 +134,23 @@ fn cell_of(lying: Option<(u64, u64)>) -> Option<u64>
     }
 }
 
-/// The changes of cells, in their order.
-fn changes_at(
-    alloc: Global,
+/// Adds the change of a cell, if there is one.
+fn push_change(
+    changes: &mut Vec<Change>,
     stats: &StatIndex,
     taken: Option<(u64, u64)>,
     given: Option<(u64, u64)>,
-    cells: &[u64],
-) -> Result<Vec<Change>, Memory>
+    cell: Option<u64>,
+) -> Result<(), Memory>
     requires number { (cell : ℕ) → number_at taken cell ≤ (stat_at stats.now cell).count }
     requires added { (cell : ℕ) → added_at taken cell ≤ (stat_at stats.now cell).sum }
     requires light { (cell : ℕ) → added_at given cell ≤ MAX_VALUE }
-    ensures { IfOk result (λ changes. changes.items ≡ map (change_at (stat_at stats.now) taken given) cells.now) }
+    ensures { OnOk result (changes.new.items ≡ changes.old.items ++ map (change_at (stat_at stats.now) taken given) (option_to_list cell)) }
 {
-    let mut changes = Vec::new(alloc);
-    for cell in cells {
-        changes.push(change_at(stats, taken, given, *cell))?;
+    if let Some(cell) = cell {
+        changes.push(change_at(stats, taken, given, cell))?;
     }
-    Ok(changes)
+    Ok(())
 }
 
 /// Those of the changes that make a cell weigh otherwise.

@@ -1,17 +1,16 @@
 -- Sums of shares are codes of the regions over those that were asked.
-use Rattle.std.proofs.Common.{◌≡◌, ℕ, zero, suc, ◌+◌, ◌*◌, ◌/◌, ◌%◌, ◌<◌, ◌≤◌, Bool, true, false, List, [], ◌∷◌, ◌++◌, length, drop, get_or, refl, sym, ap, ◌∙◌, inl, inr, arith, Option, Some, None, is_some, true≢false}
-use Rattle.std.specs.Prelude.{All, IfSome, slice_get, nat_lt, ◌&&◌}
-use Rattle.std.specs.Option.{option_and_then, option_map, option_map_or}
+use Rattle.std.proofs.Common.{◌≡◌, ℕ, zero, suc, ◌+◌, ◌*◌, ◌/◌, ◌%◌, ◌<◌, ◌≤◌, true, List, [], ◌∷◌, ◌++◌, length, drop, get_or, refl, sym, ap, ◌∙◌, inl, inr, arith, Option, Some, None, is_some, true≢false}
+use Rattle.std.specs.Prelude.{All, IfSome, slice_get, nat_lt}
+use Rattle.std.specs.Option.{option_and_then, option_map}
 use Rattle.std.proofs.Math.Nat.{mul-le-mul}
 use Rattle.std.proofs.lemmas.Bool.{cases_eq}
-use Rattle.std.proofs.lemmas.Bool.Decides.{nat_tests}
 use Rattle.std.proofs.lemmas.List.{drop_all, length-append}
 use Rattle.std.proofs.lemmas.List.Elements.{All-tail}
 use Rattle.std.proofs.lemmas.Nat.{div-add-mod', div_below, mod_below}
 use Rattle.std.proofs.lemmas.Option.{same_Some, slice_get-get_or, slice_get_within}
 use Rattle.cube_model.specs.Cells.{all_cells}
 use Rattle.cube_model.specs.Limits.{SPACE_LIMIT}
-use Rattle.cube_model.specs.Tree.{Dimension, IsTree, is_leaf, leaves, numbers, place_of}
+use Rattle.cube_model.specs.Tree.{Dimension, IsTree, is_leaf, leaves, numbers}
 use Rattle.dim_tree.proofs.Climbing.{both, together}
 use Rattle.dim_tree.proofs.Renumbering.{length-numbers}
 use Rattle.region_algebra.specs.Fault.{space_fault}
@@ -22,8 +21,8 @@ use Rattle.region_algebra.proofs.Numbers.{found-passes, place_of-number}
 use Rattle.region_algebra.proofs.Spaces.{accepted-limits}
 use Rattle.region_algebra.proofs.Tuples.{region-at_code, region-below}
 use Rattle.region_algebra.proofs.Turns.{drop-at, region_total-drop}
-use Rattle.view_store.specs.Cuts.{HoldsCells, HoldsRegion, IsCodeOver, IsCutNode, reaches_cut, reaches_cuts}
-use Rattle.view_store.specs.CutTables.{AreDigits, AreDigitsOf, AreShares, IsDigit, IsShareOf, IsShareOver, IsTable, share_sum}
+use Rattle.view_store.specs.Cuts.{HoldsCells, HoldsRegion, IsCodeOver, reaches_cuts}
+use Rattle.view_store.specs.CutTables.{AreDigits, AreDigitsOf, AreShares, IsDigit, IsShareOf, IsTable, share_sum}
 use Rattle.view_store.specs.declared.cut_table.CutDigit.{CutDigit}
 use Rattle.view_store.specs.declared.cut_table.CutTable.{CutTable}
 use Rattle.view_store.specs.Views.{region_at}

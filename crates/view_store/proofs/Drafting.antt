@@ -1,24 +1,21 @@
 -- Drafts of entries: copies of terms, and the shares of rows that are added to them.
-use Rattle.std.proofs.Common.{◌≡◌, ℕ, zero, suc, ◌+◌, ◌*◌, ◌-◌, ◌<◌, ◌≤◌, Bool, true, false, List, [], ◌∷◌, ◌++◌, filter, length, get_or, refl, ap, sym, ◌∙◌, inl, inr, arith, pos, nat_abs, subst, take, drop, Option, Some, None, is_some, unwrap_or, add-one}
+use Rattle.std.proofs.Common.{◌≡◌, ℕ, zero, suc, ◌+◌, ◌*◌, ◌<◌, ◌≤◌, Bool, true, false, List, [], ◌∷◌, ◌++◌, filter, length, get_or, refl, ap, sym, ◌∙◌, inl, inr, arith, pos, nat_abs, subst, take, drop, Option, Some, None, is_some, unwrap_or, add-one}
 use Rattle.std.specs.Prelude.{All, Err, IfSome, Ok, OnErr, OnOk, Result, if◌then◌else◌, ◌==◌, ◌&&◌, nat_le}
 use Rattle.std.specs.List.{list_all, sum_by}
 use Rattle.std.proofs.Math.Nat.{mul-le-mul}
 use Rattle.std.proofs.lemmas.Bool.{cases_eq}
 use Rattle.std.proofs.lemmas.Bool.Decides.{nat_tests}
-use Rattle.std.proofs.lemmas.Int.{ints}
 use Rattle.std.proofs.lemmas.List.{take_more, take-append-drop}
 use Rattle.std.proofs.lemmas.List.Elements.{All-head, All-tail, All-weaker, filter-append}
 use Rattle.std.proofs.lemmas.List.Sums.{sum_by-append, sum_by-cons}
 use Rattle.cube_base.specs.declared.fault.Memory.{Memory}
 use Rattle.cube_model.specs.declared.term.Term.{Term}
-use Rattle.cube_model.specs.Answer.{count_of, merge, numerator_of}
+use Rattle.cube_model.specs.Answer.{count_of, numerator_of}
 use Rattle.cube_model.specs.Cells.{cells_of, is_among}
 use Rattle.cube_model.specs.Limits.{WIDE}
 use Rattle.cube_model.specs.Tree.{Dimension}
-use Rattle.group_sum.specs.Merge.{FitsMerge}
 use Rattle.group_sum.specs.Terms.{AddsUnits, AreTerms, FitsUnits, TermList, are_terms_from}
 use Rattle.group_sum.proofs.Ascending.{first_is}
-use Rattle.group_sum.proofs.MergeLaws.{merge_commutes, merge_nothing}
 use Rattle.staged_map.specs.Staged.{Places, Sets, value_at}
 use Rattle.view_store.specs.declared.change.Share.{Share}
 use Rattle.view_store.specs.declared.change.ViewChange.{ViewChange}

@@ -1,5 +1,5 @@
 //! All views of a cube.
-ghost use Rattle.std.specs.Prelude.{◌≡◌, ◌≤◌, ◌<◌, ◌+◌, [], ◌∷◌, All, List, IfOk, IfSome, OnOk, length, map, slice_get};
+ghost use Rattle.std.specs.Prelude.{◌==◌, ◌≡◌, ◌≤◌, ◌<◌, ◌+◌, [], ◌∷◌, All, List, IfOk, IfSome, OnOk, length, map, slice_get};
 ghost use Rattle.std.specs.Option.{option_copied, option_map};
 ghost use Rattle.cube_model.specs.Limits.{MAX_COLS};
 ghost use Rattle.cube_model.specs.Tree.{Dimension};
@@ -90,6 +90,13 @@ impl Views {
             columns: self.columns,
             views,
         })
+    }
+
+    /// Whether there is no view.
+    pub fn is_empty(&self) -> bool
+        ensures { result ≡ (length self.now.views == 0) }
+    {
+        self.views.is_empty()
     }
 
     /// The number of columns of each view, from 1 to 8.

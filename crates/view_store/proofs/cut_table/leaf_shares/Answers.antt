@@ -1,7 +1,6 @@
 -- The share of the next leaf is listed.
-use Rattle.std.proofs.Common.{◌≡◌, ◌+◌, arith}
 use Rattle.cube_model.specs.Tree.{leaves}
-use Rattle.view_store.proofs.CutTables.{shares-at_end, shares-next}
+use Rattle.view_store.proofs.CutTables.{shares-next}
 use Rattle.view_store.proofs.cut_table.leaf_shares.Goals as goal
 
 pub loop-i-preserved : goal.loop-i-preserved

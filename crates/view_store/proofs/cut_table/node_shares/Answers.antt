@@ -1,10 +1,9 @@
 -- The share of the node at the next place is listed.
-use Rattle.std.proofs.Common.{◌≡◌, ◌+◌, arith}
+use Rattle.std.proofs.Common.{arith}
 use Rattle.cube_model.specs.Tree.{numbers}
 use Rattle.dim_tree.proofs.Renumbering.{length-numbers}
 use Rattle.region_algebra.proofs.Numbers.{number-at}
-use Rattle.view_store.specs.CutTables.{AreShares}
-use Rattle.view_store.proofs.CutTables.{shares-at_end, shares-next, shares-none}
+use Rattle.view_store.proofs.CutTables.{shares-at_end, shares-next}
 use Rattle.view_store.proofs.cut_table.node_shares.Goals as goal
 
 pub loop-place-preserved : goal.loop-place-preserved

@@ -1,6 +1,6 @@
 -- Digit by digit: it is inside, and what it adds is added.
-use Rattle.std.proofs.Common.{◌≡◌, Some, None, get_or, ◌/◌, arith, sym, ◌∙◌}
-use Rattle.view_store.proofs.CutTables.{next, sum-end, sum-next, sum-none, sum-room, sum-start}
+use Rattle.std.proofs.Common.{◌≡◌, Some, None, get_or, ◌/◌, arith}
+use Rattle.view_store.proofs.CutTables.{next, sum-next, sum-room, sum-start}
 use Rattle.view_store.proofs.cut_table.share_sum.Goals as goal
 
 pub loop-digit-init : goal.loop-digit-init

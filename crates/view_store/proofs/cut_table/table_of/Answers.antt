@@ -1,8 +1,7 @@
 -- The digits of the next dimension are listed.
-use Rattle.std.proofs.Common.{◌≡◌, ◌+◌, get_or, arith, drop, length}
 use Rattle.cube_model.specs.Tree.{leaves, numbers}
 use Rattle.region_algebra.specs.Space.{cell_total, region_total}
-use Rattle.view_store.proofs.CutTables.{digits-more, digits-none, shares-small}
+use Rattle.view_store.proofs.CutTables.{digits-more, shares-small}
 use Rattle.view_store.proofs.cut_table.table_of.Goals as goal
 
 pub node_shares-requires : goal.node_shares-requires

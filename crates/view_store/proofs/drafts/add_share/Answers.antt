@@ -1,7 +1,7 @@
 -- The share of the row is added to the draft in place.
-use Rattle.std.proofs.Common.{◌≡◌, Some, arith, subst, sym}
+use Rattle.std.proofs.Common.{arith, subst, sym}
 use Rattle.std.specs.Option.{OnSome}
-use Rattle.staged_map.specs.Staged.{Sets, value_at}
+use Rattle.staged_map.specs.Staged.{Sets}
 use Rattle.view_store.proofs.Drafting.{raised-adds, raised-whole}
 use Rattle.view_store.proofs.drafts.add_share.Goals as goal
 

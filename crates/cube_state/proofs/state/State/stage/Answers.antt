@@ -9,7 +9,7 @@ pub stage_facts-requires-clause-lost : goal.stage_facts-requires-clause-lost
 stage_facts-requires-clause-lost g c = lost-region g.P.WeightPolicy.weigh _ _ c.self.view_is c.self.invariant c.args.moves.now c.requires.moves
 
 pub stage-requires-clause-changes : goal.stage-requires-clause-changes
-stage-requires-clause-changes g c = fits-seen g.P.WeightPolicy.weigh _ _ c.self.view_is c.self.invariant c.args.changes.now c.requires.fit
+stage-requires-clause-changes g c = fits-seen g.P.WeightPolicy.weigh _ _ c.self.view_is c.self.invariant c.args.regrouped.now.groups c.args.changes.now c.requires.changes
 
 pub returns-in_err-reserve-clause-same : goal.returns-in_err-reserve-clause-same
 returns-in_err-reserve-clause-same g c = content-kept g.P.WeightPolicy.weigh _ _ c.self.view_is c.self.invariant _ _ _ refl c.in_err-reserve.ensures.same_facts
@@ -60,7 +60,7 @@ returns-clause-same g c =
 
 pub returns-clause-sets : goal.returns-clause-sets
 returns-clause-sets g c =
-    sets-staged g.P.WeightPolicy.weigh _ _ c.self.view_is c.self.invariant c.args.moves.now c.args.regrouped.now c.args.changes.now c.requires.moves c.requires.regrouped c.requires.follow c.columns.ensures.shape _ _ _
+    sets-staged g.P.WeightPolicy.weigh _ _ c.self.view_is c.self.invariant c.args.moves.now c.args.regrouped.now c.args.changes.now c.requires.moves c.requires.regrouped c.requires.follow c.requires.changes c.columns.ensures.shape _ _ _
     (record {
       stats = c.in_ok-stats.ensures.same_stats;
       index = c.in_ok-stats.ensures.same_index.values;

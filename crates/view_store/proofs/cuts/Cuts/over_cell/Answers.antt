@@ -1,7 +1,4 @@
 -- What is listed of the leaves of a cell tells the region over it.
-use Rattle.std.proofs.Common.{◌≡◌, Some, sym, subst}
-use Rattle.std.specs.Prelude.{IfSome}
-use Rattle.view_store.specs.Cuts.{IsCodeOver}
 use Rattle.view_store.specs.CutTables.{IsTable}
 use Rattle.view_store.proofs.CutTables.{cell-digits, cell-told}
 use Rattle.view_store.proofs.cuts.Cuts.over_cell.Goals as goal

@@ -1,9 +1,9 @@
 -- What is listed of the nodes of a region tells the one over it.
-use Rattle.std.proofs.Common.{◌≡◌, Some, sym, ◌∙◌}
+use Rattle.std.proofs.Common.{◌≡◌, sym, ◌∙◌}
 use Rattle.view_store.specs.CutTables.{IsTable}
 use Rattle.view_store.specs.Views.{region_at}
 use Rattle.view_store.proofs.CutRegions.{region_at-is}
-use Rattle.view_store.proofs.CutTables.{region-digits, region-told}
+use Rattle.view_store.proofs.CutTables.{region-told}
 use Rattle.view_store.proofs.cuts.Cuts.over_code.Goals as goal
 
 pub returns-in-Some-clause-some : goal.returns-in-Some-clause-some

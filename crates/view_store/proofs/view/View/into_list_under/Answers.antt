@@ -1,7 +1,7 @@
 -- The entry of the next code is taken out and listed where its region lies below.
 use Rattle.std.proofs.Common.{◌≡◌, ◌∙◌, ap, get_or, Some, sym, subst, true, false, is_some, arith}
 use Rattle.std.proofs.lemmas.List.{take_all}
-use Rattle.staged_map.specs.Staged.{AreKeys, value_at}
+use Rattle.staged_map.specs.Staged.{value_at}
 use Rattle.view_store.specs.Rolling.{is_below}
 use Rattle.view_store.specs.Views.{AreEntries, ViewMap}
 use Rattle.view_store.proofs.CutListing.{listed-whole}
