@@ -66,6 +66,17 @@ over-none dims facts codes steps none = record { members = λ code. ap (λ cs. i
     never [] code = refl
     never (fact ∷ some) code = never some code
 
+-- nor over any cells where no fact covers one
+pub over-empty : (dims : List Dimension) (facts : List Fact) (changes : List CellChange) (code : ℕ) → ((cell : ℕ) → list_any (λ f. covers dims cell f && has_code dims code f) facts ≡ false) → is_over_one dims changes facts code ≡ false
+over-empty dims facts [] code none = sym ((over-none dims facts [] 0 refl).members code)
+over-empty dims facts (change ∷ changes) code none =
+    any-both (λ f. covers dims change.0 f && has_code dims code f) (λ f. covers_one dims changes f && has_code dims code f) (λ f. covers_one dims (change ∷ changes) f && has_code dims code f) facts
+    (λ f. parts (covers dims change.0 f) (covers_one dims changes f) (has_code dims code f))
+    ∙ rw (none change.0, over-empty dims facts changes code none) refl
+  where
+    parts : (a b c : Bool) → ((a || b) && c) ≡ ((a && c) || (b && c))
+    parts a b c = grind arith
+
 -- over all
 pub over-all : (dims : List Dimension) (facts : List Fact) (changes : List CellChange) (i : ℕ) (codes : List ℕ) (before after : ℕ) → length changes ≤ i → AreOver dims facts (take i changes) codes before after → AreOver dims facts changes codes before after
 over-all dims facts changes i codes before after past found = subst (λ (cs : List CellChange). AreOver dims facts cs codes before after) (take_all i changes past) found

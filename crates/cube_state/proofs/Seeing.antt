@@ -1,5 +1,5 @@
 -- What an edit moves, as a state is seen.
-use Rattle.std.proofs.Common.{◌≡◌, ℕ, ◌+◌, ◌≤◌, List, ap, sym, ◌∙◌, subst, arith}
+use Rattle.std.proofs.Common.{◌≡◌, ℕ, ◌+◌, ◌≤◌, true, List, [], ◌∷◌, length, ap, refl, sym, ◌∙◌, subst, arith}
 use Rattle.std.specs.Prelude.{All, IfSome, ◌&&◌, ◌==◌, Option, Some, None}
 use Rattle.std.specs.List.{list_any}
 use Rattle.cube_model.specs.declared.edit.Edit.{Edit}
@@ -14,11 +14,13 @@ use Rattle.fact_groups.specs.Groups.{has_code}
 use Rattle.fact_groups.proofs.Groups.{first-holds}
 use Rattle.fact_records.specs.Shape.{ShapeValue, adds_of}
 use Rattle.fact_records.specs.Valid.{AreValid, IsFactOf, IsValid}
-use Rattle.region_index.specs.Content.{held_codes}
+use Rattle.region_index.specs.Content.{Content, held_codes}
 use Rattle.region_index.specs.Indexed.{covers}
 use Rattle.region_index.specs.Over.{codes_over}
 use Rattle.region_index.proofs.HeldCodes.{held_codes-cover}
 use Rattle.cube_state.specs.Covering.{is_over_one, probes_over}
+use Rattle.cube_state.proofs.Covering.{over-empty}
+use Rattle.std.proofs.lemmas.Bool.Decides.{nat_tests}
 use Rattle.fact_indexes.specs.Kept.{IsState}
 use Rattle.cube_state.specs.State.{StateValue, policy_in}
 use Rattle.touched_cells.specs.Touched.{Lying, added_at, changes_of, lying_of, number_at, touched}
@@ -64,6 +66,12 @@ module _ {P : Type 0} (weigh : P → CellStat → ℕ) (state seen : StateValue 
       ∙ changes-touched (policy_in weigh seen) seen.dims edit seen.facts kept.valid.ascending (stat_at seen.kept.stats) kept.stats
       ∙ ap (λ (s : StateValue P). touched (policy_in weigh s) s.dims edit s.facts) same
 
+-- an index without places holds nothing
+nothing-held : (content : Content) (codes : List ℕ) → (length content == 0) ≡ true → [] ≡ held_codes content codes
+nothing-held content [] empty = refl
+nothing-held [] (code ∷ codes) empty = nothing-held [] codes empty
+nothing-held (place ∷ places) (code ∷ codes) empty = absurd (grind (arith, nat_tests, empty))
+
 module _ {P : Type 0} (state seen : StateValue P) (same : seen ≡ state) where
   -- what the index gives over a cell
   pub held-seen : (weigh : P → CellStat → ℕ) → IsState (policy_in weigh seen) seen.shape seen.dims seen.cuts seen.facts seen.kept → (cell : ℕ) (codes : List ℕ) → All IsTree seen.dims
@@ -76,3 +84,9 @@ module _ {P : Type 0} (state seen : StateValue P) (same : seen ≡ state) where
 
   pub over-seen : (changes : List Change) (codes : List ℕ) → ((code : ℕ) → is_among codes code ≡ is_over_one seen.dims changes seen.facts code) → (code : ℕ) → is_among codes code ≡ is_over_one state.dims changes state.facts code
   over-seen changes codes are code = are code ∙ ap (λ (s : StateValue P). is_over_one s.dims changes s.facts code) same
+
+  -- where it has no places, no codes are over any cells
+  pub empty-seen : (weigh : P → CellStat → ℕ) → IsState (policy_in weigh seen) seen.shape seen.dims seen.cuts seen.facts seen.kept → All IsTree seen.dims → (length seen.kept.index == 0) ≡ true
+      → (changes : List Change) (codes : List ℕ) → codes ≡ [] → (code : ℕ) → is_among codes code ≡ is_over_one state.dims changes state.facts code
+  empty-seen weigh kept trees empty changes codes none =
+      over-seen changes codes (λ code. ap (λ cs. is_among cs code) none ∙ sym (over-empty seen.dims seen.facts changes code (λ cell. sym (held-seen weigh kept cell [] trees (nothing-held seen.kept.index (codes_over seen.dims cell) empty) code))))

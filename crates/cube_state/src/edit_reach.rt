@@ -79,7 +79,7 @@ impl<P: WeightPolicy + Drop> State<P> {
     }
 
     /// The codes of the regions whose imprecise facts cover one of the changed cells, in any order. Each region over such a cell
-    /// is a step.
+    /// is a step, unless there is no imprecise fact.
     fn codes_over<L: Ledger>(
         &self,
         changes: &[Change],
@@ -90,6 +90,9 @@ impl<P: WeightPolicy + Drop> State<P> {
         ensures steps { steps.new ≤ steps.old + probes_over self.now.dims changes.now }
     {
         let mut codes = Vec::new(self.alloc);
+        if self.index.is_empty() {
+            return Ok(codes);
+        }
         for (cell, _, _) in changes {
             let held = self.index.held_codes_over(&self.space, *cell, steps)?;
             codes.extend_from_slice(held.as_slice())?;

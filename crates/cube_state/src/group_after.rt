@@ -4,6 +4,7 @@ ghost use Rattle.std.specs.Option.{option_copied, option_map_or};
 ghost use Rattle.cube_model.specs.Facts.{after};
 ghost use Rattle.cube_model.specs.Limits.{MAX_COLS, MAX_FACTS, MAX_VALUE};
 ghost use Rattle.fact_groups.specs.Groups.{group_at};
+ghost use Rattle.staged_map.specs.Staged.{value_at};
 ghost use Rattle.fact_records.specs.Shape.{width_of_all};
 ghost use Rattle.cube_state.specs.GroupAfter.{AreValuesWithin, fact_value, fact_with_code, group_total, members_of, number_of, sums_after};
 ghost use Rattle.cube_state.specs.Moves.{AreMoves, region_code};
@@ -17,18 +18,20 @@ use cube_base::{Cols, MAX_COLS, Memory};
 use cube_model::Fact;
 
 impl<P: WeightPolicy + Drop> State<P> {
-    /// The group of a code after an edit: None where no fact has a region of the code. Where neither the old fact nor the new fact is
-    /// of the code, it need not be asked whether a cell weighs otherwise.
+    /// The group of a code after an edit, by the one before: None where no fact has a region of the code. Where neither the old fact nor
+    /// the new fact is of the code, it need not be asked whether a cell weighs otherwise.
     pub(crate) fn group_after(
         &self,
         moves: &Moves,
         code: u64,
+        before: Option<&Group>,
         edited: bool,
     ) -> Result<Option<Group>, Memory>
-        requires { AreMoves (policy_in P.weigh self.now) self.now.shape self.now.dims self.now.facts moves.now }
+        requires moves { AreMoves (policy_in P.weigh self.now) self.now.shape self.now.dims self.now.facts moves.now }
+        requires before { option_copied before ≡ value_at self.now.kept.groups code }
         ensures { IfOk result (λ group. group ≡ group_at (policy_in P.weigh self.now) (width_of_all self.now.shape.measures) self.now.dims (after moves.now.edit self.now.facts) code) }
     {
-        let before = self.groups.get(code);
+        let columns = self.shape.columns() - 1;
         let taken = self.fact_at(moves.taken.as_ref(), moves.taken_code, code);
         let given = self.fact_at(moves.given.as_ref(), moves.given_code, code);
         let members = members_of(before) + number_of(given) - number_of(taken);
@@ -39,7 +42,7 @@ impl<P: WeightPolicy + Drop> State<P> {
             unreachable!()
         };
         let spread = self.spread_after(moves, region, before, edited)?;
-        let sums = sums_after(self.shape.columns() - 1, before, taken, given);
+        let sums = sums_after(columns, before, taken, given);
         Ok(Some(Group {
             spread,
             members,

@@ -98,7 +98,7 @@ impl<P: WeightPolicy + Drop> State<P> {
     {
         let group = self.groups.get(code);
         let edited = self.is_edited_at(moves, code);
-        let next = self.group_after(moves, code, edited)?;
+        let next = self.group_after(moves, code, group, edited)?;
         draft.before += rows_of(group);
         draft.after += rows_of(next.as_ref());
         let anew = self.is_spread_anew(moves, code, edited, group, next.as_ref());

@@ -295,3 +295,12 @@ pub IsStagedFor-made : (inside old new : Content) (codes given reserved : List �
 IsStagedFor-made inside old new codes given reserved puts drops stage same given_is reserved_is stage_is ascends named reserves =
     let room : Reserves old new codes = rw (same, reserved_is) at reserves in
     rw (stage_is, given_is) (IsStagedFor-reserved old new codes puts drops ascends named room)
+
+-- nothing is staged for no changes
+pub IsStagedFor-nothing : (content : Content) (stage : Staging) → stage ≡ record { puts = []; drops = []; entries = [] } → IsStagedFor content stage
+unfolding IsDistinct
+IsStagedFor-nothing content stage is = rw is (record { different = tt; makes = λ code. stay code (ids_at content code); placed = refl })
+  where
+    stay : (code : ℕ) (ids : List ℕ) → ids ≡ ids_after [] [] code ids
+    stay code [] = refl
+    stay code (id ∷ ids) = ap (λ others. id ∷ others) (stay code ids)

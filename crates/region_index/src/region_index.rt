@@ -1,5 +1,5 @@
 //! The index of the imprecise facts.
-ghost use Rattle.std.specs.Prelude.{◌≡◌, ◌+◌, ◌<◌, ◌≤◌, ◌||◌, ◌&&◌, ◌++◌, ℕ, List, [], IfOk, OnErr, length, map, not};
+ghost use Rattle.std.specs.Prelude.{◌≡◌, ◌==◌, ◌+◌, ◌<◌, ◌≤◌, ◌||◌, ◌&&◌, ◌++◌, ℕ, List, [], IfOk, OnErr, length, map, not};
 ghost use Rattle.cube_model.specs.Cells.{all_cells, is_among};
 ghost use Rattle.region_index.specs.Content.{AreAscending, AreIdsAt, held_codes, ids_at};
 ghost use Rattle.region_index.specs.Changes.{Applies, AreByCode, HavePlacesForIds, IsStagedFor, IsUnchanged, Pair, changed_entry, names, some_ids, staging};
@@ -66,6 +66,13 @@ impl RegionIndex {
             ids: Staged::new(alloc),
             alloc,
         }
+    }
+
+    /// Whether no code has a place: then no id is held. It takes no memory.
+    pub fn is_empty(&self) -> bool
+        ensures { result ≡ (length self.now == 0) }
+    {
+        self.ids.count() == 0
     }
 
     /// The ids that are held at the regions over a cell, ascending, each once. A step is a probe of a region or an id
@@ -158,6 +165,9 @@ impl RegionIndex {
         ensures staged { IfOk result (IsStagedFor self.new) }
         ensures content { IsUnchanged self.old self.new }
     {
+        if puts.is_empty() && drops.is_empty() {
+            return Ok(nothing(self.alloc));
+        }
         let codes = changed_codes(self.alloc, puts, drops)?;
         let stage = self.stage_at_codes(&codes, puts, drops)?;
         self.ids.reserve(&codes)?;
@@ -247,6 +257,17 @@ impl RegionIndex {
             entries,
         } = stage;
         self.ids.put_all(entries);
+    }
+}
+
+/// What is staged for no changes. It takes no memory.
+fn nothing(alloc: Global) -> RegionStage
+    ensures { result ≡ record { puts = []; drops = []; entries = [] } }
+{
+    RegionStage {
+        puts: Pairs::new(alloc),
+        drops: Pairs::new(alloc),
+        entries: Vec::new(alloc),
     }
 }
 

@@ -1,7 +1,7 @@
 -- Each cell adds the codes of the facts that cover it.
-use Rattle.std.proofs.Common.{◌≡◌, ℕ, ◌≤◌, ◌∙◌, arith}
+use Rattle.std.proofs.Common.{◌≡◌, ℕ, ◌≤◌, ◌∙◌, sym, arith}
 use Rattle.cube_state.proofs.Covering.{over-all, over-broken, over-next, over-none}
-use Rattle.cube_state.proofs.Seeing.{bound-seen, held-seen, over-seen}
+use Rattle.cube_state.proofs.Seeing.{bound-seen, empty-seen, held-seen, over-seen}
 use Rattle.cube_state.proofs.state.State.codes_over.Goals as goal
 
 at_most : (m n : ℕ) → m ≡ n → m ≤ n
@@ -31,3 +31,8 @@ returns-clause-codes g c = over-seen _ _ c.self.view_is c.args.changes.now _ (ov
 
 pub returns-clause-steps : goal.returns-clause-steps
 returns-clause-steps g c = bound-seen _ _ c.self.view_is c.args.changes.now c.args.steps.now _ (over-all _ _ c.args.changes.now c.loop-cell.cell-index _ _ _ c.loop-cell-test.false c.loop-cell.invariant).steps
+
+-- where no imprecise fact is there, nothing is over the cells
+pub returns-then-is_empty-clause-codes : goal.returns-then-is_empty-clause-codes
+returns-then-is_empty-clause-codes g c =
+    empty-seen _ _ c.self.view_is g.P.WeightPolicy.weigh c.self.invariant c.self.invariant.trees (sym c.is_empty.ensures ∙ c.if-is_empty.true) c.args.changes.now c.new-codes.result.items c.new-codes.ensures.items
