@@ -18,6 +18,13 @@ use Rattle.fact_records.proofs.Fronts.{filter_front, filter_back, filter_but, fi
 pub id_at-rises : (facts : List Fact) → IsAscending facts → (i j : ℕ) → i < j → j < length facts → id_at facts i < id_at facts j
 id_at-rises facts up i j lt in_range = up i j no_fact lt in_range
 
+-- a greater id than the last is greater than all
+pub id_at-below : (facts : List Fact) → IsAscending facts → (id p : ℕ) → p ≡ length facts - 1 → id_at facts p < id → (k : ℕ) → k < length facts → id_at facts k < id
+id_at-below facts up id p last less k within = elim (cases_eq k p) [
+  | inl same ↦ rw same less
+  | inr other ↦ omega (arith, less, id_at-rises facts up k p (omega (arith, last, within)) (omega (arith, last, within)))
+]
+
 -- round the fact of an id, smaller ids stand before and greater ones behind
 pub cut_at : (facts : List Fact) → IsAscending facts → (id p : ℕ) → IsIdAt facts id p → IsCut facts id p (suc p)
 cut_at facts up id p here = record {

@@ -116,6 +116,14 @@ module _ (used : List (List Fact)) (up : IsAscending (all_facts used)) where
           back = λ i le in_range. omega (arith, same, first_id_is b in_use, first_id_is i in_range, id_at-rises (all_facts used) up (place_in_all used b 0) (place_in_all used i 0) (omega (arith, place-more used b in_use, (filled b [] in_use).some, place-rises used (b + 1) i le)) (place_below i 0 in_range (omega (arith, (filled i [] in_range).some))));
         })
 
+    -- the last block, which begins with a smaller id
+    pub cut_last : (id b : ℕ) → b + 1 ≡ length used → id_at (block_at used b) 0 < id → IsCut (all_facts used) id (place_in_all used b 0) (place_in_all used (b + 1) 0)
+    cut_last id b last less =
+        cut_behind id b (b + 1) refl (omega (arith, last)) (record {
+          front = λ i lt in_range. omega (arith, less, first_ids_rise i b (omega arith) (omega (arith, last)));
+          back = λ i from in_range. absurd (omega (arith, last, from, in_range));
+        })
+
     -- the block before the one that would begin with the id
     pub cut_absent : (id n b : ℕ) → b ≡ n - 1 → n ≤ length used → 0 < length used → (IsNonDecreasingBy (λ block. ordering_index (nat_cmp (id_at block 0) id)) used → IsPartitionPoint (λ block. nat_cmp (id_at block 0) id ≡ Less) (λ block. nat_cmp (id_at block 0) id ≡ Greater) used n) → IsCut (all_facts used) id (place_in_all used b 0) (place_in_all used (b + 1) 0)
     cut_absent id n b before le some search =

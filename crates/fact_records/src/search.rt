@@ -1,5 +1,6 @@
 //! Places of facts in blocks.
-ghost use Rattle.std.specs.Prelude.{◌≡◌, ◌+◌, ◌<◌, Some, length, slice_get, IfSome, IsNone, IfOk, IfErr};
+ghost use Rattle.std.specs.Prelude.{◌≡◌, ◌+◌, ◌<◌, ℕ, Some, length, slice_get, IfSome, IsNone, IfOk, IfErr};
+ghost use Rattle.std.specs.Bool.{OnTrue};
 ghost use Rattle.std.specs.Option.{option_copied};
 ghost use Rattle.fact_records.specs.BlockList.{AllFilled, IsAtPlace, IsPlace, all_facts, place_in_all};
 ghost use Rattle.fact_records.specs.Cut.{IsCut, IsGapAt, IsIdAt, id_at};
@@ -42,7 +43,22 @@ fn search_block(block: &Block, id: u64) -> Result<usize, usize>
     ensures found { IfOk result (IsIdAt block.now id) }
     ensures absent { IfErr result (IsGapAt block.now id) }
 {
-    block.as_slice().binary_search_by_key(&id, |fact| fact.id)
+    let facts = block.as_slice();
+    if is_behind(facts, id) {
+        return Err(facts.len());
+    }
+    facts.binary_search_by_key(&id, |fact| fact.id)
+}
+
+/// Whether an id is greater than all of a block's facts. Facts are often put in the order of their ids, so this is asked first.
+fn is_behind(facts: &[Fact], id: u64) -> bool
+    requires { IsAscending facts.now }
+    ensures { OnTrue result ((k : ℕ) → k < length facts.now → id_at facts.now k < id) }
+{
+    if facts.is_empty() {
+        return true;
+    }
+    facts[facts.len() - 1].id < id
 }
 
 /// The last block whose first fact has no greater id, or the first block.
@@ -53,6 +69,10 @@ fn block_of(used: &[Block], id: u64) -> usize
     ensures in_range { result < length used.now }
     ensures cut { IsCut (all_facts used.now) id (place_in_all used.now result 0) (place_in_all used.now (result + 1) 0) }
 {
+    let last = used.len() - 1;
+    if first_id(&used[last]) < id {
+        return last;
+    }
     match used.binary_search_by_key(&id, |block| first_id(block)) {
         Ok(block) => block,
         Err(next) => next.saturating_sub(1),
