@@ -3,9 +3,9 @@ use Rattle.std.proofs.Common.{◌≡◌, ℕ, ◌+◌, ◌<◌, ◌≤◌, Bool,
 use Rattle.std.specs.Prelude.{◌&&◌, ◌||◌, ◌==◌, if◌then◌else◌, nat_lt, IfSome, Option, Some, None, is_some, unwrap_or}
 use Rattle.std.specs.Cmp.{nat_eq_equiv}
 use Rattle.std.specs.List.{IsDistinct, list_any}
-use Rattle.std.specs.Option.{option_flatten, option_map_or}
+use Rattle.std.specs.Option.{MatchOption, option_flatten, option_map_or, option_to_list}
 use Rattle.std.proofs.lemmas.Bool.Decides.{nat_tests}
-use Rattle.std.proofs.lemmas.List.{map-append}
+use Rattle.std.proofs.lemmas.List.{map-append, take_more}
 use Rattle.std.proofs.lemmas.List.Elements.{filter_more}
 use Rattle.std.proofs.lemmas.List.Folds.{list_any-append}
 use Rattle.std.proofs.lemmas.Map.Keys.{IsDistinct-from_apart}
@@ -280,14 +280,38 @@ among-kept ids kept put all changed dropped kept_is all_is same id =
     same id ∙ rw (all_is, kept_is, among-append (filter (λ id. not (is_among dropped id)) ids) put id, among-filter (λ id. not (is_among dropped id)) ids id) (grind arith)
 
 -- ids that ascend, of which those are there that the changes leave, are a code's entry
+pub entry-of : (content : Content) (code : ℕ) (ids put_ids dropped_ids : List ℕ) (made : Option (List ℕ)) (puts drops : List Pair)
+    → put_ids ≡ map (λ pair. pair.1) (filter (λ pair. pair.0 == code) puts) → dropped_ids ≡ map (λ pair. pair.1) (filter (λ pair. pair.0 == code) drops) → AreAscending (ids_at content code) → AreAscending ids
+    → ((id : ℕ) → is_among ids id ≡ (is_among put_ids id || (is_among (ids_at content code) id && not (is_among dropped_ids id)))) → made ≡ some_ids ids → (code, made) ≡ changed_entry content puts drops code
+entry-of content code ids put_ids dropped_ids made puts drops put_is dropped_is was ascending members is =
+    ap (λ entry. (code, entry)) (is ∙ ap some_ids (changed-is puts drops code (ids_at content code) put_ids dropped_ids ids was ascending put_is dropped_is members))
+
+-- so where the changes stand by code
 pub entry-made : (content put dropped : Content) (code : ℕ) (ids put_ids dropped_ids : List ℕ) (made : Option (List ℕ)) → put_ids ≡ ids_at put code → dropped_ids ≡ ids_at dropped code
     → AreAscending (ids_at content code) → AreAscending ids
     → ((id : ℕ) → is_among ids id ≡ (is_among put_ids id || (is_among (ids_at content code) id && not (is_among dropped_ids id)))) → made ≡ some_ids ids
     → (puts drops : List Pair) → AreByCode put puts → AreByCode dropped drops → (code, made) ≡ changed_entry content puts drops code
 entry-made content put dropped code ids put_ids dropped_ids made put_is dropped_is was ascending members is puts drops puts_are drops_are =
-    let all : ids ≡ ids_after puts drops code (ids_at content code) =
-    changed-is puts drops code (ids_at content code) put_ids dropped_ids ids was ascending (put_is ∙ puts_are.ids code) (dropped_is ∙ drops_are.ids code) members in
-    ap (λ entry. (code, entry)) (is ∙ ap some_ids all)
+    entry-of content code ids put_ids dropped_ids made puts drops (put_is ∙ puts_are.ids code) (dropped_is ∙ drops_are.ids code) was ascending members is
+
+-- where nothing is dropped, all stay
+pub kept-all : (dropped ids : List ℕ) → (length dropped == 0) ≡ true → ids ≡ filter (λ id. not (is_among dropped id)) ids
+kept-all [] [] none = refl
+kept-all [] (id ∷ ids) none = ap (λ rest. id ∷ rest) (kept-all [] ids none)
+kept-all (id ∷ dropped) ids none = absurd (grind (arith, nat_tests, none))
+
+-- the slice of a number that there may be
+pub as-list : (number : Option ℕ) (slice : List ℕ) → MatchOption number (slice ≡ []) (λ n. slice ≡ n ∷ []) → slice ≡ option_to_list number
+as-list None slice is = is
+as-list (Some n) slice is = is
+
+-- entries of the first codes, with one more
+pub entries-next : (content : Content) (codes : List ℕ) (i : ℕ) (entries more : Entries (List ℕ)) (made : Option (List ℕ)) (puts drops : List Pair) → i < length codes
+    → entries ≡ map (changed_entry content puts drops) (take i codes) → (get_or codes i 0, made) ≡ changed_entry content puts drops (get_or codes i 0) → more ≡ entries ++ (get_or codes i 0, made) ∷ []
+    → more ≡ map (changed_entry content puts drops) (take (i + 1) codes)
+entries-next content codes i entries more made puts drops within before here is =
+    is ∙ ap (λ front. front ++ (get_or codes i 0, made) ∷ []) before ∙ ap (λ entry. map (changed_entry content puts drops) (take i codes) ++ entry ∷ []) here
+    ∙ sym (ap (map (changed_entry content puts drops)) (take_more codes i 0 within) ∙ map-append (changed_entry content puts drops) (take i codes) (get_or codes i 0 ∷ []))
 
 -- what was staged before places were made
 pub IsStagedFor-made : (inside old new : Content) (codes given reserved : List ℕ) (puts drops : List Pair) (stage : Staging) → inside ≡ old → given ≡ codes → reserved ≡ codes → stage ≡ staging old given puts drops

@@ -127,6 +127,9 @@ fn ids_without(alloc: Global, ids: &[u64], dropped: &[u64]) -> Result<Vec<u64>, 
     requires { AreAscending dropped.now }
     ensures { IfOk result (λ kept. kept.items ≡ filter (λ id. not (is_among dropped.now id)) ids.now) }
 {
+    if dropped.is_empty() {
+        return append_ids(Vec::new(alloc), ids);
+    }
     let mut kept = Vec::new(alloc);
     for id in ids {
         if !is_in(dropped, *id) {

@@ -1,5 +1,6 @@
 //! The index of the imprecise facts.
-ghost use Rattle.std.specs.Prelude.{◌≡◌, ◌==◌, ◌+◌, ◌<◌, ◌≤◌, ◌||◌, ◌&&◌, ◌++◌, ℕ, List, [], IfOk, OnErr, length, map, not};
+ghost use Rattle.std.specs.Prelude.{◌≡◌, ◌==◌, ◌+◌, ◌<◌, ◌≤◌, ◌||◌, ◌&&◌, ◌++◌, ℕ, List, [], IfOk, OnErr, filter, length, map, not};
+ghost use Rattle.std.specs.Option.{option_to_list};
 ghost use Rattle.cube_model.specs.Cells.{all_cells, is_among};
 ghost use Rattle.region_index.specs.Content.{AreAscending, AreIdsAt, held_codes, ids_at};
 ghost use Rattle.region_index.specs.Changes.{Applies, AreByCode, HavePlacesForIds, IsStagedFor, IsUnchanged, Pair, changed_entry, names, some_ids, staging};
@@ -200,9 +201,32 @@ impl RegionIndex {
     ) -> Result<Vec<(u64, Option<Ids>)>, Memory>
         ensures { IfOk result (λ entries. entries.items ≡ map (changed_entry self.now puts.now drops.now) codes.now) }
     {
+        if puts.len() <= 1 && drops.len() <= 1 {
+            return self.entries_of_one(codes, puts, drops);
+        }
         let put = by_code(self.alloc, puts)?;
         let dropped = by_code(self.alloc, drops)?;
         self.entries_by(codes, &put, &dropped)
+    }
+
+    /// The same where at most one id is put and at most one dropped, as by an edit: no map of them is made.
+    fn entries_of_one(
+        &self,
+        codes: &[u64],
+        puts: &[(u64, u64)],
+        drops: &[(u64, u64)],
+    ) -> Result<Vec<(u64, Option<Ids>)>, Memory>
+        requires puts { length puts.now ≤ 1 }
+        requires drops { length drops.now ≤ 1 }
+        ensures { IfOk result (λ entries. entries.items ≡ map (changed_entry self.now puts.now drops.now) codes.now) }
+    {
+        let mut entries = Vec::new(self.alloc);
+        for code in codes {
+            let (put, dropped) = (only_id(puts, *code), only_id(drops, *code));
+            let ids = self.changed_at(*code, put.as_slice(), dropped.as_slice())?;
+            entries.push((*code, some_ids(ids)))?;
+        }
+        Ok(entries)
     }
 
     /// The same where the changes are given by their codes.
@@ -257,6 +281,17 @@ impl RegionIndex {
             entries,
         } = stage;
         self.ids.put_all(entries);
+    }
+}
+
+/// The id of the one pair that there may be, where it is of a code.
+fn only_id(pairs: &[(u64, u64)], code: u64) -> Option<u64>
+    requires { length pairs.now ≤ 1 }
+    ensures { option_to_list result ≡ map (λ pair. pair.1) (filter (λ pair. pair.0 == code) pairs.now) }
+{
+    match pairs.first() {
+        Some((at, id)) if *at == code => Some(*id),
+        _ => None,
     }
 }
 
