@@ -114,6 +114,9 @@ pub gcd_some : (a b : ℕ) → 1 ≤ b → 1 ≤ gcd a b
 gcd_some a b some = pos_of_dvd_of_pos (gcd-is a b some).1 some
 
 -- what is left of the second number is at least 1
+pub gcd-one : (a b : ℕ) → b ≡ 1 → gcd a b ≡ 1
+gcd-one a b one = ap (gcd a) one ∙ gcd_unique a 1 1 (omega arith) (one-dvd a, dvd_refl 1, λ d _ h. h)
+
 pub cofactor_some : (a b : ℕ) → 1 ≤ b → 1 ≤ b / gcd a b
 cofactor_some a b some = le-div 1 b (gcd a b) (gcd_some a b some) (omega (arith, le_of_dvd some (gcd-is a b some).1))
 

@@ -8,6 +8,7 @@ ghost use Rattle.exact_fraction.specs.Fraction.{abs_over, ceiling_of, column_fra
 ghost use Rattle.exact_fraction.specs.Moderate.{IsModerate};
 ghost use Rattle.exact_fraction.specs.Signed.{AddsToSums, AreSignedSums, IsFractionAt};
 
+use crate::division::quotient;
 use crate::fraction::{Bounds, SignedFraction, bounds_of, over, reduce};
 use crate::gcd::{lcm_within, product_within};
 use cube_model::WIDE;
@@ -46,7 +47,7 @@ pub fn signed_sums(t: &Terms, col: u32, multiple: u128) -> Option<SignedSums>
     let mut sums = SignedSums { above: 0, below: 0 };
     for i in 0..t.len() {
         let part = part(t, col, i);
-        let share = product_within(multiple / part.den, part.size)?;
+        let share = product_within(quotient(multiple, part.den), part.size)?;
         sums = plus(sums, part.negative, share)?;
     }
     Some(sums)

@@ -4,6 +4,7 @@ ghost use Rattle.cube_model.specs.Limits.{WIDE};
 ghost use Rattle.exact_fraction.specs.Fraction.{UNIT, reduced, floor_of, ceiling_of};
 ghost use Rattle.exact_fraction.specs.Signed.{MOST_WHOLE, SMALL_DEN, fraction_of, signed_lowest, next_above, signed_over, signed};
 
+use crate::division::{quotient, remainder};
 use crate::gcd::gcd;
 
 /// The decimal digits of a bound after the point.
@@ -56,8 +57,8 @@ pub fn reduce(p: SignedFraction) -> SignedFraction
     let common = gcd(p.size, p.den);
     SignedFraction {
         negative: p.negative,
-        size: p.size / common,
-        den: p.den / common,
+        size: quotient(p.size, common),
+        den: quotient(p.den, common),
     }
 }
 
@@ -118,8 +119,8 @@ fn units_at_once(size: u128, den: u64) -> (u128, u128)
     ensures within { result.0 ≤ MOST_WHOLE * UNIT }
 {
     let wide = u128::from(den);
-    let rest = (size % wide) as u64 * UNITS;
-    let units = size / wide * u128::from(UNITS) + u128::from(rest / den);
+    let rest = remainder(size, wide) as u64 * UNITS;
+    let units = quotient(size, wide) * u128::from(UNITS) + u128::from(rest / den);
     (units, u128::from(rest % den))
 }
 

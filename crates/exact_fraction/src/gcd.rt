@@ -3,10 +3,8 @@ ghost use Rattle.std.specs.Prelude.{◌≡◌, ◌*◌, ◌≤◌};
 ghost use Rattle.std.specs.Int.{IsGcd};
 ghost use Rattle.exact_fraction.specs.Number.{gcd, lcm, within};
 
+use crate::division::{NARROW, quotient, remainder};
 use cube_model::WIDE;
-
-// The largest number of 64 bits.
-const NARROW: u128 = 0xffff_ffff_ffff_ffff;
 
 // The product of two numbers up to this one is within the limit.
 const SHORT: u128 = 0x1000_0000_0000_0000;
@@ -16,6 +14,9 @@ pub fn gcd(a: u128, b: u128) -> u128
     requires { 1 ≤ b }
     ensures { result ≡ gcd a b }
 {
+    if b == 1 {
+        return 1;
+    }
     let mut x = a;
     let mut y = b;
     while y > NARROW {
@@ -26,7 +27,7 @@ pub fn gcd(a: u128, b: u128) -> u128
     if y == 0 {
         return x;
     }
-    narrow_gcd(y as u64, (x % y) as u64) as u128
+    narrow_gcd(y as u64, remainder(x, y) as u64) as u128
 }
 
 // Euclid on numbers of 64 bits.
@@ -64,5 +65,5 @@ pub fn lcm_within(a: u128, b: u128) -> Option<u128>
     requires { 1 ≤ b }
     ensures { result ≡ within (lcm a b) }
 {
-    product_within(a, b / gcd(a, b))
+    product_within(a, quotient(b, gcd(a, b)))
 }

@@ -2,12 +2,14 @@
 #![tactic(auto)]
 
 mod column;
+mod division;
 mod fraction;
 mod gcd;
 mod laws;
 mod quotients;
 mod sums;
 
+pub use division::{quotient, remainder};
 pub use group_sum::Terms;
 pub use laws::{worked_examples, worked_wide_quotients, worked_wide_sums};
 pub use quotients::{Quotient, ratio};

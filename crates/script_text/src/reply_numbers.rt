@@ -7,7 +7,7 @@ ghost use Rattle.script_text.specs.ReplySteps.{Keeps, fields_text};
 
 use crate::reply_fields::{append_field, append_signed};
 use cube_base::Memory;
-use exact_fraction::{Quotient, Value};
+use exact_fraction::{Quotient, Value, quotient, remainder};
 use itoa::Buffer;
 
 /// The units of one whole.
@@ -110,9 +110,9 @@ fn append_size(text: &mut Vec<u8>, size: u128) -> Result<(), Memory>
     ensures ok { OnOk result (text.new.items ≡ text.old.items ++ size_text size) }
     ensures err { OnErr result (Keeps text.old.items text.new.items) }
 {
-    text.extend_from_slice(Buffer::new().format(size / UNITS).as_bytes())?;
+    text.extend_from_slice(Buffer::new().format(quotient(size, UNITS)).as_bytes())?;
     text.push(b'.')?;
-    append_places(text, size % UNITS)
+    append_places(text, remainder(size, UNITS))
 }
 
 /// Appends the nine digits after the point: those after the 1 of a whole more.

@@ -6,21 +6,21 @@ use Rattle.exact_fraction.proofs.column.signed_sums.Goals as goal
 pub returns-in_err-share : goal.returns-in_err-share
 returns-in_err-share c =
     let has = rw c.part-part.ensures.next at c.loop-i.invariant in
-    let wide = within_none _ c.in_err-share.ensures in
+    let wide = within_none _ (rw c.quotient.ensures at c.in_err-share.ensures) in
     rw c.from_residual.ensures (sums_wide _ _ _ _ _ has _ refl (omega (arith, wide)))
 
 -- sums that do
 pub returns-in_err-sums : goal.returns-in_err-sums
 returns-in_err-sums c =
     let has = rw c.part-part.ensures.next at c.loop-i.invariant in
-    let share = within_some _ _ c.in_ok-share.ensures in
+    let share = within_some _ _ (rw c.quotient.ensures at c.in_ok-share.ensures) in
     rw c.from_residual-in_err-sums.ensures (sums_wide _ _ _ _ _ has _ share.0 c.in_err-sums.ensures)
 
 -- one more fraction
 pub loop-i-preserved : goal.loop-i-preserved
 loop-i-preserved c =
     let has = rw c.part-part.ensures.next at c.loop-i.invariant in
-    let share = within_some _ _ c.in_ok-share.ensures in
+    let share = within_some _ _ (rw c.quotient.ensures at c.in_ok-share.ensures) in
     sums_next _ _ _ _ _ has _ share.0 _ c.in_ok-sums.ensures
 
 -- and no more
