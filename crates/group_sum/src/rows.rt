@@ -115,6 +115,10 @@ impl Rows {
         ensures found { IfOk result (IsAt self.now.terms den) }
         ensures absent { IfErr result (IsGapFor self.now.terms den) }
     {
+        // Most shares are whole, and the term of these is the first.
+        if !self.dens.is_empty() && self.dens[0] == den {
+            return Ok(0);
+        }
         self.dens.binary_search(&den)
     }
 

@@ -52,6 +52,18 @@ impl Terms {
         }
     }
 
+    /// No terms, with room for so many: up to these, adding a share takes no memory.
+    pub fn with_room(alloc: Global, columns: u32, len: usize) -> Result<Self, Memory>
+        requires some { 1 ≤ columns }
+        requires most { columns ≤ MAX_COLUMNS }
+        ensures { IfOk result (λ terms. terms ≡ record { columns = columns; terms = [] }) }
+    {
+        Ok(Terms {
+            alloc,
+            rows: Rows::with_room(alloc, columns, len)?,
+        })
+    }
+
     /// Equal terms.
     pub fn copy(&self) -> Result<Self, Memory>
         ensures copy { IfOk result (λ terms. terms ≡ self.now) }

@@ -80,9 +80,9 @@ fn entry_quotients(
 fn one_quotient(alloc: Global, quotient: Quotient) -> Result<Pooled, Memory>
     ensures { IfOk result (λ quotients. quotients ≡ quotient ∷ []) }
 {
-    let mut quotients = Pooled::new(alloc);
+    let mut quotients = Vec::with_capacity(alloc, 1)?;
     quotients.push(quotient)?;
-    Ok(quotients)
+    Ok(Pooled::from(quotients))
 }
 
 /// The quotient that a number is, over no count.

@@ -1,5 +1,5 @@
 //! The product of cuts, listed: what the nodes of each dimension add to the code of the region over them.
-ghost use Rattle.std.specs.Prelude.{◌≡◌, ◌<◌, ◌≤◌, ◌*◌, IfOk, IfSome, length};
+ghost use Rattle.std.specs.Prelude.{◌≡◌, ◌<◌, ◌≤◌, ◌*◌, ◌/◌, ◌%◌, IfOk, IfSome, length};
 ghost use Rattle.cube_model.specs.Limits.{SPACE_LIMIT};
 ghost use Rattle.cube_model.specs.Tree.{IsTree, leaves, numbers};
 ghost use Rattle.view_store.specs.CutTables.{AreDigitsOf, AreShares, IsShareOf, IsTable, share_sum};
@@ -107,11 +107,26 @@ pub fn share_sum(digits: &[CutDigit], code: u64) -> Option<u64>
     let mut rest = code;
     let mut sum = 0;
     for digit in digits {
-        let Some(share) = digit.shares.as_slice()[(rest / digit.step) as usize] else {
+        let (place, behind) = parted(rest, digit.step);
+        let Some(share) = digit.shares.as_slice()[place as usize] else {
             return None;
         };
         sum += share;
-        rest %= digit.step;
+        rest = behind;
     }
     Some(sum)
+}
+
+/// The place of a code in its first dimension, and what the places behind it make. In the last one the codes are the places, which
+/// saves a division.
+fn parted(code: u64, step: u64) -> (u64, u64)
+    requires { 1 ≤ step }
+    ensures place { result.0 ≡ code / step }
+    ensures behind { result.1 ≡ code % step }
+{
+    if step == 1 {
+        (code, 0)
+    } else {
+        (code / step, code % step)
+    }
 }

@@ -5,15 +5,19 @@ ghost use Rattle.region_algebra.specs.Space.{IsRegion, region_total};
 ghost use Rattle.view_store.specs.Cuts.{HoldsCells, IsCodeOver, reaches_cuts};
 ghost use Rattle.view_store.specs.Views.{region_at};
 
-use crate::cut::{code_over, cut_code};
+use crate::cut::{code_over, cut_code, reaches_cut};
 use crate::cut_table::{CutTable, share_sum, table_of};
 use cube_base::Memory;
 use cube_model::Region;
+use dim_tree::Dim;
 use group_sum::Terms;
 use region_algebra::Space;
 use staged_map::Staged;
 use std::alloc::Global;
 use std::marker::Model;
+
+/// For how many terms a region's first one makes room at most.
+const MOST_ROOM: u64 = 8;
 
 /// The product of the cuts of a space at depths, one for each dimension. Contracts see the dimensions and the depths.
 #[derive(Drop)]
@@ -22,6 +26,8 @@ pub struct Cuts<'a> {
     depths: &'a [u8],
     // What is looked up; where there is none, nodes are climbed.
     table: Option<CutTable>,
+    // For how many terms a region's first one makes room.
+    room: usize,
     // No entries: over these the drafts of a view begin that is made.
     none: Staged<Terms>,
 }
@@ -47,11 +53,13 @@ impl<'a> Cuts<'a> {
             space,
             depths,
             table: None,
+            room: 0,
             none: Staged::new(alloc),
         }
     }
 
-    /// The product for so many questions. What is over each node is listed at once where the nodes are no more than these.
+    /// The product for so many questions. What is over each node is listed at once where the nodes are no more than these, and a region's
+    /// first term makes room for more of them.
     pub fn for_many(
         alloc: Global,
         space: &'a Space,
@@ -62,10 +70,16 @@ impl<'a> Cuts<'a> {
         ensures { IfOk result (λ cuts. cuts ≡ record { dims = space.now; depths = depths.now }) }
     {
         let mut cuts = Cuts::climbed(alloc, space, depths);
+        cuts.room = room_for(space, depths, questions);
         if node_count(space) <= questions as u64 {
             cuts.table = Some(table_of(alloc, space, depths)?);
         }
         Ok(cuts)
+    }
+
+    /// For how many terms a region's first one makes room.
+    pub(crate) fn room(&self) -> usize {
+        self.room
     }
 
     /// No entries.
@@ -109,6 +123,37 @@ impl<'a> Cuts<'a> {
     {
         code_over(self.space, self.depths, r)
     }
+}
+
+/// For how many terms a region's first one makes room, where so many questions are asked: no more in all than there are questions. A
+/// view that is kept makes no room that it may never use; one that is made for a table copies fewer lists as they grow.
+fn room_for(space: &Space, depths: &[u8], questions: usize) -> usize
+    requires { length depths.now ≡ length space.now }
+{
+    let each = questions as u64 / region_count(space, depths).max(1);
+    each.min(MOST_ROOM) as usize
+}
+
+/// The number of regions of the product, at most 2^64 - 1.
+fn region_count(space: &Space, depths: &[u8]) -> u64
+    requires { length depths.now ≡ length space.now }
+{
+    let mut count: u64 = 1;
+    for d in 0..space.dims() {
+        count = count.saturating_mul(cut_size(space.dim(d), depths[d as usize]));
+    }
+    count
+}
+
+/// The number of nodes of the cut of a dimension.
+fn cut_size(dim: &Dim, depth: u8) -> u64 {
+    let mut count: u64 = 0;
+    for node in 0..dim.len() {
+        if dim.depth(node) <= depth && reaches_cut(dim, node, depth) {
+            count = count.saturating_add(1);
+        }
+    }
+    count
 }
 
 /// The number of nodes of all dimensions.

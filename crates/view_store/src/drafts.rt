@@ -17,8 +17,13 @@ use group_sum::{SubFault, Terms};
 use staged_map::Staged;
 use std::alloc::Global;
 
-/// Equal terms, or none over the columns where there are none.
-fn copy_or_none(alloc: Global, columns: u32, terms: Option<&Terms>) -> Result<Terms, Memory>
+/// Equal terms, or none over the columns, with room for some, where there are none.
+fn copy_or_none(
+    alloc: Global,
+    columns: u32,
+    terms: Option<&Terms>,
+    room: usize,
+) -> Result<Terms, Memory>
     requires some { 1 ≤ columns }
     requires most { columns ≤ MAX_COLS + 1 }
     requires over { IfSome terms (λ list. list.now.columns ≡ columns) }
@@ -27,7 +32,7 @@ fn copy_or_none(alloc: Global, columns: u32, terms: Option<&Terms>) -> Result<Te
 {
     match terms {
         Some(terms) => terms.copy(),
-        None => Ok(Terms::empty(alloc, columns)),
+        None => Terms::with_room(alloc, columns, room),
     }
 }
 
@@ -44,8 +49,8 @@ fn raise(terms: &mut Terms, share: &Share, weight: u64) -> Result<(), Memory>
     terms.add_units(share.den, share.units(weight), weight, share.cols)
 }
 
-/// Begins the draft of a code that has none: it is the entry there, with what a row of a weight brings. An error leaves the drafts
-/// as they were.
+/// Begins the draft of a code that has none: it is the entry there, with what a row of a weight brings. Without an entry there it has room
+/// for so many terms. An error leaves the drafts as they were.
 fn begin(
     alloc: Global,
     columns: u32,
@@ -54,6 +59,7 @@ fn begin(
     code: u64,
     share: &Share,
     weight: u64,
+    room: usize,
 ) -> Result<(), Memory>
     requires some { 1 ≤ columns }
     requires most { columns ≤ MAX_COLS + 1 }
@@ -65,15 +71,15 @@ fn begin(
     ensures begins { OnOk result (BeginsDraft columns (held_at columns entries.now code) share.now code weight drafts.old drafts.new) }
     ensures same { OnErr result ((k : ℕ) → value_at drafts.new k ≡ value_at drafts.old k) }
 {
-    let mut terms = copy_or_none(alloc, columns, entries.get(code))?;
+    let mut terms = copy_or_none(alloc, columns, entries.get(code), room)?;
     raise(&mut terms, share, weight)?;
     drafts.reserve(&[code])?;
     let _ = drafts.set(code, terms);
     Ok(())
 }
 
-/// Adds what a row of a weight brings to the draft of a code: where there is none yet, that is the entry there. An error leaves all
-/// entries whole, and so does a row without weight.
+/// Adds what a row of a weight brings to the draft of a code: where there is none yet, that is the entry there, or none with room for
+/// so many terms. An error leaves all entries whole, and so does a row without weight.
 fn add_share(
     alloc: Global,
     columns: u32,
@@ -82,6 +88,7 @@ fn add_share(
     code: u64,
     share: &Share,
     weight: u64,
+    room: usize,
 ) -> Result<(), Memory>
     requires some { 1 ≤ columns }
     requires most { columns ≤ MAX_COLS + 1 }
@@ -99,7 +106,7 @@ fn add_share(
     }
     match drafts.get_mut(code) {
         Some(terms) => raise(terms, share, weight),
-        None => begin(alloc, columns, entries, drafts, code, share, weight),
+        None => begin(alloc, columns, entries, drafts, code, share, weight, room),
     }
 }
 
@@ -128,7 +135,16 @@ fn add_rows(
 {
     for (cell, weight) in rows {
         let code = cuts.over_cell(*cell);
-        add_share(alloc, columns, entries, drafts, code, share, *weight)?;
+        add_share(
+            alloc,
+            columns,
+            entries,
+            drafts,
+            code,
+            share,
+            *weight,
+            cuts.room(),
+        )?;
     }
     Ok(())
 }
@@ -160,7 +176,16 @@ pub fn add_spread(
 {
     match over {
         // Their weights need not be added up.
-        Some(code) => add_share(alloc, columns, entries, drafts, code, share, share.den),
+        Some(code) => add_share(
+            alloc,
+            columns,
+            entries,
+            drafts,
+            code,
+            share,
+            share.den,
+            cuts.room(),
+        ),
         None => add_rows(alloc, cuts, columns, entries, drafts, share, rows),
     }
 }
