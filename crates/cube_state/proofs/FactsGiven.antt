@@ -6,11 +6,14 @@ use Rattle.cube_model.specs.declared.edit.Fact.{Fact}
 use Rattle.cube_model.specs.Allocation.{Policy, extended, row_count}
 use Rattle.cube_model.specs.Limits.{MAX_ROWS}
 use Rattle.cube_model.specs.Tree.{Dimension}
+use Rattle.region_algebra.specs.Space.{IsRegion}
 use Rattle.region_algebra.specs.declared.view_def.ViewDef.{ViewDef}
 use Rattle.fact_records.specs.Shape.{ShapeValue, width_of_all}
+use Rattle.fact_records.specs.Valid.{AreValid}
 use Rattle.fact_indexes.specs.Anew.{AreEmpty, cuts_of, kept_of}
 use Rattle.fact_indexes.specs.Kept.{IsState, Kept}
 use Rattle.fact_indexes.specs.declared.kept.FactsKept.{FactsKept}
+use Rattle.fact_indexes.proofs.ValidFacts.{valid-regions}
 use Rattle.fact_indexes.proofs.ViewsKept.{AreViewsOfFacts-none, depths-of_defs}
 use Rattle.view_store.specs.Views.{ViewMap, ViewMaps, view_of}
 use Rattle.cube_state.proofs.Installing.{replaced}
@@ -26,6 +29,10 @@ AreEmpty-defs shape dims columns defs views cut_each width are =
       over = (AreViewsOfFacts-none dims columns defs cut_each).over;
       none = All-map (λ (view : ViewMap). view.entries ≡ []) (view_of columns) defs (λ k d within. refl);
     })
+
+-- facts that are the valid ones lie in the space
+pub regions-kept : (shape : ShapeValue) (dims : List Dimension) (facts all : List Fact) → all ≡ facts → AreValid shape dims facts → All (λ f. IsRegion dims f.region) all
+regions-kept shape dims facts all are valid = subst (λ (fs : List Fact). All (λ f. IsRegion dims f.region) fs) (sym are) (valid-regions shape dims facts valid)
 
 module _ (policy : Policy) (shape : ShapeValue) (dims : List Dimension) (facts : List Fact) (all : FactsKept) where
   -- what is kept of the facts is that of the state

@@ -1,6 +1,6 @@
 -- What a state keeps at first, and once a plan is installed.
 use Rattle.std.proofs.Common.{◌≡◌, ℕ, ◌+◌, List, [], length, map, refl, ap, sym, ◌∙◌, subst, arith, inl, inr}
-use Rattle.std.specs.Prelude.{All, ◌⊎◌}
+use Rattle.std.specs.Prelude.{All, IfSome, ◌⊎◌}
 use Rattle.std.proofs.lemmas.List.Elements.{All-nil}
 use Rattle.cube_model.specs.declared.edit.Edit.{Edit}
 use Rattle.cube_model.specs.declared.edit.Edit.TheVariants.{Put, Change}
@@ -9,9 +9,11 @@ use Rattle.cube_model.specs.declared.statistic.CellStat.{CellStat}
 use Rattle.cube_model.specs.Allocation.{Policy, extended}
 use Rattle.cube_model.specs.Facts.{after, put}
 use Rattle.cube_model.specs.Tree.{Dimension, IsTree}
+use Rattle.region_algebra.specs.Space.{IsRegion}
 use Rattle.region_algebra.specs.declared.view_def.ViewDef.{ViewDef}
 use Rattle.staged_map.specs.Staged.{Places, PutsAll}
 use Rattle.cell_weight.specs.Stats.{Installs}
+use Rattle.fact_groups.specs.Edits.{given}
 use Rattle.fact_groups.specs.Groups.{Group}
 use Rattle.fact_groups.proofs.Edits.{put-withdraw}
 use Rattle.fact_records.specs.Shape.{ShapeValue, width_of_all}
@@ -25,6 +27,7 @@ use Rattle.cube_state.specs.Sets.{SetsValue}
 use Rattle.fact_indexes.specs.Kept.{AreViewsOfFacts, IsState, Kept}
 use Rattle.cube_state.specs.State.{HasFacts, StateValue, policy_in}
 use Rattle.cube_state.proofs.Accepting.{AreValid-after, allowed, judged}
+use Rattle.cube_state.proofs.Covering.{region-given}
 use Rattle.fact_indexes.proofs.ViewsKept.{AreViewsOfFacts-after, AreViewsOfFacts-emptied, AreViewsOfFacts-none, cuts-after}
 
 -- nothing is kept where there is no fact, but views without entries
@@ -91,6 +94,10 @@ module _ {P : Type 0} (weigh : P → CellStat → ℕ) (state seen : StateValue 
     (kept : IsState (policy_in weigh seen) seen.shape seen.dims seen.cuts seen.facts seen.kept) where
   fits : IsEditFor weigh seen edit sets count
   fits = subst (λ (s : StateValue P). IsEditFor weigh s edit sets count) (sym state_is) (subst (λ (v : SetsValue). IsEditFor weigh state edit v count) (sym sets_are) requires)
+
+  -- its new fact lies in the space
+  pub given-region : IfSome (given edit) (λ f. IsRegion seen.dims f.region)
+  given-region = region-given seen.dims edit (given edit) fits.over refl
 
   abbrev after_it : List Fact
   after_it = after edit seen.facts

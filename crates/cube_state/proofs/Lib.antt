@@ -14,6 +14,7 @@ pub mod GroupSeen
 pub mod GroupShares
 pub mod Installing
 pub mod Keeping
+pub mod Knowing
 pub mod LeftOut
 pub mod Listing
 pub mod Looking

@@ -5,6 +5,8 @@ use Rattle.std.proofs.lemmas.List.Elements.{All-cons, All-head, All-nil, All-tai
 use Rattle.cube_model.specs.declared.edit.Fact.{Fact}
 use Rattle.cube_model.specs.declared.statistic.CellStat.{CellStat}
 use Rattle.cube_model.specs.Tree.{Dimension}
+use Rattle.region_algebra.specs.Space.{IsRegion}
+use Rattle.region_index.specs.Patterns.{KnowsPatterns, Patterns}
 use Rattle.fact_records.specs.New.{AreNew, put_all}
 use Rattle.fact_records.specs.Shape.{ShapeValue, width_of_all}
 use Rattle.fact_records.specs.Valid.{AreValid}
@@ -13,9 +15,12 @@ use Rattle.fact_indexes.specs.Kept.{IsState}
 use Rattle.fact_indexes.specs.declared.fault.TooMany.{TooMany}
 use Rattle.fact_indexes.specs.declared.kept.FactsKept.{FactsKept}
 use Rattle.view_store.specs.Views.{AreViewsOf, IsViewOf, ViewMap, ViewMaps, without_entries}
+use Rattle.cube_state.specs.Knowing.{IsKnowingState}
 use Rattle.cube_state.specs.Sets.{AreAllFor}
 use Rattle.cube_state.specs.State.{StateValue, policy_in}
 use Rattle.cube_state.proofs.Accepting.{AreValid-new}
+use Rattle.cube_state.proofs.Installing.{replaced}
+use Rattle.fact_indexes.proofs.ValidFacts.{valid-regions}
 use Rattle.fact_indexes.proofs.ViewsKept.{cuts-emptied}
 
 -- emptied views are empty
@@ -63,3 +68,19 @@ module _ {P : Type 0} (weigh : P → CellStat → ℕ) (state seen : StateValue 
       → IfOk result (λ all. all.facts.facts ≡ facts) → IfOk result (λ all. IsState (policy_in weigh seen) seen.shape seen.dims (cuts_of views) facts (kept_of all)) → IfOk result (AreAllFor weigh state)
   kept-for_all facts maps views (Err fault) cuts emptied facts_are is = tt
   kept-for_all facts maps views (Ok all) cuts emptied facts_are is = kept-for facts maps views all cuts emptied facts_are is
+
+module _ {P : Type 0} (weigh : P → CellStat → ℕ) (state seen : StateValue P) (same : seen ≡ state) (all : FactsKept) (fit : AreAllFor weigh state all) where
+  fits : AreAllFor weigh seen all
+  fits = subst (λ (s : StateValue P). AreAllFor weigh s all) (sym same) fit
+
+  -- all facts that fit the state lie in the space
+  pub regions-all : All (λ f. IsRegion seen.dims f.region) all.facts.facts
+  regions-all = valid-regions seen.shape seen.dims all.facts.facts fits.valid
+
+  -- so with their patterns the state is one of them
+  pub knowing-all : (patterns : Patterns) → KnowsPatterns seen.dims all.facts.facts patterns
+      → IsKnowingState (policy_in weigh seen) seen.shape seen.dims (map (λ (view : ViewMap). view.depths) all.views.views) all.facts.facts (kept_of all) patterns
+  knowing-all patterns known = record {
+    state = replaced (policy_in weigh seen) seen.shape seen.dims seen.cuts all.facts.facts (kept_of all) fits;
+    known = known;
+  }

@@ -11,6 +11,7 @@ use Rattle.staged_map.specs.Staged.{Entries, have_places}
 use Rattle.cell_weight.specs.Stats.{have_stat_places}
 use Rattle.alloc_rows.specs.Changed.{new_stats}
 use Rattle.region_index.specs.Changes.{IsStagedFor}
+use Rattle.region_index.specs.Patterns.{KnowsPatterns, Patterns}
 use Rattle.fact_groups.specs.Edits.{edited_id, taken}
 use Rattle.fact_groups.specs.Groups.{Group}
 use Rattle.fact_groups.proofs.Groups.{first-holds}
@@ -23,6 +24,7 @@ use Rattle.group_sum.specs.Terms.{TermList}
 use Rattle.view_store.specs.Views.{ViewMap, ViewMaps}
 use Rattle.cube_state.specs.declared.edit_moves.Moves.{Moves}
 use Rattle.cube_state.specs.declared.changed_groups.Regrouped.{Regrouped}
+use Rattle.cube_state.specs.Knowing.{IsKnowingState}
 use Rattle.cube_state.specs.Moves.{AreMoves, indexed_as}
 use Rattle.cube_state.specs.Sets.{AreSetsFor, SetGroups, SetStats, SetsValue, has_room}
 use Rattle.cube_state.specs.Regrouped.{IsRegrouped}
@@ -67,10 +69,18 @@ staged-all dims before now all changes stage alike whole staged = by now.views r
 
 module _ {P : Type 0} (weigh : P → CellStat → ℕ) (state seen : StateValue P) (same : seen ≡ state) (kept : IsState (policy_in weigh seen) seen.shape seen.dims seen.cuts seen.facts seen.kept) where
   -- the state stays one
-  pub state-kept : (cuts : List (List ℕ)) (facts : List Fact) (new : Kept) → cuts ≡ seen.cuts → facts ≡ seen.facts → IsSameKept seen.kept new → IsState (policy_in weigh seen) seen.shape seen.dims cuts facts new
+  state-kept : (cuts : List (List ℕ)) (facts : List Fact) (new : Kept) → cuts ≡ seen.cuts → facts ≡ seen.facts → IsSameKept seen.kept new → IsState (policy_in weigh seen) seen.shape seen.dims cuts facts new
   state-kept cuts facts new cuts_are facts_are is =
       subst (λ (cs : List (List ℕ)). IsState (policy_in weigh seen) seen.shape seen.dims cs facts new) (sym cuts_are)
       (subst (λ (fs : List Fact). IsState (policy_in weigh seen) seen.shape seen.dims seen.cuts fs new) (sym facts_are) (IsState-same (policy_in weigh seen) seen.shape seen.dims seen.cuts seen.facts seen.kept new is kept))
+
+  -- and the patterns that were known are known
+  pub knowing-kept : (patterns : Patterns) → KnowsPatterns seen.dims seen.facts patterns → (cuts : List (List ℕ)) (facts : List Fact) (new : Kept) → cuts ≡ seen.cuts → facts ≡ seen.facts → IsSameKept seen.kept new
+      → IsKnowingState (policy_in weigh seen) seen.shape seen.dims cuts facts new patterns
+  knowing-kept patterns known cuts facts new cuts_are facts_are is = record {
+    state = state-kept cuts facts new cuts_are facts_are is;
+    known = subst (λ (fs : List Fact). KnowsPatterns seen.dims fs patterns) (sym facts_are) known;
+  }
 
   -- of the content that it had
   pub content-kept : (cuts : List (List ℕ)) (facts : List Fact) (new : Kept) → cuts ≡ seen.cuts → facts ≡ seen.facts

@@ -1,6 +1,7 @@
 pub mod Answering
 pub mod Covering
 pub mod GroupAfter
+pub mod Knowing
 pub mod Moves
 pub mod Ranging
 pub mod Regrouped

@@ -64,8 +64,8 @@ impl<P: WeightPolicy + Drop> State<P> {
     }
 
     /// The codes of the regions whose groups an edit may change, ascending. They are those of its old fact and its new
-    /// fact, and of the imprecise facts that cover a cell which weighs otherwise after it. Each region over such a cell
-    /// is a step. The only error is running out of memory.
+    /// fact, and of the imprecise facts that cover a cell which weighs otherwise after it. A step is a probe of a region
+    /// over such a cell. The only error is running out of memory.
     pub fn codes<L: Ledger>(&self, moves: &Moves, steps: &mut Steps<L>) -> Result<Ids, Memory>
         requires { AreMoves (policy_in P.weigh self.now) self.now.shape self.now.dims self.now.facts moves.now }
         ensures codes { IfOk result (HoldChanged (policy_in P.weigh self.now) (width_of_all self.now.shape.measures) self.now.dims moves.now.edit self.now.facts) }
@@ -78,8 +78,8 @@ impl<P: WeightPolicy + Drop> State<P> {
         Ok(Ids::from(sort_distinct(all)))
     }
 
-    /// The codes of the regions whose imprecise facts cover one of the changed cells, in any order. Each region over such a cell
-    /// is a step, unless there is no imprecise fact.
+    /// The codes of the regions whose imprecise facts cover one of the changed cells, in any order. A step is a probe of a region
+    /// over such a cell, of which those are left out that have no pattern of an imprecise fact.
     fn codes_over<L: Ledger>(
         &self,
         changes: &[Change],
@@ -94,7 +94,9 @@ impl<P: WeightPolicy + Drop> State<P> {
             return Ok(codes);
         }
         for (cell, _, _) in changes {
-            let held = self.index.held_codes_over(&self.space, *cell, steps)?;
+            let held = self
+                .index
+                .held_codes_by_pattern(&self.space, &self.patterns, *cell, steps)?;
             codes.extend_from_slice(held.as_slice())?;
         }
         Ok(codes)

@@ -9,6 +9,7 @@ mod edit_reach;
 mod edited;
 mod group_after;
 mod group_draft;
+mod noting;
 mod ranging;
 mod region_spreads;
 mod renewing;

@@ -16,6 +16,7 @@ ghost use Rattle.cube_state.specs.Sets.{AreAllFor, IsEditFor, has_room};
 ghost use Rattle.cube_state.specs.State.{HasFacts, ids_with, policy_in, rows_in};
 
 use crate::Group;
+use crate::noting::{note_given, patterns_of};
 use crate::sets::Sets;
 use alloc_rows::Alloc;
 use cell_weight::{StatIndex, WeightPolicy};
@@ -24,7 +25,7 @@ use cube_model::{Edit, Fact, Region};
 use fact_indexes::{FactsKept, TooMany, keep_all};
 use fact_records::{FactList, Shape};
 use region_algebra::{Space, ViewDef};
-use region_index::{RegionIndex, Steps};
+use region_index::{DepthPatterns, RegionIndex, Steps};
 use staged_map::Staged;
 use std::alloc::Global;
 use std::marker::Model;
@@ -47,6 +48,8 @@ pub struct State<P: WeightPolicy + Drop> {
     pub(crate) stats: StatIndex,
     // The ids of the imprecise facts, by the code of their region.
     pub(crate) index: RegionIndex,
+    // The patterns of depths of the imprecise facts' regions, and of such as were there.
+    pub(crate) patterns: DepthPatterns,
     // For each region that a fact has, by its code, the facts there.
     pub(crate) groups: Staged<Group>,
     pub(crate) views: Views,
@@ -56,7 +59,7 @@ pub struct State<P: WeightPolicy + Drop> {
 
 impl<P: WeightPolicy + Drop> Model for State<P> {
     ghost use Rattle.std.specs.Prelude.{map};
-    ghost use Rattle.fact_indexes.specs.Kept.{IsState};
+    ghost use Rattle.cube_state.specs.Knowing.{IsKnowingState};
     ghost use Rattle.cube_state.specs.State.{StateValue};
     ghost use Rattle.fact_records.specs.Shape.{policy_over};
 
@@ -71,8 +74,8 @@ impl<P: WeightPolicy + Drop> Model for State<P> {
       kept = record { spare = s.facts.spare; stats = s.stats; index = s.index; groups = s.groups; views = s.views; rows = s.rows };
     } };
 
-    ghost invariant = { λ s. IsState (policy_over (P.weigh s.policy) s.shape) s.shape s.space (map (λ view. view.depths) s.views.views) s.facts.facts
-        (record { spare = s.facts.spare; stats = s.stats; index = s.index; groups = s.groups; views = s.views; rows = s.rows }) };
+    ghost invariant = { λ s. IsKnowingState (policy_over (P.weigh s.policy) s.shape) s.shape s.space (map (λ view. view.depths) s.views.views) s.facts.facts
+        (record { spare = s.facts.spare; stats = s.stats; index = s.index; groups = s.groups; views = s.views; rows = s.rows }) s.patterns };
 }
 
 impl<P: WeightPolicy + Drop> State<P> {
@@ -102,6 +105,7 @@ impl<P: WeightPolicy + Drop> State<P> {
             facts: FactList::new(alloc),
             stats: StatIndex::new(alloc),
             index: RegionIndex::new(alloc),
+            patterns: DepthPatterns::new(),
             groups: Staged::new(alloc),
             views,
             rows: 0,
@@ -138,6 +142,7 @@ impl<P: WeightPolicy + Drop> State<P> {
             views,
             rows,
         } = keep_all(alloc, &space, &shape, &policy, views, facts)?;
+        let patterns = patterns_of(&space, &facts);
         Ok(State {
             alloc,
             space,
@@ -146,6 +151,7 @@ impl<P: WeightPolicy + Drop> State<P> {
             facts,
             stats,
             index,
+            patterns,
             groups,
             views,
             rows,
@@ -247,6 +253,7 @@ impl<P: WeightPolicy + Drop> State<P> {
             groups,
             views,
         } = sets;
+        note_given(&mut self.patterns, &self.space, &edit);
         apply(&mut self.facts, edit);
         self.stats.install(stats.as_slice());
         self.index.install(index);
@@ -268,9 +275,11 @@ impl<P: WeightPolicy + Drop> State<P> {
             views,
             rows,
         } = all;
+        let patterns = patterns_of(&self.space, &facts);
         drop(std::mem::replace(&mut self.facts, facts));
         drop(std::mem::replace(&mut self.stats, stats));
         drop(std::mem::replace(&mut self.index, index));
+        drop(std::mem::replace(&mut self.patterns, patterns));
         drop(std::mem::replace(&mut self.groups, groups));
         drop(std::mem::replace(&mut self.views, views));
         self.rows = rows;
@@ -299,6 +308,7 @@ impl<P: WeightPolicy + Drop + Copy> State<P> {
             facts: FactList::new(self.alloc),
             stats: StatIndex::new(self.alloc),
             index: RegionIndex::new(self.alloc),
+            patterns: DepthPatterns::new(),
             groups: Staged::new(self.alloc),
             views,
             rows: 0,

@@ -1,4 +1,4 @@
-pub mod Counted
 pub mod FewFacts
 pub mod NoFacts
+pub mod Noted
 pub mod SmallTerms

@@ -1,3 +1,3 @@
-pub mod Counted
 pub mod Few
+pub mod Noted
 pub mod Small

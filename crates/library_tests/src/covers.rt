@@ -1,12 +1,10 @@
 //! The facts over a cell, and those found by way of the depths at which facts are.
-ghost use Rattle.std.specs.Prelude.{◌≡◌, ◌<◌, All, IfOk, OnOk};
-ghost use Rattle.region_algebra.specs.Space.{IsRegion};
+ghost use Rattle.std.specs.Prelude.{◌≡◌, ◌<◌, IfOk, OnOk};
 ghost use Rattle.region_index.specs.Patterns.{HasPatterns};
-ghost use Rattle.library_tests.specs.Counted.{AreCounted};
+ghost use Rattle.library_tests.specs.Noted.{AreNoted};
 
 use crate::fixtures::{CARS, CITIES, space_of};
 use cube_base::Ids;
-use cube_model::Region;
 use region_algebra::Space;
 use region_index::{DepthPatterns, RegionIndex, Steps};
 use std::alloc::Global;
@@ -38,26 +36,26 @@ const COVERED: [Row; 6] = [
     (&[7, 6], &[5, 7]),
 ];
 
-/// The codes of regions with an id each, and the regions.
-type Placed = (Vec<(u64, u64)>, Vec<Region>);
+/// The codes of regions with an id each, and the patterns of the regions.
+type Placed = (Vec<(u64, u64)>, DepthPatterns);
 
 /// Places one more fact.
 fn place(space: &Space, placed: &mut Placed, fact: &Fact) -> Result<(), Fail>
-    requires { AreCounted space.now placed.old.0.items placed.old.1.items × All (IsRegion space.now) placed.old.1.items }
-    ensures { OnOk result (AreCounted space.now placed.new.0.items placed.new.1.items × All (IsRegion space.now) placed.new.1.items) }
+    requires { AreNoted space.now placed.old.0.items placed.old.1 }
+    ensures { OnOk result (AreNoted space.now placed.new.0.items placed.new.1) }
 {
     let (nodes, id) = *fact;
     let region = space.region(nodes).ok_or("no region")?;
     placed.0.push((space.code(region), id))?;
-    placed.1.push(region)?;
+    placed.1.note(space, region);
     Ok(())
 }
 
-/// The regions of facts, and their codes with the ids.
+/// The codes of facts' regions with the ids, and the patterns of the regions.
 fn place_all(alloc: Global, space: &Space, facts: &[Fact]) -> Result<Placed, Fail>
-    ensures { IfOk result (λ placed. AreCounted space.now placed.0.items placed.1.items × All (IsRegion space.now) placed.1.items) }
+    ensures { IfOk result (λ placed. AreNoted space.now placed.0.items placed.1) }
 {
-    let mut placed = (Vec::new(alloc), Vec::new(alloc));
+    let mut placed = (Vec::new(alloc), DepthPatterns::new());
     for fact in facts {
         place(space, &mut placed, fact)?;
     }
@@ -72,13 +70,10 @@ fn index_of(
 ) -> Result<(RegionIndex, DepthPatterns), Fail>
     ensures { IfOk result (λ made. HasPatterns space.now made.0 made.1) }
 {
-    let (pairs, regions) = place_all(alloc, space, facts)?;
+    let (pairs, patterns) = place_all(alloc, space, facts)?;
     let mut index = RegionIndex::new(alloc);
     let entries = index.stage(&pairs, &[])?;
     index.install(entries);
-    let mut patterns = DepthPatterns::new(alloc);
-    let counts = patterns.stage(space, &regions, &[])?;
-    patterns.install(counts);
     Ok((index, patterns))
 }
 

@@ -1,16 +1,15 @@
--- The codes over a cell at which ids are held, found by the patterns in use.
+-- The codes over a cell at which ids are held, found by listed patterns that are known.
 use Rattle.std.proofs.Common.{◌≡◌, ℕ, suc, zero, ◌+◌, ◌*◌, ◌<◌, ◌≤◌, Bool, true, false, List, [], ◌∷◌, eqb, length, length-append, map, refl, sym, ap, ◌∙◌, arith}
-use Rattle.std.specs.Prelude.{if◌then◌else◌, ◌&&◌, ◌||◌, ◌==◌, Option, Some, None, is_some, slice_get}
+use Rattle.std.specs.Prelude.{if◌then◌else◌, ◌&&◌, ◌||◌, ◌==◌, Option, Some, None, slice_get}
 use Rattle.std.specs.List.{AllByRecursion, IsDistinct, flat_map, list_any}
 use Rattle.std.proofs.lemmas.Bool.Decides.{nat_tests}
 use Rattle.std.proofs.lemmas.Map.Keys.{IsDistinct-head, IsDistinct-tail}
 use Rattle.cube_model.specs.Cells.{all_cells, is_among, is_inside, places_from}
 use Rattle.cube_model.specs.Tree.{Dimension}
 use Rattle.region_algebra.specs.Space.{all_regions, region_total}
-use Rattle.staged_map.specs.Staged.{value_at}
 use Rattle.region_index.specs.Content.{AreAscending, Content, held_codes, holds_ids}
 use Rattle.region_index.specs.Over.{codes_over}
-use Rattle.region_index.specs.Patterns.{HasPatterns, Patterns, codes_of_pattern, codes_of_patterns, pattern_of, patterns_in_use}
+use Rattle.region_index.specs.Patterns.{HasPatterns, codes_of_pattern, codes_of_patterns, pattern_of}
 use Rattle.region_index.specs.Walk.{Probes, codes_of_leaves}
 use Rattle.cube_model.proofs.Ascending.{same_members}
 use Rattle.region_index.proofs.Changing.{among-filter}
@@ -106,38 +105,37 @@ any-and : (b : Bool) (at : ℕ) (keys : List ℕ) → list_any (λ key. b && at 
 any-and b at [] = grind arith
 any-and b at (key ∷ keys) = grind (arith, nat_tests, any-and b at keys)
 
-module _ (content : Content) (dims : List Dimension) (leaves : List ℕ) (patterns : Patterns) (has : HasPatterns dims content patterns)
-    (each : (pattern : ℕ) → is_among (patterns_in_use patterns) pattern ≡ is_some (value_at patterns pattern)) where
+module _ (content : Content) (dims : List Dimension) (leaves listed : List ℕ) (has : HasPatterns dims content (Some listed)) where
   -- where ids are held, a code is one of those of the patterns where it is one over the leaves
   among-patterns : (code : ℕ) (region : Option (List ℕ)) → slice_get (all_regions dims) code ≡ region
-      → (holds_ids content code && is_among (codes_of_patterns dims leaves (patterns_in_use patterns)) code) ≡ (holds_ids content code && is_among (codes_of_leaves dims leaves) code)
+      → (holds_ids content code && is_among (codes_of_patterns dims leaves listed) code) ≡ (holds_ids content code && is_among (codes_of_leaves dims leaves) code)
   unfolding codes_of_pattern codes_of_leaves
   among-patterns code None none =
       let beyond : 0 + length (all_regions dims) ≤ code = omega (arith, no-item (all_regions dims) code none) in
       let over = among-beyond (λ region. is_inside dims region leaves) 0 code (all_regions dims) beyond in
-      let by_patterns = any-flat_map (λ c. c == code) (codes_of_pattern dims leaves) (patterns_in_use patterns)
-      ∙ any-same (λ key. is_among (codes_of_pattern dims leaves key) code) (λ key. false) (patterns_in_use patterns) (λ key. among-beyond (λ region. is_inside dims region leaves && pattern_of dims region == key) 0 code (all_regions dims) beyond)
-      ∙ never (patterns_in_use patterns) in
+      let by_patterns = any-flat_map (λ c. c == code) (codes_of_pattern dims leaves) listed
+      ∙ any-same (λ key. is_among (codes_of_pattern dims leaves key) code) (λ key. false) listed (λ key. among-beyond (λ region. is_inside dims region leaves && pattern_of dims region == key) 0 code (all_regions dims) beyond)
+      ∙ never listed in
       rw (over, by_patterns) refl
   among-patterns code (Some region) is =
       let over = among-places (λ region. is_inside dims region leaves) 0 code code (all_regions dims) region (omega arith) is in
-      let by_patterns = any-flat_map (λ c. c == code) (codes_of_pattern dims leaves) (patterns_in_use patterns)
-      ∙ any-same (λ key. is_among (codes_of_pattern dims leaves key) code) (λ key. is_inside dims region leaves && pattern_of dims region == key) (patterns_in_use patterns)
+      let by_patterns = any-flat_map (λ c. c == code) (codes_of_pattern dims leaves) listed
+      ∙ any-same (λ key. is_among (codes_of_pattern dims leaves key) code) (λ key. is_inside dims region leaves && pattern_of dims region == key) listed
       (λ key. among-places (λ region. is_inside dims region leaves && pattern_of dims region == key) 0 code code (all_regions dims) region (omega arith) is)
-      ∙ any-and (is_inside dims region leaves) (pattern_of dims region) (patterns_in_use patterns) in
-      rw (over, by_patterns) (in_use (holds_ids content code) (is_inside dims region leaves) (is_among (patterns_in_use patterns) (pattern_of dims region)) (λ held. each (pattern_of dims region) ∙ has.each code region is held))
+      ∙ any-and (is_inside dims region leaves) (pattern_of dims region) listed in
+      rw (over, by_patterns) (known (holds_ids content code) (is_inside dims region leaves) (is_among listed (pattern_of dims region)) (has.each code region is))
     where
-      in_use : (held inside known : Bool) → (held ≡ true → known ≡ true) → (held && (inside && known)) ≡ (held && inside)
-      in_use held inside known follows = grind (arith, follows)
+      known : (held inside is_known : Bool) → (held ≡ true → is_known ≡ true) → (held && (inside && is_known)) ≡ (held && inside)
+      known held inside is_known follows = grind (arith, follows)
 
   -- so what was found, ascending, is the codes over the cell at which ids are held
   pub held_codes-found : (inside : Content) (cell : ℕ) (found codes : List ℕ) (m n : ℕ) → inside ≡ content → slice_get (all_cells dims) cell ≡ Some leaves
-      → Probes inside (codes_of_patterns dims leaves (patterns_in_use patterns)) [] found m n → AreAscending codes → ((code : ℕ) → is_among codes code ≡ is_among found code) → codes ≡ held_codes content (codes_over dims cell)
+      → Probes inside (codes_of_patterns dims leaves listed) [] found m n → AreAscending codes → ((code : ℕ) → is_among codes code ≡ is_among found code) → codes ≡ held_codes content (codes_over dims cell)
   held_codes-found inside cell found codes m n same at probes ascending members =
       same_members 0 0 codes (held_codes content (codes_over dims cell)) ascending (AreAscending-held content dims cell) (λ code.
       members code
-      ∙ ap (λ xs. is_among xs code) (probes.found ∙ ap (λ held. held_codes held (codes_of_patterns dims leaves (patterns_in_use patterns))) same)
-      ∙ among-filter (holds_ids content) (codes_of_patterns dims leaves (patterns_in_use patterns)) code
+      ∙ ap (λ xs. is_among xs code) (probes.found ∙ ap (λ held. held_codes held (codes_of_patterns dims leaves listed)) same)
+      ∙ among-filter (holds_ids content) (codes_of_patterns dims leaves listed) code
       ∙ among-patterns code (slice_get (all_regions dims) code) refl
       ∙ ap (λ xs. holds_ids content code && is_among xs code) (over-leaves dims cell leaves at)
       ∙ sym (among-filter (holds_ids content) (codes_over dims cell) code))

@@ -1,10 +1,8 @@
 -- The codes over a cell at which an index of facts holds ids are those of the imprecise facts that cover the cell.
-use Rattle.std.proofs.Common.{◌≡◌, ℕ, ◌+◌, ◌<◌, Bool, true, false, List, [], ◌∷◌, length, map, filter, not, refl, sym, ap, ◌∙◌, arith}
-use Rattle.std.specs.Prelude.{◌&&◌, ◌||◌, ◌==◌, All, count_by, if◌then◌else◌, nat_lt, Option, Some, None, is_some, slice_get, unwrap_or}
+use Rattle.std.proofs.Common.{◌≡◌, ℕ, Bool, true, false, List, [], ◌∷◌, length, map, filter, not, refl, sym, ap, ◌∙◌, arith}
+use Rattle.std.specs.Prelude.{◌&&◌, ◌||◌, ◌==◌, All, if◌then◌else◌, nat_lt, Some, slice_get}
 use Rattle.std.specs.List.{list_any}
 use Rattle.std.proofs.lemmas.Bool.Decides.{nat_tests}
-use Rattle.std.proofs.lemmas.List.{length-map}
-use Rattle.std.proofs.lemmas.List.Sums.{length-filter}
 use Rattle.std.proofs.lemmas.List.Elements.{All-head, All-tail}
 use Rattle.cube_model.specs.declared.edit.Fact.{Fact}
 use Rattle.cube_model.specs.Cells.{cells_of, is_among}
@@ -12,9 +10,7 @@ use Rattle.cube_model.specs.Facts.{is_precise}
 use Rattle.cube_model.specs.Tree.{Dimension, IsTree}
 use Rattle.region_algebra.specs.Space.{IsRegion, all_regions, code_of}
 use Rattle.region_algebra.proofs.Tuples.{region-at_code}
-use Rattle.staged_map.specs.Staged.{value_at}
-use Rattle.region_index.specs.PatternChanges.{CountsPatterns, Recounts, has_pattern, times_among}
-use Rattle.region_index.specs.Patterns.{HasPatterns, Patterns, pattern_of}
+use Rattle.region_index.specs.Patterns.{HasPatterns, KnowsPatterns, Patterns, is_known, knows, pattern_of}
 use Rattle.region_index.specs.Content.{Content, held_codes, holds_ids}
 use Rattle.region_index.specs.Indexed.{Indexes, covers_at, is_indexed_at}
 use Rattle.region_index.specs.Over.{codes_over}
@@ -59,49 +55,28 @@ held_codes-cover dims facts content cell code trees named indexes =
     ∙ ap (λ b. b && is_among (codes_over dims cell) code) (holds_ids-facts dims facts content code indexes)
     ∙ covers-at dims cell code facts trees named
 
--- a fact at the code of a region has the region's pattern
-patterns-at : (dims : List Dimension) (code : ℕ) (region : List ℕ) (facts : List Fact) → All IsTree dims → All (λ fact. IsRegion dims fact.region) facts → slice_get (all_regions dims) code ≡ Some region
-    → list_any (is_indexed_at dims code) facts ≡ true → list_any (has_pattern dims (pattern_of dims region)) facts ≡ true
-patterns-at dims code region [] trees named at some = some
-patterns-at dims code region (fact ∷ facts) trees named at some =
-    here (code_of dims fact.region == code) refl some (patterns-at dims code region facts trees (All-tail (λ (fact : Fact). IsRegion dims fact.region) fact facts named) at)
+-- where an imprecise fact is at the code of a region, the region's pattern is known
+known-at : (dims : List Dimension) (code : ℕ) (region : List ℕ) (facts : List Fact) (patterns : Patterns) → All IsTree dims → All (λ fact. IsRegion dims fact.region) facts → KnowsPatterns dims facts patterns
+    → slice_get (all_regions dims) code ≡ Some region → list_any (is_indexed_at dims code) facts ≡ true → is_known patterns (pattern_of dims region) ≡ true
+known-at dims code region [] patterns trees named knows_all at some = absurd (grind (arith, some))
+known-at dims code region (fact ∷ facts) patterns trees named knows_all at some =
+    here (code_of dims fact.region == code) refl (is_precise dims fact) (All-head (λ (f : Fact). knows dims patterns f ≡ true) fact facts knows_all) some
+    (known-at dims code region facts patterns trees (All-tail (λ (fact : Fact). IsRegion dims fact.region) fact facts named) (All-tail (λ (f : Fact). knows dims patterns f ≡ true) fact facts knows_all) at)
   where
-    here : (b : Bool) → (code_of dims fact.region == code) ≡ b → ((b && not (is_precise dims fact)) || list_any (is_indexed_at dims code) facts) ≡ true
-        → (list_any (is_indexed_at dims code) facts ≡ true → list_any (has_pattern dims (pattern_of dims region)) facts ≡ true)
-        → ((pattern_of dims fact.region == pattern_of dims region && not (is_precise dims fact)) || list_any (has_pattern dims (pattern_of dims region)) facts) ≡ true
-    here true is either later =
+    here : (b : Bool) → (code_of dims fact.region == code) ≡ b → (precise : Bool) → (precise || is_known patterns (pattern_of dims fact.region)) ≡ true
+        → ((b && not precise) || list_any (is_indexed_at dims code) facts) ≡ true → (list_any (is_indexed_at dims code) facts ≡ true → is_known patterns (pattern_of dims region) ≡ true)
+        → is_known patterns (pattern_of dims region) ≡ true
+    here true is false known either later =
         let code_is : code_of dims fact.region ≡ code = grind (arith, nat_tests, is) in
         let found : Some fact.region ≡ Some region = sym (region-at_code dims fact.region trees (All-head (λ (fact : Fact). IsRegion dims fact.region) fact facts named)) ∙ ap (slice_get (all_regions dims)) code_is ∙ at in
         let same : fact.region ≡ region = grind (arith, found) in
-        let equal : pattern_of dims fact.region ≡ pattern_of dims region = ap (pattern_of dims) same in
-        grind (arith, nat_tests, equal, either, later)
-    here false is either later = grind (arith, either, later)
+        ap (λ r. is_known patterns (pattern_of dims r)) (sym same) ∙ known
+    here true is true known either later = later either
+    here false is precise known either later = later either
 
--- where some pass, they are counted
-some-counted : (p : Fact → Bool) (facts : List Fact) → list_any p facts ≡ true → 0 < count_by p facts
-some-counted p facts some =
-    let passes : nat_lt 0 (length (map (λ fact. fact.id) (filter p facts))) ≡ true = some-passes p facts ∙ some in
-    let count : length (map (λ fact. fact.id) (filter p facts)) ≡ count_by p facts = length-map (filter p facts) (λ (fact : Fact). fact.id) ∙ length-filter p facts in
-    grind (arith, nat_tests, passes, count)
-
--- so the patterns that are counted of facts are those of the regions at which an index of them holds ids
-pub HasPatterns-counted : (dims : List Dimension) (facts : List Fact) (content : Content) (patterns : Patterns) → All IsTree dims → All (λ fact. IsRegion dims fact.region) facts
-    → Indexes dims facts content → CountsPatterns dims facts patterns → HasPatterns dims content patterns
-HasPatterns-counted dims facts content patterns trees named indexes counts = record {
-  each = λ code region at held.
-      let some : list_any (is_indexed_at dims code) facts ≡ true = sym (holds_ids-facts dims facts content code indexes) ∙ held in
-      let more : 0 < count_by (has_pattern dims (pattern_of dims region)) facts = some-counted (has_pattern dims (pattern_of dims region)) facts (patterns-at dims code region facts trees named at some) in
-      has-value (value_at patterns (pattern_of dims region)) (omega (arith, more, counts.counts (pattern_of dims region)));
-}
-  where
-    has-value : (value : Option ℕ) → 0 < unwrap_or value 0 → is_some value ≡ true
-    has-value None none = absurd (omega arith)
-    has-value (Some count) some = refl
-
--- and the counts follow the facts where what is given and taken is what comes and goes
-pub CountsPatterns-recounted : (dims : List Dimension) (before after : List Fact) (old new : Patterns) (given taken : List ℕ)
-    → ((pattern : ℕ) → count_by (has_pattern dims pattern) after + times_among taken pattern ≡ count_by (has_pattern dims pattern) before + times_among given pattern)
-    → CountsPatterns dims before old → Recounts old new given taken → CountsPatterns dims after new
-CountsPatterns-recounted dims before after old new given taken follow counts recounts = record {
-  counts = λ pattern. omega (arith, follow pattern, counts.counts pattern, recounts.counts pattern);
+-- so what is known of facts is known of the regions at which an index of them holds ids
+pub HasPatterns-known : (dims : List Dimension) (facts : List Fact) (content : Content) (patterns : Patterns) → All IsTree dims → All (λ fact. IsRegion dims fact.region) facts
+    → Indexes dims facts content → KnowsPatterns dims facts patterns → HasPatterns dims content patterns
+HasPatterns-known dims facts content patterns trees named indexes knows_all = record {
+  each = λ code region at held. known-at dims code region facts patterns trees named knows_all at (sym (holds_ids-facts dims facts content code indexes) ∙ held);
 }

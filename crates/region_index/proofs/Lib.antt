@@ -2,13 +2,14 @@ pub mod Ascent
 pub mod ByPattern
 pub mod Chains
 pub mod Changing
-pub mod Counting
 pub mod Depths
 pub mod HeldCodes
 pub mod Indexing
 pub mod Lengths
+pub mod Noting
 pub mod NodesInLine
 pub mod PatternCodes
+pub mod PatternNumbers
 pub mod PatternWalk
 pub mod Places
 pub mod RegionsInLine

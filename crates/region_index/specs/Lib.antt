@@ -4,7 +4,6 @@ pub mod Depths
 pub mod Examples
 pub mod Indexed
 pub mod Over
-pub mod PatternChanges
 pub mod Patterns
 pub mod Touching
 pub mod Walk

@@ -1,12 +1,13 @@
--- The depths at which regions lie, a pattern: how many ids are held at regions of one, and which regions over a cell have it.
-use Rattle.std.specs.Prelude.{◌≡◌, ℕ, ◌+◌, ◌*◌, true, List, ◌∷◌, map, ◌&&◌, ◌==◌, Some, is_some, slice_get}
-use Rattle.std.specs.List.{flat_map}
-use Rattle.std.specs.Map.{keys_of}
+-- The depths at which regions lie, a pattern: which are known, and which regions over a cell have one.
+use Rattle.std.specs.Prelude.{◌≡◌, ℕ, ◌+◌, ◌*◌, ◌≤◌, All, Bool, true, List, [], ◌∷◌, ◌++◌, length, map, nat_eq, nat_lt, ◌&&◌, ◌||◌, ◌==◌, if◌then◌else◌, Option, Some, None, slice_get}
+use Rattle.std.specs.List.{IsDistinct, flat_map}
 use Rattle.std.specs.Option.{option_map_or}
-use Rattle.cube_model.specs.Cells.{is_inside, places_from}
+use Rattle.cube_model.specs.declared.edit.Fact.{Fact}
+use Rattle.cube_model.specs.Cells.{is_among, is_inside, places_from}
+use Rattle.cube_model.specs.Facts.{is_precise}
 use Rattle.cube_model.specs.Tree.{Dimension, entry_of, is_under, numbers}
 use Rattle.region_algebra.specs.Space.{all_regions, region_total}
-use Rattle.staged_map.specs.Staged.{Places, held, value_at}
+use Rattle.region_index.specs.declared.patterns.TheConstants.{MAX_PATTERNS}
 use Rattle.region_index.specs.Content.{Content, holds_ids}
 
 -- the depth of a node
@@ -19,17 +20,38 @@ abbrev pub pattern_of : List Dimension → List ℕ → ℕ
 pattern_of (dim ∷ dims) (node ∷ nodes) = depth_of dim node + 9 * pattern_of dims nodes
 pattern_of dims nodes = 0
 
--- the patterns that have a place, with how many ids are held at regions of each
+-- the patterns that are known: those of a list, or where more were seen than one holds, and so there is none, all
 abbrev pub Patterns : Type 0
-Patterns = Places ℕ
+Patterns = Option (List ℕ)
 
--- the patterns of which some region holds an id
-abbrev pub patterns_in_use : Patterns → List ℕ
-patterns_in_use patterns = keys_of (held patterns)
+abbrev pub is_known : Patterns → ℕ → Bool
+is_known patterns pattern = option_map_or (λ listed. is_among listed pattern) patterns true
 
--- of each region at whose code an id is held, the pattern is in use
+-- the list with one more, where there is room for it
+abbrev pub with_pattern : List ℕ → ℕ → Patterns
+with_pattern listed pattern = if nat_lt (length listed) MAX_PATTERNS then Some (listed ++ pattern ∷ []) else None
+
+-- the patterns once a pattern is known too
+abbrev pub noted : Patterns → ℕ → Patterns
+noted None pattern = None
+noted (Some listed) pattern = if is_among listed pattern then Some listed else with_pattern listed pattern
+
+-- each pattern of the list stands there once, and there are not too many
+pub record IsListed (listed : List ℕ) : Type 0 where
+  pub once : IsDistinct nat_eq listed
+  pub few : length listed ≤ MAX_PATTERNS
+
+-- of each region at whose code an id is held, the pattern is known
 pub record HasPatterns (dims : List Dimension) (content : Content) (patterns : Patterns) : Type 0 where
-  pub each : (code : ℕ) (region : List ℕ) → slice_get (all_regions dims) code ≡ Some region → holds_ids content code ≡ true → is_some (value_at patterns (pattern_of dims region)) ≡ true
+  pub each : (code : ℕ) (region : List ℕ) → slice_get (all_regions dims) code ≡ Some region → holds_ids content code ≡ true → is_known patterns (pattern_of dims region) ≡ true
+
+-- the pattern of the fact's region is known, where it is imprecise
+abbrev pub knows : List Dimension → Patterns → Fact → Bool
+knows dims patterns fact = is_precise dims fact || is_known patterns (pattern_of dims fact.region)
+
+-- of each imprecise fact the region's pattern is known
+abbrev pub KnowsPatterns : List Dimension → List Fact → Patterns → Type 0
+KnowsPatterns dims facts patterns = All (λ fact. knows dims patterns fact ≡ true) facts
 
 -- the codes of the regions of a pattern whose nodes these leaves are under, of which there is one at most
 unfoldable pub codes_of_pattern : List Dimension → List ℕ → ℕ → List ℕ

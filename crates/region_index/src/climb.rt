@@ -1,20 +1,41 @@
-//! A climb from the leaves of a cell to the nodes of given depths.
-ghost use Rattle.std.specs.Prelude.{◌≡◌, ◌+◌, ◌<◌, ◌≤◌, ◌∷◌, [], IfNone, IfSome, OnErr, OnOk, drop, length, option_to_list};
+//! A climb from the leaves of a cell to the nodes of given depths, and the walk over regions that it makes.
+ghost use Rattle.std.specs.Prelude.{◌≡◌, ◌+◌, ◌<◌, ◌≤◌, ◌∷◌, [], IfNone, IfOk, IfSome, OnErr, OnOk, drop, length, option_to_list};
 ghost use Rattle.cube_model.specs.Limits.{MAX_DEPTH};
 ghost use Rattle.cube_model.specs.Tree.{place_of};
 ghost use Rattle.std.specs.Option.{option_map_or};
-ghost use Rattle.region_index.specs.Patterns.{codes_of_pattern, pattern_behind, places_at_depth};
+ghost use Rattle.region_index.specs.Patterns.{codes_of_pattern, codes_of_patterns, pattern_behind, places_at_depth};
 ghost use Rattle.region_index.specs.Walk.{IsOnTheWay, Probes};
 
 use crate::Steps;
 use crate::walk::{Walk, with_node};
 use cube_base::Memory;
 use dim_tree::Dim;
+use std::alloc::Global;
 use std::sync::ledger::Ledger;
 
 impl Walk<'_> {
+    /// The codes at which ids are held of the regions over the leaves that have one of these patterns. A step is a probe of
+    /// such a region.
+    pub fn of_patterns<L: Ledger>(
+        &self,
+        alloc: Global,
+        patterns: &[u64],
+        steps: &mut Steps<L>,
+    ) -> Result<Vec<u64>, Memory>
+        requires { IsOnTheWay self.now.space.now self.now.leaves 0 0 }
+        ensures ok { IfOk result (λ found. Probes self.now.ids.now (codes_of_patterns self.now.space.now self.now.leaves patterns.now) [] found.items steps.old steps.new) }
+        ensures err { OnErr result (steps.new ≤ steps.old + length (codes_of_patterns self.now.space.now self.now.leaves patterns.now)) }
+        ensures most { steps.new ≤ steps.old + length patterns.now }
+    {
+        let mut found = Vec::new(alloc);
+        for pattern in patterns {
+            self.of_pattern(*pattern, &mut found, steps)?;
+        }
+        Ok(found)
+    }
+
     /// Probes the region of a pattern over the leaves, where there is one.
-    pub fn of_pattern<L: Ledger>(
+    fn of_pattern<L: Ledger>(
         &self,
         pattern: u64,
         found: &mut Vec<u64>,

@@ -1,6 +1,6 @@
 //! Laws of the index, and examples that are computed from the definitions. The functions do nothing: each law is the
 //! contract.
-ghost use Rattle.std.specs.Prelude.{◌≡◌, ℕ, List, [], ◌∷◌, ◌||◌, ◌&&◌, ◌+◌, ◌<◌, ◌≤◌, All, count_by, length, not, true};
+ghost use Rattle.std.specs.Prelude.{◌≡◌, ℕ, List, [], ◌∷◌, ◌||◌, ◌&&◌, ◌<◌, ◌≤◌, All, Some, length, not, true};
 ghost use Rattle.std.specs.List.{list_any};
 ghost use Rattle.cube_model.specs.Cells.{all_cells, is_among};
 ghost use Rattle.region_index.specs.Depths.{depth_product};
@@ -14,8 +14,7 @@ ghost use Rattle.region_index.specs.Content.{AreIdsAt, Content, held_codes};
 ghost use Rattle.region_index.specs.Examples.{small_facts};
 ghost use Rattle.region_index.specs.Indexed.{Indexes, covers_at, has_at, ids_that_cover};
 ghost use Rattle.region_index.specs.Over.{codes_over};
-ghost use Rattle.region_index.specs.PatternChanges.{CountsPatterns, Recounts, count_after, has_pattern, times_among};
-ghost use Rattle.region_index.specs.Patterns.{HasPatterns, Patterns, codes_of_pattern, pattern_of};
+ghost use Rattle.region_index.specs.Patterns.{HasPatterns, KnowsPatterns, Patterns, codes_of_pattern, is_known, noted, pattern_of};
 ghost use Rattle.region_index.specs.Touching.{codes_touching};
 
 /// Where an index holds, at the code of each region, the ids of the imprecise facts there, the ids at the regions over a
@@ -32,19 +31,17 @@ pub fn codes_held_over_a_cell_are_those_of_the_facts()
         → is_among (held_codes content (codes_over dims cell)) code ≡ list_any (covers_at dims cell code) facts }
 {}
 
-/// Where the patterns of the imprecise facts are counted, those of the regions at which an index of the facts holds ids are
-/// in use.
-pub fn counted_patterns_are_those_of_an_index()
+/// Where of each imprecise fact the region's pattern is known, so are those of the regions at which an index of the facts
+/// holds ids.
+pub fn known_patterns_are_those_of_an_index()
     ensures { (dims : List Dimension) (facts : List Fact) (content : Content) (patterns : Patterns) → All IsTree dims → All (λ fact. IsRegion dims fact.region) facts
-        → Indexes dims facts content → CountsPatterns dims facts patterns → HasPatterns dims content patterns }
+        → Indexes dims facts content → KnowsPatterns dims facts patterns → HasPatterns dims content patterns }
 {}
 
-/// Counts of patterns are those of the facts after a change of them too, where of each pattern as many come and go as are
-/// given and taken.
-pub fn counts_of_patterns_follow_the_facts()
-    ensures { (dims : List Dimension) (before after : List Fact) (old new : Patterns) (given taken : List ℕ)
-        → ((pattern : ℕ) → count_by (has_pattern dims pattern) after + times_among taken pattern ≡ count_by (has_pattern dims pattern) before + times_among given pattern)
-        → CountsPatterns dims before old → Recounts old new given taken → CountsPatterns dims after new }
+/// Once a pattern is noted, it is known, and so is what was known before.
+pub fn notes_keep_what_is_known()
+    ensures noted { (patterns : Patterns) (pattern : ℕ) → is_known (noted patterns pattern) pattern ≡ true }
+    ensures kept { (patterns : Patterns) (pattern other : ℕ) → is_known patterns other ≡ true → is_known (noted patterns pattern) other ≡ true }
 {}
 
 /// The regions over a cell are no more than the depths of the nodes in each dimension, multiplied.
@@ -71,7 +68,8 @@ pub fn worked_indexes()
     ensures pattern_of_the_roots { pattern_of small_space (0 ∷ 0 ∷ []) ≡ 0 }
     ensures of_a_pattern { codes_of_pattern small_space (5 ∷ 2 ∷ []) 10 ≡ 14 ∷ [] }
     ensures leaf_less_deep { codes_of_pattern small_space (6 ∷ 2 ∷ []) 11 ≡ [] }
-    ensures recounted { count_after (10 ∷ 3 ∷ 10 ∷ []) (10 ∷ []) 10 4 ≡ 5 }
+    ensures noted { noted (Some (10 ∷ [])) 3 ≡ Some (10 ∷ 3 ∷ []) }
+    ensures noted_twice { noted (Some (10 ∷ 3 ∷ [])) 10 ≡ Some (10 ∷ 3 ∷ []) }
     ensures depths { depth_product small_space ≡ 6 }
     ensures covering { ids_that_cover small_space 5 small_facts ≡ 2 ∷ 4 ∷ [] }
     ensures covering_elsewhere { ids_that_cover small_space 2 small_facts ≡ 4 ∷ 9 ∷ [] }

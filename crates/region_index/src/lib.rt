@@ -14,11 +14,11 @@ mod walk;
 pub use changes::{is_in, sort_distinct};
 pub use laws::{
     an_index_follows_its_facts, codes_held_over_a_cell_are_those_of_the_facts,
-    counted_patterns_are_those_of_an_index, counts_of_patterns_follow_the_facts,
-    ids_over_a_cell_are_those_of_the_facts, regions_over_a_cell_are_no_more_than_depths,
-    worked_indexes, worked_touching,
+    ids_over_a_cell_are_those_of_the_facts, known_patterns_are_those_of_an_index,
+    notes_keep_what_is_known, regions_over_a_cell_are_no_more_than_depths, worked_indexes,
+    worked_touching,
 };
-pub use patterns::{DepthPatterns, PatternStage};
+pub use patterns::DepthPatterns;
 pub use region_index::{RegionIndex, RegionStage};
 pub use steps::Steps;
 pub use touching::codes_touching;

@@ -2,7 +2,7 @@
 use Rattle.std.proofs.Common.{◌+◌, arith}
 use Rattle.region_algebra.proofs.Spaces.{accepted-limits}
 use Rattle.region_algebra.proofs.Turns.{is_region-length, node-within}
-use Rattle.region_index.proofs.Counting.{pattern-fits, pattern_of-next}
+use Rattle.region_index.proofs.PatternNumbers.{pattern-fits, pattern_of-next}
 use Rattle.region_index.proofs.Depths.{depth-read}
 use Rattle.region_index.proofs.patterns.+pattern_from.Goals as goal
 

@@ -9,16 +9,16 @@ use Rattle.cube_state.proofs.Seeing.{lost-added, lost-number, taken-valid, touch
 use Rattle.cube_state.proofs.state.State.cell_changes.Goals as goal
 
 pub cell_of_fact-lost-requires-clause-fact : goal.cell_of_fact-lost-requires-clause-fact
-cell_of_fact-lost-requires-clause-fact g c = taken-valid _ _ c.args.edit.now _ _ c.self.invariant.valid (c.requires.before ∙ sym (ap (λ s. taken c.args.edit.now s.facts) c.self.view_is))
+cell_of_fact-lost-requires-clause-fact g c = taken-valid _ _ c.args.edit.now _ _ c.self.invariant.state.valid (c.requires.before ∙ sym (ap (λ s. taken c.args.edit.now s.facts) c.self.view_is))
 
 pub changes-requires-clause-number : goal.changes-requires-clause-number
-changes-requires-clause-number g c = λ cell. lost-number g.P.WeightPolicy.weigh _ _ c.self.view_is c.self.invariant c.args.edit.now _ _ (c.requires.before ∙ sym (ap (λ s. taken c.args.edit.now s.facts) c.self.view_is)) c.cell_of_fact-lost.ensures.lying cell
+changes-requires-clause-number g c = λ cell. lost-number g.P.WeightPolicy.weigh _ _ c.self.view_is c.self.invariant.state c.args.edit.now _ _ (c.requires.before ∙ sym (ap (λ s. taken c.args.edit.now s.facts) c.self.view_is)) c.cell_of_fact-lost.ensures.lying cell
 
 pub changes-requires-clause-added : goal.changes-requires-clause-added
-changes-requires-clause-added g c = λ cell. lost-added g.P.WeightPolicy.weigh _ _ c.self.view_is c.self.invariant c.args.edit.now _ _ (c.requires.before ∙ sym (ap (λ s. taken c.args.edit.now s.facts) c.self.view_is)) c.cell_of_fact-lost.ensures.lying cell
+changes-requires-clause-added g c = λ cell. lost-added g.P.WeightPolicy.weigh _ _ c.self.view_is c.self.invariant.state c.args.edit.now _ _ (c.requires.before ∙ sym (ap (λ s. taken c.args.edit.now s.facts) c.self.view_is)) c.cell_of_fact-lost.ensures.lying cell
 
 pub returns : goal.returns
 returns g c =
     IfOk-weaker c.changes.result (λ ch. ch.items ≡ changes_of (stat_at c.self.inside.stats) c.cell_of_fact-lost.result c.cell_of_fact-won.result)
     (λ ch. ch.items ≡ touched (policy_in g.P.WeightPolicy.weigh c.args.self.now) c.args.self.now.dims c.args.edit.now c.args.self.now.facts)
-    (λ ch is. is ∙ touched-seen g.P.WeightPolicy.weigh _ _ c.self.view_is c.self.invariant c.args.edit.now _ _ (c.requires.before ∙ sym (ap (λ s. taken c.args.edit.now s.facts) c.self.view_is)) c.cell_of_fact-lost.ensures.lying _ _ c.requires.after c.cell_of_fact-won.ensures.lying) c.changes.ensures
+    (λ ch is. is ∙ touched-seen g.P.WeightPolicy.weigh _ _ c.self.view_is c.self.invariant.state c.args.edit.now _ _ (c.requires.before ∙ sym (ap (λ s. taken c.args.edit.now s.facts) c.self.view_is)) c.cell_of_fact-lost.ensures.lying _ _ c.requires.after c.cell_of_fact-won.ensures.lying) c.changes.ensures

@@ -15,5 +15,5 @@ loop-code-preserved g c =
       | in_default w ↦
           subst (AreEndsOver _ _ _ _ _ _) (sym w.ends-is)
           (ends-none _ _ _ _ _ _ _ _ c.loop-code.invariant _ (take_more c.args.codes.now c.loop-code.code-index 0 c.loop-code-test.true)
-          (group-missing g.P.WeightPolicy.weigh _ _ c.self.view_is c.self.invariant _ _ c.get.ensures w.in_default.is))
+          (group-missing g.P.WeightPolicy.weigh _ _ c.self.view_is c.self.invariant.state _ _ c.get.ensures w.in_default.is))
     ]

@@ -6,7 +6,7 @@ use Rattle.cube_state.proofs.state.State.ends_of_all.Goals as goal
 use Rattle.cube_state.proofs.state.State.ends_of_all.Goals.{in-Some, in_default}
 
 pub group_ends-requires-clause-group : goal.group_ends-requires-clause-group
-group_ends-requires-clause-group g c = group-placed g.P.WeightPolicy.weigh _ _ c.self.view_is c.self.invariant _ _ _ _ c.count-i-end.ensures.distinct c.at.ensures.entry c.in-Some.is
+group_ends-requires-clause-group g c = group-placed g.P.WeightPolicy.weigh _ _ c.self.view_is c.self.invariant.state _ _ _ _ c.count-i-end.ensures.distinct c.at.ensures.entry c.in-Some.is
 
 pub loop-i-preserved : goal.loop-i-preserved
 loop-i-preserved g c =

@@ -14,59 +14,59 @@ fact_at-given-requires g c = c.requires.moves.given_at ∙ ap (region_code c.arg
 
 pub overflow_add-members : goal.overflow_add-members
 overflow_add-members g c =
-    let few = few-seen g.P.WeightPolicy.weigh _ _ c.self.view_is c.self.invariant c.self.invariant.trees c.args.moves.now c.requires.moves c.args.code c.args.before (c.requires.before ∙ sym (ap (λ s. value_at s.kept.groups c.args.code) c.self.view_is)) in
+    let few = few-seen g.P.WeightPolicy.weigh _ _ c.self.view_is c.self.invariant.state c.self.invariant.state.trees c.args.moves.now c.requires.moves c.args.code c.args.before (c.requires.before ∙ sym (ap (λ s. value_at s.kept.groups c.args.code) c.self.view_is)) in
     omega (arith, few, c.members_of.ensures, c.number_of.ensures.one)
 
 pub overflow_sub-members : goal.overflow_sub-members
 overflow_sub-members g c =
-    enough-seen g.P.WeightPolicy.weigh _ _ c.self.view_is c.self.invariant c.self.invariant.trees c.args.moves.now c.requires.moves c.args.code c.args.before (c.requires.before ∙ sym (ap (λ s. value_at s.kept.groups c.args.code) c.self.view_is))
+    enough-seen g.P.WeightPolicy.weigh _ _ c.self.view_is c.self.invariant.state c.self.invariant.state.trees c.args.moves.now c.requires.moves c.args.code c.args.before (c.requires.before ∙ sym (ap (λ s. value_at s.kept.groups c.args.code) c.self.view_is))
     _ _ _ _ c.fact_at-taken.ensures c.as_ref.ensures.value c.fact_at-given.ensures c.as_ref-2.ensures.value
     _ _ _ c.members_of.ensures c.number_of-2.ensures.number c.number_of.ensures.number
 
 pub returns-then-members-eq0 : goal.returns-then-members-eq0
 returns-then-members-eq0 g c =
-    none-seen g.P.WeightPolicy.weigh _ _ c.self.view_is c.self.invariant c.self.invariant.trees c.args.moves.now c.requires.moves c.args.code c.args.before (c.requires.before ∙ sym (ap (λ s. value_at s.kept.groups c.args.code) c.self.view_is))
+    none-seen g.P.WeightPolicy.weigh _ _ c.self.view_is c.self.invariant.state c.self.invariant.state.trees c.args.moves.now c.requires.moves c.args.code c.args.before (c.requires.before ∙ sym (ap (λ s. value_at s.kept.groups c.args.code) c.self.view_is))
     _ _ _ _ c.fact_at-taken.ensures c.as_ref.ensures.value c.fact_at-given.ensures c.as_ref-2.ensures.value
     _ _ _ c.members_of.ensures c.number_of-2.ensures.number c.number_of.ensures.number c.if-members-eq0.true
 
 pub unreachable-requires : goal.unreachable-requires
 unreachable-requires g c =
-    there-seen g.P.WeightPolicy.weigh _ _ c.self.view_is c.self.invariant c.self.invariant.trees c.args.moves.now c.requires.moves c.args.code c.args.before (c.requires.before ∙ sym (ap (λ s. value_at s.kept.groups c.args.code) c.self.view_is))
+    there-seen g.P.WeightPolicy.weigh _ _ c.self.view_is c.self.invariant.state c.self.invariant.state.trees c.args.moves.now c.requires.moves c.args.code c.args.before (c.requires.before ∙ sym (ap (λ s. value_at s.kept.groups c.args.code) c.self.view_is))
     _ _ _ _ c.fact_at-taken.ensures c.as_ref.ensures.value c.fact_at-given.ensures c.as_ref-2.ensures.value
     _ _ _ c.members_of.ensures c.number_of-2.ensures.number c.number_of.ensures.number
     _ c.uncode.ensures.region c.if-members-eq0.false c.in_default.is
 
 pub spread_after-requires-clause-few : goal.spread_after-requires-clause-few
 spread_after-requires-clause-few g c =
-    few-cells-seen g.P.WeightPolicy.weigh _ _ c.self.view_is c.self.invariant c.self.invariant.trees c.args.moves.now c.requires.moves c.args.code c.args.before (c.requires.before ∙ sym (ap (λ s. value_at s.kept.groups c.args.code) c.self.view_is))
+    few-cells-seen g.P.WeightPolicy.weigh _ _ c.self.view_is c.self.invariant.state c.self.invariant.state.trees c.args.moves.now c.requires.moves c.args.code c.args.before (c.requires.before ∙ sym (ap (λ s. value_at s.kept.groups c.args.code) c.self.view_is))
     _ _ _ _ c.fact_at-taken.ensures c.as_ref.ensures.value c.fact_at-given.ensures c.as_ref-2.ensures.value
     _ _ _ c.members_of.ensures c.number_of-2.ensures.number c.number_of.ensures.number
     _ c.in-Some.ensures.region c.if-members-eq0.false c.in-Some.region refl
 
 pub spread_after-requires-clause-group : goal.spread_after-requires-clause-group
 spread_after-requires-clause-group g c =
-    spread-seen g.P.WeightPolicy.weigh _ _ c.self.view_is c.self.invariant c.self.invariant.trees c.args.moves.now c.requires.moves c.args.code c.args.before (c.requires.before ∙ sym (ap (λ s. value_at s.kept.groups c.args.code) c.self.view_is))
+    spread-seen g.P.WeightPolicy.weigh _ _ c.self.view_is c.self.invariant.state c.self.invariant.state.trees c.args.moves.now c.requires.moves c.args.code c.args.before (c.requires.before ∙ sym (ap (λ s. value_at s.kept.groups c.args.code) c.self.view_is))
     _ _ _ _ c.fact_at-taken.ensures c.as_ref.ensures.value c.fact_at-given.ensures c.as_ref-2.ensures.value
     _ _ _ c.members_of.ensures c.number_of-2.ensures.number c.number_of.ensures.number
     _ c.in-Some.ensures.region c.if-members-eq0.false c.in-Some.region refl
 
 pub sums_after-sums-requires-clause-group : goal.sums_after-sums-requires-clause-group
 sums_after-sums-requires-clause-group g c =
-    sums-seen g.P.WeightPolicy.weigh _ _ c.self.view_is c.self.invariant c.self.invariant.trees c.args.moves.now c.requires.moves c.args.code c.args.before (c.requires.before ∙ sym (ap (λ s. value_at s.kept.groups c.args.code) c.self.view_is)) _ c.columns-columns.ensures.columns c.columns-columns.ensures.shape
+    sums-seen g.P.WeightPolicy.weigh _ _ c.self.view_is c.self.invariant.state c.self.invariant.state.trees c.args.moves.now c.requires.moves c.args.code c.args.before (c.requires.before ∙ sym (ap (λ s. value_at s.kept.groups c.args.code) c.self.view_is)) _ c.columns-columns.ensures.columns c.columns-columns.ensures.shape
 
 pub sums_after-sums-requires-clause-taken : goal.sums_after-sums-requires-clause-taken
 sums_after-sums-requires-clause-taken g c =
-    taken-within g.P.WeightPolicy.weigh _ _ c.self.view_is c.self.invariant c.self.invariant.trees c.args.moves.now c.requires.moves c.args.code c.args.before (c.requires.before ∙ sym (ap (λ s. value_at s.kept.groups c.args.code) c.self.view_is)) _ c.columns-columns.ensures.columns c.columns-columns.ensures.shape
+    taken-within g.P.WeightPolicy.weigh _ _ c.self.view_is c.self.invariant.state c.self.invariant.state.trees c.args.moves.now c.requires.moves c.args.code c.args.before (c.requires.before ∙ sym (ap (λ s. value_at s.kept.groups c.args.code) c.self.view_is)) _ c.columns-columns.ensures.columns c.columns-columns.ensures.shape
     _ (c.fact_at-taken.ensures ∙ ap (fact_with_code c.args.self.now.dims c.args.code) c.as_ref.ensures.value)
 
 pub sums_after-sums-requires-clause-given : goal.sums_after-sums-requires-clause-given
 sums_after-sums-requires-clause-given g c =
-    given-within g.P.WeightPolicy.weigh _ _ c.self.view_is c.self.invariant c.self.invariant.trees c.args.moves.now c.requires.moves c.args.code c.args.before (c.requires.before ∙ sym (ap (λ s. value_at s.kept.groups c.args.code) c.self.view_is)) _ c.columns-columns.ensures.columns c.columns-columns.ensures.shape
+    given-within g.P.WeightPolicy.weigh _ _ c.self.view_is c.self.invariant.state c.self.invariant.state.trees c.args.moves.now c.requires.moves c.args.code c.args.before (c.requires.before ∙ sym (ap (λ s. value_at s.kept.groups c.args.code) c.self.view_is)) _ c.columns-columns.ensures.columns c.columns-columns.ensures.shape
     _ (c.fact_at-given.ensures ∙ ap (fact_with_code c.args.self.now.dims c.args.code) c.as_ref-2.ensures.value)
 
 pub returns : goal.returns
 returns g c =
-    made-seen g.P.WeightPolicy.weigh _ _ c.self.view_is c.self.invariant c.self.invariant.trees c.args.moves.now c.requires.moves c.args.code c.args.before (c.requires.before ∙ sym (ap (λ s. value_at s.kept.groups c.args.code) c.self.view_is))
+    made-seen g.P.WeightPolicy.weigh _ _ c.self.view_is c.self.invariant.state c.self.invariant.state.trees c.args.moves.now c.requires.moves c.args.code c.args.before (c.requires.before ∙ sym (ap (λ s. value_at s.kept.groups c.args.code) c.self.view_is))
     _ _ _ _ c.fact_at-taken.ensures c.as_ref.ensures.value c.fact_at-given.ensures c.as_ref-2.ensures.value
     _ _ _ c.members_of.ensures c.number_of-2.ensures.number c.number_of.ensures.number
     _ c.in-Some.ensures.region c.if-members-eq0.false c.in-Some.region refl

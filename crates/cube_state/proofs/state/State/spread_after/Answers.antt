@@ -17,29 +17,29 @@ returns-then-is_kept g c = c.in_ok-before.ensures ∙ c.is_kept.ensures.kept c.i
 
 pub changes_inside-requires-clause-cells : goal.changes_inside-requires-clause-cells
 changes_inside-requires-clause-cells g c =
-    subst (λ (cs : List Change). All (λ change. change.0 < length (all_cells c.self.inside.space)) cs) (sym c.as_slice.ensures) (touched-within g.P.WeightPolicy.weigh _ _ c.self.view_is c.self.invariant c.args.moves.now c.requires.moves)
+    subst (λ (cs : List Change). All (λ change. change.0 < length (all_cells c.self.inside.space)) cs) (sym c.as_slice.ensures) (touched-within g.P.WeightPolicy.weigh _ _ c.self.view_is c.self.invariant.state c.args.moves.now c.requires.moves)
 
 pub step-requires-clause-counted : goal.step-requires-clause-counted
-step-requires-clause-counted g c = few-before g.P.WeightPolicy.weigh _ _ c.self.view_is c.self.invariant c.args.r
+step-requires-clause-counted g c = few-before g.P.WeightPolicy.weigh _ _ c.self.view_is c.self.invariant.state c.args.r
 
 pub step-requires-clause-counted_after : goal.step-requires-clause-counted_after
 step-requires-clause-counted_after g c =
-    few-after g.P.WeightPolicy.weigh _ _ c.self.view_is c.self.invariant c.args.moves.now c.requires.moves c.args.r c.columns.ensures.shape c.deref.result.now
+    few-after g.P.WeightPolicy.weigh _ _ c.self.view_is c.self.invariant.state c.args.moves.now c.requires.moves c.args.r c.columns.ensures.shape c.deref.result.now
     (c.deref.ensures.value ∙ c.in_ok-changed.ensures ∙ ap (changes_among (cells_of c.self.inside.space c.args.r)) c.as_slice.ensures)
 
 pub step-requires-clause-before : goal.step-requires-clause-before
-step-requires-clause-before g c = back-seen g.P.WeightPolicy.weigh _ _ c.self.view_is c.self.invariant _ c.args.r c.in_ok-before.ensures
+step-requires-clause-before g c = back-seen g.P.WeightPolicy.weigh _ _ c.self.view_is c.self.invariant.state _ c.args.r c.in_ok-before.ensures
 
 pub step-requires-clause-changes : goal.step-requires-clause-changes
 step-requires-clause-changes g c =
-    changes-shown g.P.WeightPolicy.weigh _ _ c.self.view_is c.self.invariant c.args.moves.now c.requires.moves c.args.r c.columns.ensures.shape c.deref.result.now
+    changes-shown g.P.WeightPolicy.weigh _ _ c.self.view_is c.self.invariant.state c.args.moves.now c.requires.moves c.args.r c.columns.ensures.shape c.deref.result.now
     (c.deref.ensures.value ∙ c.in_ok-changed.ensures ∙ ap (changes_among (cells_of c.self.inside.space c.args.r)) c.as_slice.ensures)
 
 pub returns : goal.returns
 returns g c =
     IfOk-weaker c.step.result (λ a. a ≡ spread (λ cell. g.P.WeightPolicy.weigh c.self.inside.policy (stat_after (stat_at c.self.inside.stats) c.deref.result.now cell)) (cells_of c.self.inside.space c.args.r))
     (λ a. a ≡ spread_at (policy_in g.P.WeightPolicy.weigh c.args.self.now) c.args.self.now.dims (after c.args.moves.now.edit c.args.self.now.facts) c.args.r)
-    (λ a is. is ∙ stepped-seen g.P.WeightPolicy.weigh _ _ c.self.view_is c.self.invariant c.args.moves.now c.requires.moves c.args.r c.columns.ensures.shape c.deref.result.now
+    (λ a is. is ∙ stepped-seen g.P.WeightPolicy.weigh _ _ c.self.view_is c.self.invariant.state c.args.moves.now c.requires.moves c.args.r c.columns.ensures.shape c.deref.result.now
     (c.deref.ensures.value ∙ c.in_ok-changed.ensures ∙ ap (changes_among (cells_of c.self.inside.space c.args.r)) c.as_slice.ensures)) c.step.ensures.spread
 
 pub step-requires-clause-several : goal.step-requires-clause-several

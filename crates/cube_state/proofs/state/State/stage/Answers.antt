@@ -2,21 +2,21 @@
 use Rattle.std.proofs.Common.{◌≡◌, refl, subst, true}
 use Rattle.staged_map.specs.Staged.{have_places}
 use Rattle.fact_indexes.proofs.SameViews.{cuts-same}
-use Rattle.cube_state.proofs.Rooming.{content-kept, fits-seen, lost-region, sets-staged, state-kept, views-untouched}
+use Rattle.cube_state.proofs.Rooming.{content-kept, fits-seen, knowing-kept, lost-region, sets-staged, views-untouched}
 use Rattle.cube_state.proofs.state.State.stage.Goals as goal
 
 pub stage_facts-requires-clause-lost : goal.stage_facts-requires-clause-lost
-stage_facts-requires-clause-lost g c = lost-region g.P.WeightPolicy.weigh _ _ c.self.view_is c.self.invariant c.args.moves.now c.requires.moves
+stage_facts-requires-clause-lost g c = lost-region g.P.WeightPolicy.weigh _ _ c.self.view_is c.self.invariant.state c.args.moves.now c.requires.moves
 
 pub stage-requires-clause-changes : goal.stage-requires-clause-changes
-stage-requires-clause-changes g c = fits-seen g.P.WeightPolicy.weigh _ _ c.self.view_is c.self.invariant c.args.regrouped.now.groups c.args.changes.now c.requires.changes
+stage-requires-clause-changes g c = fits-seen g.P.WeightPolicy.weigh _ _ c.self.view_is c.self.invariant.state c.args.regrouped.now.groups c.args.changes.now c.requires.changes
 
 pub returns-in_err-reserve-clause-same : goal.returns-in_err-reserve-clause-same
-returns-in_err-reserve-clause-same g c = content-kept g.P.WeightPolicy.weigh _ _ c.self.view_is c.self.invariant _ _ _ refl c.in_err-reserve.ensures.same_facts
+returns-in_err-reserve-clause-same g c = content-kept g.P.WeightPolicy.weigh _ _ c.self.view_is c.self.invariant.state _ _ _ refl c.in_err-reserve.ensures.same_facts
 
 pub invariant_of-self-in_err-stats : goal.invariant_of-self-in_err-stats
 invariant_of-self-in_err-stats g c =
-    state-kept g.P.WeightPolicy.weigh _ _ c.self.view_is c.self.invariant _ _ _ refl c.in_ok-reserve.ensures.same_facts
+    knowing-kept g.P.WeightPolicy.weigh _ _ c.self.view_is c.self.invariant.state _ c.self.invariant.known _ _ _ refl c.in_ok-reserve.ensures.same_facts
     (record {
       stats = c.in_err-stats.ensures.same_stats;
       index = c.in_err-stats.ensures.same_index.values;
@@ -26,11 +26,11 @@ invariant_of-self-in_err-stats g c =
     })
 
 pub returns-in_err-stats-clause-same : goal.returns-in_err-stats-clause-same
-returns-in_err-stats-clause-same g c = content-kept g.P.WeightPolicy.weigh _ _ c.self.view_is c.self.invariant _ _ _ refl c.in_ok-reserve.ensures.same_facts
+returns-in_err-stats-clause-same g c = content-kept g.P.WeightPolicy.weigh _ _ c.self.view_is c.self.invariant.state _ _ _ refl c.in_ok-reserve.ensures.same_facts
 
 pub invariant_of-self-in_err-views : goal.invariant_of-self-in_err-views
 invariant_of-self-in_err-views g c =
-    state-kept g.P.WeightPolicy.weigh _ _ c.self.view_is c.self.invariant _ _ _ (cuts-same _ _ c.in_err-views.ensures.same) c.in_ok-reserve.ensures.same_facts
+    knowing-kept g.P.WeightPolicy.weigh _ _ c.self.view_is c.self.invariant.state _ c.self.invariant.known _ _ _ (cuts-same _ _ c.in_err-views.ensures.same) c.in_ok-reserve.ensures.same_facts
     (record {
       stats = c.in_ok-stats.ensures.same_stats;
       index = c.in_ok-stats.ensures.same_index.values;
@@ -41,11 +41,11 @@ invariant_of-self-in_err-views g c =
 
 pub returns-in_err-views-clause-same : goal.returns-in_err-views-clause-same
 returns-in_err-views-clause-same g c =
-    content-kept g.P.WeightPolicy.weigh _ _ c.self.view_is c.self.invariant _ _ _ (cuts-same _ _ c.in_err-views.ensures.same) c.in_ok-reserve.ensures.same_facts
+    content-kept g.P.WeightPolicy.weigh _ _ c.self.view_is c.self.invariant.state _ _ _ (cuts-same _ _ c.in_err-views.ensures.same) c.in_ok-reserve.ensures.same_facts
 
 pub invariant_of-self-2 : goal.invariant_of-self-2
 invariant_of-self-2 g c =
-    state-kept g.P.WeightPolicy.weigh _ _ c.self.view_is c.self.invariant _ _ _ (cuts-same _ _ c.in_ok-views.ensures.same) c.in_ok-reserve.ensures.same_facts
+    knowing-kept g.P.WeightPolicy.weigh _ _ c.self.view_is c.self.invariant.state _ c.self.invariant.known _ _ _ (cuts-same _ _ c.in_ok-views.ensures.same) c.in_ok-reserve.ensures.same_facts
     (record {
       stats = c.in_ok-stats.ensures.same_stats;
       index = c.in_ok-stats.ensures.same_index.values;
@@ -56,11 +56,11 @@ invariant_of-self-2 g c =
 
 pub returns-clause-same : goal.returns-clause-same
 returns-clause-same g c =
-    content-kept g.P.WeightPolicy.weigh _ _ c.self.view_is c.self.invariant _ _ _ (cuts-same _ _ c.in_ok-views.ensures.same) c.in_ok-reserve.ensures.same_facts
+    content-kept g.P.WeightPolicy.weigh _ _ c.self.view_is c.self.invariant.state _ _ _ (cuts-same _ _ c.in_ok-views.ensures.same) c.in_ok-reserve.ensures.same_facts
 
 pub returns-clause-sets : goal.returns-clause-sets
 returns-clause-sets g c =
-    sets-staged g.P.WeightPolicy.weigh _ _ c.self.view_is c.self.invariant c.args.moves.now c.args.regrouped.now c.args.changes.now c.requires.moves c.requires.regrouped c.requires.follow c.requires.changes c.columns.ensures.shape _ _ _
+    sets-staged g.P.WeightPolicy.weigh _ _ c.self.view_is c.self.invariant.state c.args.moves.now c.args.regrouped.now c.args.changes.now c.requires.moves c.requires.regrouped c.requires.follow c.requires.changes c.columns.ensures.shape _ _ _
     (record {
       stats = c.in_ok-stats.ensures.same_stats;
       index = c.in_ok-stats.ensures.same_index.values;

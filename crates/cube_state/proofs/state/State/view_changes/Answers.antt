@@ -8,17 +8,17 @@ use Rattle.cube_state.proofs.state.State.view_changes.Goals as goal
 
 pub changes_by-requires-clause-kept : goal.changes_by-requires-clause-kept
 changes_by-requires-clause-kept g c =
-    kept-of_regions g.P.WeightPolicy.weigh _ _ c.self.view_is c.self.invariant (g.met.P.WeightPolicy.bound c.self.inside.policy) c.columns.ensures.shape c.self.invariant.trees _ c.columns-2.ensures.columns c.columns-2.ensures.each
+    kept-of_regions g.P.WeightPolicy.weigh _ _ c.self.view_is c.self.invariant.state (g.met.P.WeightPolicy.bound c.self.inside.policy) c.columns.ensures.shape c.self.invariant.state.trees _ c.columns-2.ensures.columns c.columns-2.ensures.each
     c.args.moves.now c.requires.moves c.args.regrouped.now c.requires.regrouped
 
 pub changes_by-requires-clause-after : goal.changes_by-requires-clause-after
 changes_by-requires-clause-after g c =
-    rw c.as_slice.ensures (after-of_regions g.P.WeightPolicy.weigh _ _ c.self.view_is c.self.invariant (g.met.P.WeightPolicy.bound c.self.inside.policy) c.columns.ensures.shape c.self.invariant.trees _ c.columns-2.ensures.columns c.columns-2.ensures.each
+    rw c.as_slice.ensures (after-of_regions g.P.WeightPolicy.weigh _ _ c.self.view_is c.self.invariant.state (g.met.P.WeightPolicy.bound c.self.inside.policy) c.columns.ensures.shape c.self.invariant.state.trees _ c.columns-2.ensures.columns c.columns-2.ensures.each
     c.args.moves.now c.requires.moves c.args.regrouped.now c.requires.regrouped)
 
 pub returns-then-is_empty-clause-follow : goal.returns-then-is_empty-clause-follow
 returns-then-is_empty-clause-follow g c =
-    follow-seen g.P.WeightPolicy.weigh _ _ c.self.view_is c.self.invariant (g.met.P.WeightPolicy.bound c.self.inside.policy) c.columns.ensures.shape c.self.invariant.trees _ c.columns-2.ensures.columns c.columns-2.ensures.each
+    follow-seen g.P.WeightPolicy.weigh _ _ c.self.view_is c.self.invariant.state (g.met.P.WeightPolicy.bound c.self.inside.policy) c.columns.ensures.shape c.self.invariant.state.trees _ c.columns-2.ensures.columns c.columns-2.ensures.each
     c.args.moves.now c.requires.moves c.args.regrouped.now c.requires.regrouped _ (sym (ap (λ s. all_changes s c.args.regrouped.now.groups) c.self.view_is))
 
 -- where there is no view, nothing is listed
@@ -28,7 +28,7 @@ returns-then-is_empty-clause-changes g c =
 
 pub returns-clause-follow : goal.returns-clause-follow
 returns-clause-follow g c =
-    follow-seen g.P.WeightPolicy.weigh _ _ c.self.view_is c.self.invariant (g.met.P.WeightPolicy.bound c.self.inside.policy) c.columns.ensures.shape c.self.invariant.trees _ c.columns-2.ensures.columns c.columns-2.ensures.each
+    follow-seen g.P.WeightPolicy.weigh _ _ c.self.view_is c.self.invariant.state (g.met.P.WeightPolicy.bound c.self.inside.policy) c.columns.ensures.shape c.self.invariant.state.trees _ c.columns-2.ensures.columns c.columns-2.ensures.each
     c.args.moves.now c.requires.moves c.args.regrouped.now c.requires.regrouped _ (sym (ap (λ s. all_changes s c.args.regrouped.now.groups) c.self.view_is))
 
 pub returns-clause-changes : goal.returns-clause-changes
@@ -36,6 +36,6 @@ returns-clause-changes g c =
     IfOk-weaker c.changes_by.result (λ changes. changes.items ≡ changes_by c.self.inside.space (value_at c.self.inside.groups) c.as_slice.result.now)
     (λ changes. SufficeFor c.args.self.now.dims c.args.self.now.kept.views (all_changes c.args.self.now c.args.regrouped.now.groups) changes.items)
     (λ changes are.
-    suffice-seen g.P.WeightPolicy.weigh _ _ c.self.view_is c.self.invariant (g.met.P.WeightPolicy.bound c.self.inside.policy) c.columns.ensures.shape c.self.invariant.trees _ c.columns-2.ensures.columns c.columns-2.ensures.each
+    suffice-seen g.P.WeightPolicy.weigh _ _ c.self.view_is c.self.invariant.state (g.met.P.WeightPolicy.bound c.self.inside.policy) c.columns.ensures.shape c.self.invariant.state.trees _ c.columns-2.ensures.columns c.columns-2.ensures.each
     c.args.moves.now c.requires.moves c.args.regrouped.now c.requires.regrouped changes.items (are ∙ ap (changes_by c.self.inside.space (value_at c.self.inside.groups)) c.as_slice.ensures))
     c.changes_by.ensures
