@@ -1,7 +1,6 @@
 //! What an edit moves.
-use cube_base::PlainList;
 use cube_model::{Edit, Fact};
-use touched_cells::Change;
+use touched_cells::{Change, Few};
 
 /// An edit, its old fact and its new fact, the codes of their regions, the changes of the cells that it touches, and those of
 /// them that make a cell weigh otherwise.
@@ -12,6 +11,6 @@ pub struct Moves {
     pub given: Option<Fact>,
     pub taken_code: Option<u64>,
     pub given_code: Option<u64>,
-    pub touched: PlainList<Change>,
-    pub reweighing: PlainList<Change>,
+    pub touched: Few<Change>,
+    pub reweighing: Few<Change>,
 }

@@ -19,11 +19,14 @@ use crate::State;
 use crate::edit_moves::Moves;
 use crate::edited::{given_fact, taken_fact};
 use cell_weight::WeightPolicy;
-use cube_base::{Ids, Memory, PlainList};
+use cube_base::{Ids, Memory};
 use cube_model::{Edit, Fact};
 use region_index::{Steps, sort_distinct};
 use std::sync::ledger::Ledger;
-use touched_cells::{Change, cell_of_fact, changes, reweighing_changes};
+use touched_cells::{Change, Few, cell_of_fact, changes, reweighing_changes};
+
+/// As many codes have most edits at most: so many fit without another list.
+const MOST_CODES: usize = 16;
 
 impl<P: WeightPolicy + Drop> State<P> {
     /// What an edit moves, which no code refuses that is judged before the rows. The only error is running out of memory.
@@ -37,8 +40,8 @@ impl<P: WeightPolicy + Drop> State<P> {
         let _ = self.shape().columns();
         let taken = taken_fact(edit, &self.facts);
         let given = given_fact(edit);
-        let touched = self.cell_changes(edit, taken, given)?;
-        let reweighing = reweighing_changes(self.alloc, &self.policy, &touched)?;
+        let touched = self.cell_changes(edit, taken, given);
+        let reweighing = reweighing_changes(&self.policy, &touched);
         let taken_code = self.region_code(taken.as_ref());
         let given_code = self.region_code(given.as_ref());
         Ok(Moves {
@@ -47,8 +50,8 @@ impl<P: WeightPolicy + Drop> State<P> {
             given,
             taken_code,
             given_code,
-            touched: PlainList::from(touched),
-            reweighing: PlainList::from(reweighing),
+            touched,
+            reweighing,
         })
     }
 
@@ -89,7 +92,7 @@ impl<P: WeightPolicy + Drop> State<P> {
         ensures codes { IfOk result (λ codes. (code : ℕ) → is_among codes.items code ≡ is_over_one self.now.dims changes.now self.now.facts code) }
         ensures steps { steps.new ≤ steps.old + probes_over self.now.dims changes.now }
     {
-        let mut codes = Vec::new(self.alloc);
+        let mut codes = Vec::with_capacity(self.alloc, MOST_CODES)?;
         if self.index.is_empty() {
             return Ok(codes);
         }
@@ -104,22 +107,17 @@ impl<P: WeightPolicy + Drop> State<P> {
 
     /// The cells that an edit touches, ascending, each with its statistics before and after it. These are its old fact and its new
     /// fact, and no code that is judged before the rows refuses it.
-    fn cell_changes(
-        &self,
-        edit: &Edit,
-        before: Option<Fact>,
-        after: Option<Fact>,
-    ) -> Result<Vec<Change>, Memory>
+    fn cell_changes(&self, edit: &Edit, before: Option<Fact>, after: Option<Fact>) -> Few<Change>
         requires over { IsEditOver self.now.dims edit.now }
         requires accepted { fact_refusal self.now.shape self.now.dims edit.now self.now.facts ≡ None }
         requires before { before ≡ taken edit.now self.now.facts }
         requires after { after ≡ given edit.now }
-        ensures { IfOk result (λ changes. changes.items ≡ touched (policy_in P.weigh self.now) self.now.dims edit.now self.now.facts) }
+        ensures { result ≡ touched (policy_in P.weigh self.now) self.now.dims edit.now self.now.facts }
     {
         let _ = self.shape.columns();
         let lost = cell_of_fact(&self.space, &self.shape, before);
         let won = cell_of_fact(&self.space, &self.shape, after);
-        changes(self.alloc, &self.stats, lost, won)
+        changes(&self.stats, lost, won)
     }
 }
 

@@ -64,8 +64,9 @@ impl<P: WeightPolicy + Drop> State<P> {
         ensures groups { IfOk result (λ r. r.rows ≤ MAX_ROWS → r.groups ≡ groups_after (policy_in P.weigh self.now) (width_of_all self.now.shape.measures) self.now.dims moves.now.edit self.now.facts codes.now) }
         ensures spread_anew { IfOk result (λ r. r.spread_anew ≡ spread_anew (policy_in P.weigh self.now) (width_of_all self.now.shape.measures) self.now.dims moves.now.edit self.now.facts codes.now) }
     {
+        let groups = Vec::with_capacity(self.alloc, codes.len())?;
         let mut draft = Draft {
-            groups: PlainList::new(self.alloc),
+            groups: PlainList::from(groups),
             spread_anew: Ids::new(self.alloc),
             before: 0,
             after: 0,

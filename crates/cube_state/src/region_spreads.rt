@@ -18,8 +18,7 @@ use cell_weight::WeightPolicy;
 use cube_base::Memory;
 use cube_model::Region;
 use region_algebra::Space;
-use std::alloc::Global;
-use touched_cells::Change;
+use touched_cells::{Change, Few};
 
 impl<P: WeightPolicy + Drop> State<P> {
     /// How a region is spread after an edit. Where it has a group, that is spread as the region is before it.
@@ -41,7 +40,7 @@ impl<P: WeightPolicy + Drop> State<P> {
         if self.is_kept(moves, r, edited) {
             return Ok(before);
         }
-        let changed = changes_inside(self.alloc, &self.space, r, moves.touched.as_slice())?;
+        let changed = changes_inside(&self.space, r, &moves.touched);
         step(
             self.alloc,
             &self.space,
@@ -49,7 +48,7 @@ impl<P: WeightPolicy + Drop> State<P> {
             &self.stats,
             &before,
             r,
-            &changed,
+            changed.as_slice(),
         )
     }
 
@@ -89,21 +88,16 @@ fn holds_any(space: &Space, r: Region, changes: &[Change]) -> bool
 }
 
 /// The changes of the cells of a region.
-fn changes_inside(
-    alloc: Global,
-    space: &Space,
-    r: Region,
-    changes: &[Change],
-) -> Result<Vec<Change>, Memory>
+fn changes_inside(space: &Space, r: Region, changes: &Few<Change>) -> Few<Change>
     requires region { IsRegion space.now r }
     requires cells { All (λ change. change.0 < length (all_cells space.now)) changes.now }
-    ensures { IfOk result (λ inside. inside.items ≡ changes_among (cells_of space.now r) changes.now) }
+    ensures { result ≡ changes_among (cells_of space.now r) changes.now }
 {
-    let mut inside = Vec::new(alloc);
-    for change in changes {
+    let mut inside = Few::new();
+    for change in changes.as_slice() {
         if space.contains(r, change.0) {
-            inside.push(*change)?;
+            inside.push(*change);
         }
     }
-    Ok(inside)
+    inside
 }

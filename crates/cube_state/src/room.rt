@@ -21,21 +21,20 @@ use crate::edit_moves::Moves;
 use crate::sets::Sets;
 use crate::{Group, State};
 use cell_weight::{CellStat, StatIndex, WeightPolicy};
-use cube_base::{Memory, PlainList};
+use cube_base::Memory;
 use cube_model::Fact;
 use fact_records::FactList;
 use region_algebra::Space;
 use region_index::{RegionIndex, RegionStage, Steps};
 use staged_map::Staged;
-use std::alloc::{AllocError, Global};
 use std::sync::ledger::Ledger;
-use touched_cells::Change;
+use touched_cells::{Change, Few};
 use view_store::{ViewChange, ViewStage};
 
 /// What is staged beside the groups.
 #[derive(Drop)]
 struct Stages {
-    stats: PlainList<(u64, CellStat)>,
+    stats: Few<(u64, CellStat)>,
     index: RegionStage,
     views: ViewStage,
 }
@@ -103,7 +102,6 @@ impl<P: WeightPolicy + Drop> State<P> {
             regrouped.groups.as_slice(),
         )?;
         let (stats, index) = stage_facts(
-            self.alloc,
             &mut self.stats,
             &mut self.index,
             &self.space,
@@ -188,13 +186,12 @@ fn reserve_groups(
 
 /// Makes ready what an edit changes in the statistics and in the index.
 fn stage_facts<L: Ledger>(
-    alloc: Global,
     stats: &mut StatIndex,
     index: &mut RegionIndex,
     space: &Space,
     moves: &Moves,
     steps: &mut Steps<L>,
-) -> Result<(PlainList<(u64, CellStat)>, RegionStage), Memory>
+) -> Result<(Few<(u64, CellStat)>, RegionStage), Memory>
     requires lost { IfSome moves.now.taken (λ f. IsRegion space.now f.region) }
     requires won { IfSome moves.now.given (λ f. IsRegion space.now f.region) }
     ensures same_stats { (cell : ℕ) → stat_at stats.new cell ≡ stat_at stats.old cell }
@@ -206,34 +203,31 @@ fn stage_facts<L: Ledger>(
     ensures ready { IfOk result (λ staged. IsStagedFor index.new staged.1) }
     ensures steps { steps.new ≤ steps.old + 2 }
 {
-    let changes = stage_stats(alloc, stats, moves.touched.as_slice())?;
+    let changes = stage_stats(stats, &moves.touched)?;
     let stage = stage_index(index, space, moves.taken, moves.given, steps)?;
     Ok((changes, stage))
 }
 
 /// Gives each touched cell a place, and answers its new statistics.
-fn stage_stats(
-    alloc: Global,
-    stats: &mut StatIndex,
-    touched: &[Change],
-) -> Result<PlainList<(u64, CellStat)>, Memory>
+fn stage_stats(stats: &mut StatIndex, touched: &Few<Change>) -> Result<Few<(u64, CellStat)>, Memory>
     ensures same { (cell : ℕ) → stat_at stats.new cell ≡ stat_at stats.old cell }
     ensures made { IfOk result (λ changes. changes ≡ new_stats touched.now) }
     ensures placed { IfOk result (λ changes. have_stat_places stats.new changes ≡ true) }
 {
-    let changes = new_stats(alloc, touched)?;
-    stats.stage(&changes)?;
-    Ok(PlainList::from(changes))
+    let changes = new_stats(touched);
+    stats.stage(changes.as_slice())?;
+    Ok(changes)
 }
 
 /// The changed cells, each with its new statistics.
-fn new_stats(alloc: Global, changes: &[Change]) -> Result<Vec<(u64, CellStat)>, AllocError>
-    ensures { IfOk result (λ stats. stats.items ≡ new_stats changes.now) }
+fn new_stats(changes: &Few<Change>) -> Few<(u64, CellStat)>
+    ensures { result ≡ new_stats changes.now }
 {
-    changes
-        .iter()
-        .map(|change| (change.0, change.2))
-        .collect(alloc)
+    let mut stats = Few::new();
+    for change in changes.as_slice() {
+        stats.push((change.0, change.2));
+    }
+    stats
 }
 
 /// Makes ready what an edit changes in the index: its old fact is dropped, and its new fact is put, each of which is a step.

@@ -72,7 +72,7 @@ fn changes_by(
     requires after { EntriesAreOfRegions space.now groups.now }
     ensures { IfOk result (λ changes. changes.items ≡ changes_by space.now (value_at kept.now) groups.now) }
 {
-    let mut changes = Vec::new(alloc);
+    let mut changes = Vec::with_capacity(alloc, groups.len().saturating_mul(2))?;
     for (code, after) in groups {
         push_changes(&mut changes, space, *code, kept.get(*code), after.as_ref())?;
     }

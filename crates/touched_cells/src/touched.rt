@@ -1,5 +1,5 @@
 //! The cells that an edit touches, with their statistics before and after it.
-ghost use Rattle.std.specs.Prelude.{◌≡◌, ◌++◌, ◌≤◌, ◌<◌, ℕ, All, IfOk, IfSome, OnOk, None, length, map, nat_abs, pos, slice_index_or};
+ghost use Rattle.std.specs.Prelude.{◌≡◌, ◌++◌, ◌≤◌, ◌<◌, ℕ, All, IfSome, None, length, map, nat_abs, pos, slice_index_or};
 ghost use Rattle.std.specs.Option.{option_map, option_map_or, option_to_list};
 ghost use Rattle.cube_model.specs.Limits.{MAX_VALUE};
 ghost use Rattle.cell_weight.specs.Stats.{IsStat, stat_at};
@@ -9,12 +9,12 @@ ghost use Rattle.fact_records.specs.Shape.{IsShape, adds_of};
 ghost use Rattle.fact_records.specs.Valid.{IsFactOf};
 ghost use Rattle.touched_cells.specs.Touched.{added_at, change_at, changes_of, lying_of, number_at, reweighing};
 
+use crate::Few;
 use cell_weight::{CellStat, StatIndex, WeightPolicy};
-use cube_base::{Cols, Memory};
+use cube_base::Cols;
 use cube_model::Fact;
 use fact_records::Shape;
 use region_algebra::Space;
-use std::alloc::Global;
 
 /// A cell, with its statistics before and after an edit.
 pub type Change = (u64, CellStat, CellStat);
@@ -107,21 +107,20 @@ fn cells_in_order(a: Option<u64>, b: Option<u64>) -> (Option<u64>, Option<u64>)
 
 /// The changes of the cells of both facts, ascending.
 pub fn changes(
-    alloc: Global,
     stats: &StatIndex,
     taken: Option<(u64, u64)>,
     given: Option<(u64, u64)>,
-) -> Result<Vec<Change>, Memory>
+) -> Few<Change>
     requires number { (cell : ℕ) → number_at taken cell ≤ (stat_at stats.now cell).count }
     requires added { (cell : ℕ) → added_at taken cell ≤ (stat_at stats.now cell).sum }
     requires light { (cell : ℕ) → added_at given cell ≤ MAX_VALUE }
-    ensures { IfOk result (λ changes. changes.items ≡ changes_of (stat_at stats.now) taken given) }
+    ensures { result ≡ changes_of (stat_at stats.now) taken given }
 {
     let (first, second) = cells_in_order(cell_of(taken), cell_of(given));
-    let mut changes = Vec::new(alloc);
-    push_change(&mut changes, stats, taken, given, first)?;
-    push_change(&mut changes, stats, taken, given, second)?;
-    Ok(changes)
+    let mut changes = Few::new();
+    push_change(&mut changes, stats, taken, given, first);
+    push_change(&mut changes, stats, taken, given, second);
+    changes
 }
 
 /// The cell of a fact that lies on one.
@@ -134,40 +133,36 @@ fn cell_of(lying: Option<(u64, u64)>) -> Option<u64>
     }
 }
 
-/// Adds the change of a cell, if there is one.
+/// Adds the change of a cell, if there is one, to one other at most.
 fn push_change(
-    changes: &mut Vec<Change>,
+    changes: &mut Few<Change>,
     stats: &StatIndex,
     taken: Option<(u64, u64)>,
     given: Option<(u64, u64)>,
     cell: Option<u64>,
-) -> Result<(), Memory>
+)
+    requires few { length changes.old < 2 }
     requires number { (cell : ℕ) → number_at taken cell ≤ (stat_at stats.now cell).count }
     requires added { (cell : ℕ) → added_at taken cell ≤ (stat_at stats.now cell).sum }
     requires light { (cell : ℕ) → added_at given cell ≤ MAX_VALUE }
-    ensures { OnOk result (changes.new.items ≡ changes.old.items ++ map (change_at (stat_at stats.now) taken given) (option_to_list cell)) }
+    ensures { changes.new ≡ changes.old ++ map (change_at (stat_at stats.now) taken given) (option_to_list cell) }
 {
     if let Some(cell) = cell {
-        changes.push(change_at(stats, taken, given, cell))?;
+        changes.push(change_at(stats, taken, given, cell));
     }
-    Ok(())
 }
 
 /// Those of the changes that make a cell weigh otherwise.
-pub fn reweighing_changes<P: WeightPolicy>(
-    alloc: Global,
-    policy: &P,
-    changes: &[Change],
-) -> Result<Vec<Change>, Memory>
+pub fn reweighing_changes<P: WeightPolicy>(policy: &P, changes: &Few<Change>) -> Few<Change>
     requires before { All (λ change. IsStat change.1) changes.now }
     requires after { All (λ change. IsStat change.2) changes.now }
-    ensures { IfOk result (λ some. some.items ≡ reweighing (P.weigh policy.now) changes.now) }
+    ensures { result ≡ reweighing (P.weigh policy.now) changes.now }
 {
-    let mut some = Vec::new(alloc);
-    for change in changes {
+    let mut some = Few::new();
+    for change in changes.as_slice() {
         if policy.weight(change.1) != policy.weight(change.2) {
-            some.push(*change)?;
+            some.push(*change);
         }
     }
-    Ok(some)
+    some
 }

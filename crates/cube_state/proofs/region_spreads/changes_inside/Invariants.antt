@@ -5,4 +5,4 @@ use Rattle.cube_model.specs.Cells.{cells_of}
 use Rattle.cube_state.proofs.region_spreads.changes_inside.Given as goal
 
 abbrev pub invariant-loop-change : goal.invariant-loop-change
-invariant-loop-change l = l.inside.items ≡ changes_among (cells_of l.space l.r) (take l.change-index l.changes)
+invariant-loop-change l = l.inside ≡ changes_among (cells_of l.space l.r) (take l.change-index l.change-items)

@@ -4,4 +4,4 @@ use Rattle.touched_cells.specs.Touched.{reweighing}
 use Rattle.touched_cells.proofs.touched.reweighing_changes.Given as goal
 
 abbrev pub invariant-loop-change : goal.invariant-loop-change
-invariant-loop-change g l = l.some.items ≡ reweighing (g.P.WeightPolicy.weigh l.policy) (take l.change-index l.changes)
+invariant-loop-change g l = l.some ≡ reweighing (g.P.WeightPolicy.weigh l.policy) (take l.change-index l.change-items)

@@ -1,10 +1,6 @@
 -- What is taken was counted, and the changes are those of the cells that the edit touches.
-use Rattle.std.proofs.Common.{◌≡◌, ◌∙◌, ap, sym}
-use Rattle.std.proofs.lemmas.Result.{IfOk-weaker}
-use Rattle.cell_weight.specs.Stats.{stat_at}
-use Rattle.cube_state.specs.State.{policy_in}
+use Rattle.std.proofs.Common.{◌∙◌, ap, sym}
 use Rattle.fact_groups.specs.Edits.{taken}
-use Rattle.touched_cells.specs.Touched.{changes_of, touched}
 use Rattle.cube_state.proofs.Seeing.{lost-added, lost-number, taken-valid, touched-seen}
 use Rattle.cube_state.proofs.state.State.cell_changes.Goals as goal
 
@@ -19,6 +15,5 @@ changes-requires-clause-added g c = λ cell. lost-added g.P.WeightPolicy.weigh _
 
 pub returns : goal.returns
 returns g c =
-    IfOk-weaker c.changes.result (λ ch. ch.items ≡ changes_of (stat_at c.self.inside.stats) c.cell_of_fact-lost.result c.cell_of_fact-won.result)
-    (λ ch. ch.items ≡ touched (policy_in g.P.WeightPolicy.weigh c.args.self.now) c.args.self.now.dims c.args.edit.now c.args.self.now.facts)
-    (λ ch is. is ∙ touched-seen g.P.WeightPolicy.weigh _ _ c.self.view_is c.self.invariant.state c.args.edit.now _ _ (c.requires.before ∙ sym (ap (λ s. taken c.args.edit.now s.facts) c.self.view_is)) c.cell_of_fact-lost.ensures.lying _ _ c.requires.after c.cell_of_fact-won.ensures.lying) c.changes.ensures
+    c.changes.ensures
+    ∙ touched-seen g.P.WeightPolicy.weigh _ _ c.self.view_is c.self.invariant.state c.args.edit.now _ _ (c.requires.before ∙ sym (ap (λ s. taken c.args.edit.now s.facts) c.self.view_is)) c.cell_of_fact-lost.ensures.lying _ _ c.requires.after c.cell_of_fact-won.ensures.lying

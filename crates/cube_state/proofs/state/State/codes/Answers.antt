@@ -13,7 +13,7 @@ use Rattle.cube_state.proofs.state.State.codes.Goals as goal
 
 pub codes_over-requires : goal.codes_over-requires
 codes_over-requires g c =
-    subst (λ (cs : List Change). All (λ change. change.0 < length (all_cells c.args.self.now.dims)) cs) (sym c.as_slice.ensures)
+    subst (λ (cs : List Change). All (λ change. change.0 < length (all_cells c.args.self.now.dims)) cs) (sym c.as_slice.ensures.items)
     (cells-within (policy_in g.P.WeightPolicy.weigh c.args.self.now) c.args.self.now.shape c.args.self.now.dims c.args.self.now.facts c.args.moves.now c.requires c.facts.ensures.valid)
 
 pub returns-clause-codes : goal.returns-clause-codes
@@ -26,4 +26,4 @@ returns-clause-codes g c =
     ∙ ap (λ b. b || option_map_or (has_code c.args.self.now.dims code) c.args.moves.now.given false)
     (c.in_ok-taken.ensures code
     ∙ ap (λ b. is_among c.in_ok-over.over.items code || b) (is-coded c.args.self.now.dims code c.args.moves.now.taken c.args.moves.now.taken_code c.requires.taken_at)
-    ∙ ap (λ b. b || option_map_or (has_code c.args.self.now.dims code) c.args.moves.now.taken false) (c.in_ok-over.ensures.codes code ∙ ap (λ (cs : List Change). is_over_one c.args.self.now.dims cs c.args.self.now.facts code) c.as_slice.ensures)))
+    ∙ ap (λ b. b || option_map_or (has_code c.args.self.now.dims code) c.args.moves.now.taken false) (c.in_ok-over.ensures.codes code ∙ ap (λ (cs : List Change). is_over_one c.args.self.now.dims cs c.args.self.now.facts code) c.as_slice.ensures.items)))

@@ -7,7 +7,7 @@ use Rattle.cube_state.proofs.Seeing.{bound-seen, empty-seen, held-seen, over-see
 use Rattle.cube_state.proofs.state.State.codes_over.Goals as goal
 
 pub loop-cell-init : goal.loop-cell-init
-loop-cell-init g c = over-none _ _ _ _ c.new-codes.ensures.items
+loop-cell-init g c = over-none _ _ _ _ c.in_ok-codes.ensures.items
 
 pub held_codes_by_pattern-requires-clause-patterns : goal.held_codes_by_pattern-requires-clause-patterns
 held_codes_by_pattern-requires-clause-patterns g c =
@@ -39,4 +39,4 @@ returns-clause-steps g c = bound-seen _ _ c.self.view_is c.args.changes.now c.ar
 -- where no imprecise fact is there, nothing is over the cells
 pub returns-then-is_empty-clause-codes : goal.returns-then-is_empty-clause-codes
 returns-then-is_empty-clause-codes g c =
-    empty-seen _ _ c.self.view_is g.P.WeightPolicy.weigh c.self.invariant.state c.self.invariant.state.trees (sym c.is_empty.ensures ∙ c.if-is_empty.true) c.args.changes.now c.new-codes.result.items c.new-codes.ensures.items
+    empty-seen _ _ c.self.view_is g.P.WeightPolicy.weigh c.self.invariant.state c.self.invariant.state.trees (sym c.is_empty.ensures ∙ c.if-is_empty.true) c.args.changes.now c.in_ok-codes.codes.items c.in_ok-codes.ensures.items

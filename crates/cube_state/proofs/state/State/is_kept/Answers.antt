@@ -10,7 +10,7 @@ use Rattle.cube_state.proofs.state.State.is_kept.Goals as goal
 
 pub holds_any-requires-clause-cells : goal.holds_any-requires-clause-cells
 holds_any-requires-clause-cells g c =
-    subst (λ (cs : List Change). All (λ change. change.0 < length (all_cells c.self.inside.space)) cs) (sym c.as_slice.ensures) (reweighing-within g.P.WeightPolicy.weigh _ _ c.self.view_is c.self.invariant.state c.args.moves.now c.requires.moves)
+    subst (λ (cs : List Change). All (λ change. change.0 < length (all_cells c.self.inside.space)) cs) (sym c.as_slice.ensures.items) (reweighing-within g.P.WeightPolicy.weigh _ _ c.self.view_is c.self.invariant.state c.args.moves.now c.requires.moves)
 
 pub returns-then-cell_count-eq1-clause-kept : goal.returns-then-cell_count-eq1-clause-kept
 returns-then-cell_count-eq1-clause-kept g c = λ single.
@@ -19,4 +19,4 @@ returns-then-cell_count-eq1-clause-kept g c = λ single.
 pub returns-then-edited-clause-kept : goal.returns-then-edited-clause-kept
 returns-then-edited-clause-kept g c = λ none.
     kept-elsewhere g.P.WeightPolicy.weigh _ _ c.self.view_is c.self.invariant.state c.args.moves.now c.requires.moves c.args.r
-    (sym (c.holds_any.ensures ∙ ap (list_any (λ (change : Change). is_among (cells_of c.self.inside.space c.args.r) change.0)) c.as_slice.ensures) ∙ grind (arith, none))
+    (sym (c.holds_any.ensures ∙ ap (list_any (λ (change : Change). is_among (cells_of c.self.inside.space c.args.r) change.0)) c.as_slice.ensures.items) ∙ grind (arith, none))

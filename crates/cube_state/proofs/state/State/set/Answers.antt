@@ -16,7 +16,7 @@ invariant_of-self g c = record {
       installed g.P.WeightPolicy.weigh _ _ c.args.edit _ _ c.args.rows c.self.view_is c.sets.view_is c.requires c.self.invariant.state _ _
       (record {
         edited = c.apply.ensures;
-        stats = subst (Installs c.self.inside.stats c.install.new.self) c.as_slice.ensures c.install.ensures;
+        stats = subst (Installs c.self.inside.stats c.install.new.self) c.as_slice.ensures.items c.install.ensures;
         index = c.install-2.ensures.applies;
         groups = subst (PutsAll c.self.inside.groups c.put_all.new.self) c.into_vec.ensures c.put_all.ensures;
         views = λ changes. c.install-3.ensures.after c.self.inside.space changes;
