@@ -43,7 +43,7 @@ fn write_fact_rows(
     let mut row = ByteRecord::new(alloc);
     let mut text = Vec::new(alloc);
     for fact in facts.iter() {
-        fill_row(&mut row, &mut text, s, fact)?;
+        fill_row(&mut row, &mut text, s, &fact)?;
         write_row(out, &row)?;
     }
     Ok(())

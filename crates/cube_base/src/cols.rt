@@ -48,6 +48,14 @@ impl Cols {
         })
     }
 
+    /// The values, in order.
+    pub fn as_slice(&self) -> &[i64]
+        ensures values { result.now ≡ self.now }
+        ensures few { length self.now ≤ 7 }
+    {
+        &self.values[..self.len as usize]
+    }
+
     /// The number of values.
     pub fn len(&self) -> u32
         ensures count { result ≡ length self.now }

@@ -55,7 +55,7 @@ fn gather_all<K: Sink>(
         Gathers (extended_text cube.now.schema (cube_rows weigh_of cube.now)) text.new.items (since start (K.tells out.new)) result }
 {
     for fact in cube.facts().iter() {
-        if let Err(error) = gather_fact(alloc, cube, fact, text, out) {
+        if let Err(error) = gather_fact(alloc, cube, &fact, text, out) {
             return Err(error);
         }
     }

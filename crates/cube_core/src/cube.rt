@@ -368,7 +368,7 @@ impl<P: WeightPolicy + Drop> Cube<P> {
             let Some(a) = self.rows(fact.id) else {
                 unreachable!()
             };
-            placed.push(place(self.alloc, fact, a)?)?;
+            placed.push(place(self.alloc, &fact, a)?)?;
         }
         Ok(placed)
     }

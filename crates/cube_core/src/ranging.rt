@@ -84,11 +84,11 @@ fn picks_of<P: WeightPolicy + Drop>(
     let mut sum = 0;
     let mut picks = Pairs::new(alloc);
     for fact in state.facts().iter() {
-        let spread = spread_of(state, fact);
-        let value = column_of(fact, column);
+        let spread = spread_of(state, &fact);
+        let value = column_of(&fact, column);
         let cell = pick(extreme, value, spread.rows(), &inside);
         sum = with_own(sum, value, cell, &inside);
-        if is_imprecise(state, fact) {
+        if is_imprecise(state, &fact) {
             picks.push((fact.id, cell))?;
         }
     }

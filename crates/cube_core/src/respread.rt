@@ -69,7 +69,7 @@ fn run_of(alloc: Global, facts: &FactList) -> Result<FactRun, Memory>
 {
     let mut run = FactRun::new(alloc);
     for fact in facts.iter() {
-        run.push(*fact)?;
+        run.push(fact)?;
     }
     Ok(run)
 }
@@ -90,7 +90,7 @@ pub(crate) fn moved_between<P: WeightPolicy + Drop>(
         rows: KeptRowsList::new(alloc),
     };
     for fact in state.facts().iter() {
-        hold_moved(state, later, fact, &mut held)?;
+        hold_moved(state, later, &fact, &mut held)?;
     }
     Ok(held)
 }

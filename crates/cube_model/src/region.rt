@@ -1,5 +1,5 @@
 //! Regions of the space.
-ghost use Rattle.std.specs.Prelude.{◌≡◌, ◌↔◌, ◌<◌, [], ◌∷◌, length, slice_get, Some, IsNone, IfSome};
+ghost use Rattle.std.specs.Prelude.{◌≡◌, ◌↔◌, ◌<◌, ◌≤◌, [], ◌∷◌, length, slice_get, Some, IsNone, IfSome};
 
 use crate::MAX_DIMS;
 use std::marker::Model;
@@ -54,6 +54,14 @@ impl Region {
             len: 1,
             nodes: [node, 0, 0, 0, 0, 0],
         }
+    }
+
+    /// The nodes, in the order of the dimensions.
+    pub fn nodes(&self) -> &[u32]
+        ensures nodes { result.now ≡ self.now }
+        ensures few { length self.now ≤ 6 }
+    {
+        &self.nodes[..self.len as usize]
     }
 
     /// The node of dimension `d`.

@@ -1,7 +1,7 @@
 -- The facts of ids, of which each may stand inside and outside, one after another.
-use Rattle.std.proofs.Common.{◌≡◌, ℕ, ◌+◌, ◌*◌, ◌<◌, ◌≤◌, ◌^◌, Bool, true, false, Bor, List, [], ◌∷◌, get_or, length, map, take, ap, sym, ◌∙◌, arith, ℤ, pos, ◌+ℤ◌, Option, Some, None}
+use Rattle.std.proofs.Common.{◌≡◌, ℕ, ◌+◌, ◌*◌, ◌<◌, ◌≤◌, ◌^◌, Bool, true, false, List, [], ◌∷◌, get_or, length, map, take, ap, sym, ◌∙◌, arith, ℤ, pos, ◌+ℤ◌, Option, Some, None}
 use Rattle.std.specs.Prelude.{All, filter, find, nat_abs, not, ◌==◌, if◌then◌else◌}
-use Rattle.std.specs.Option.{option_copied, option_map_or}
+use Rattle.std.specs.Option.{option_map_or}
 use Rattle.std.proofs.lemmas.Int.{ints}
 use Rattle.std.proofs.lemmas.List.{take_more}
 use Rattle.std.proofs.lemmas.List.Elements.{All-filter}
@@ -35,9 +35,6 @@ ids-some dims facts all are code ids listed = record { holds = is_indexed_at dim
 -- a fact that is found is one of the facts
 pub found-wide : (column : ℕ) (facts : List Fact) (id : ℕ) (fact : Fact) → All (λ f. column ≤ length f.cols) facts → find (λ f. f.id == id) facts ≡ Some fact → column ≤ length fact.cols
 found-wide column facts id fact wide found = first-holds (λ f. column ≤ length f.cols) (λ f. f.id == id) facts fact wide found
-
-pub copied-some : (facts : List Fact) (id : ℕ) (found : Option (Bor Fact)) (fact : Bor Fact) → option_copied found ≡ find (λ f. f.id == id) facts → found ≡ Some fact → find (λ f. f.id == id) facts ≡ Some fact.now
-copied-some facts id found fact is some = sym is ∙ ap option_copied some
 
 either-le : (b : Bool) (value : ℤ) (limit : ℕ) → nat_abs value ≤ limit → nat_abs (if not b then pos 0 else value) ≤ limit
 either-le true value limit small = small
@@ -84,7 +81,7 @@ module _ (column : ℕ) (facts : List Fact) where
             omega (arith, ints, was, adds, one)
 
     -- of which there is no fact
-    pub of-id-none : (id : ℕ) → id ≡ get_or ids i d → (found : Option (Bor Fact)) → option_copied found ≡ find (λ f. f.id == id) facts → found ≡ None → AreOfIds (take (i + 1) ids) (i + 1) ends
+    pub of-id-none : (id : ℕ) → id ≡ get_or ids i d → (found : Option Fact) → found ≡ find (λ f. f.id == id) facts → found ≡ None → AreOfIds (take (i + 1) ids) (i + 1) ends
     of-id-none id at found is none = record {
       least = more Least ends.least before.least;
       greatest = more Greatest ends.greatest before.greatest;
@@ -95,5 +92,5 @@ module _ (column : ℕ) (facts : List Fact) where
         more extreme old was =
             let push = id-push extreme in
             let nothing : id_part extreme column facts (get_or ids i d) ≡ pos 0 =
-            ap (id_part extreme column facts) (sym at) ∙ ap (λ (o : Option Fact). option_map_or (λ f. either_part extreme (column_in column f)) o (pos 0)) (sym is ∙ ap option_copied none) in
+            ap (id_part extreme column facts) (sym at) ∙ ap (λ (o : Option Fact). option_map_or (λ f. either_part extreme (column_in column f)) o (pos 0)) (sym is ∙ none) in
             omega (arith, ints, was, push, nothing)

@@ -1,5 +1,7 @@
 -- What an edit makes of the group of a code, as a state is seen.
-use Rattle.std.proofs.Common.{◌≡◌, ℕ, ◌+◌, ◌-◌, ◌*◌, ◌≤◌, Bor, List, length, ap, sym, ◌∙◌, subst, arith, ℤ}
+use Rattle.std.proofs.lemmas.Bool.Decides.{nat_tests}
+use Rattle.region_algebra.proofs.Tuples.{region-at_code}
+use Rattle.std.proofs.Common.{Bool, true, false, refl, ◌≡◌, ℕ, ◌+◌, ◌-◌, ◌*◌, ◌≤◌, Bor, List, length, ap, sym, ◌∙◌, subst, arith, ℤ}
 use Rattle.std.specs.Prelude.{All, IfSome, Option, Some, None, slice_get}
 use Rattle.std.specs.Option.{option_copied}
 use Rattle.cube_model.specs.declared.edit.Fact.{Fact}
@@ -10,9 +12,9 @@ use Rattle.cube_model.specs.Facts.{after}
 use Rattle.cube_model.specs.Limits.{MAX_CELLS, MAX_FACTS, MAX_VALUE}
 use Rattle.cube_model.specs.Tree.{IsTree}
 use Rattle.staged_map.specs.Staged.{value_at}
-use Rattle.region_algebra.specs.Space.{IsRegion, all_regions}
+use Rattle.region_algebra.specs.Space.{IsRegion, all_regions, code_of}
 use Rattle.fact_groups.specs.Edits.{given, taken}
-use Rattle.fact_groups.specs.Groups.{Group, column_sums, facts_with, group_at, spread_at}
+use Rattle.fact_groups.specs.Groups.{Group, column_sums, facts_with, group_at, has_code, spread_at}
 use Rattle.fact_records.specs.Shape.{IsShape, width_of_all}
 use Rattle.fact_records.specs.Valid.{IsFactOf}
 use Rattle.cube_state.specs.declared.edit_moves.Moves.{Moves}
@@ -48,6 +50,22 @@ module _ {P : Type 0} (weigh : P → CellStat → ℕ) (state seen : StateValue 
 
     pub given-placed : (o : Option Fact) → o ≡ moves.given → IfSome o (λ f. IsRegion state.dims f.region)
     given-placed o is = subst (λ o. IfSome o (λ f. IsRegion state.dims f.region)) (sym (is ∙ are.gives)) (region-of (given moves.edit) (given-of state.shape state.dims moves.edit state.facts move-seen))
+
+    -- a fact that has a code has its region
+    pub region-seen : (o : Option Fact) → IfSome o (λ f. IsRegion state.dims f.region) → (code : ℕ) (f : Fact) → fact_with_code state.dims code o ≡ Some f → Some f.region ≡ slice_get (all_regions state.dims) code
+    region-seen None placed code f is = absurd (clash is)
+      where
+        clash : None ≡ Some f → ⊥
+        clash e = cc
+    region-seen (Some g) placed code f is = either (has_code state.dims code g) refl is
+      where
+        either : (b : Bool) → has_code state.dims code g ≡ b → fact_with_code state.dims code (Some g) ≡ Some f → Some f.region ≡ slice_get (all_regions state.dims) code
+        either true has found =
+            let here : Some g ≡ Some f = rw has at found in
+            let its : g ≡ f = cc in
+            let at : code ≡ code_of state.dims g.region = grind (arith, nat_tests, has) in
+            ap (λ (fact : Fact). Some fact.region) (sym its) ∙ sym (ap (slice_get (all_regions state.dims)) at ∙ region-at_code state.dims g.region move-seen.trees placed)
+        either false has found = let here : None ≡ Some f = rw has at found in cc
 
     abbrev later : List Fact
     later = after moves.edit state.facts

@@ -21,6 +21,7 @@ pub mod Looking
 pub mod MovesMade
 pub mod NewKept
 pub mod OneGroup
+mod PushedChanges
 pub mod RegionSpreads
 pub mod RegroupSeen
 pub mod Reserving

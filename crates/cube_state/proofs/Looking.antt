@@ -74,33 +74,33 @@ module _ (policy : Policy) (columns : ℕ) (dims : List Dimension) (facts : List
       ∙ ap Some (sym (allocation-spread_at policy dims facts fact))
 
 -- the region of a fact that is found is one of the space
-pub found-region : (shape : ShapeValue) (dims : List Dimension) (facts : List Fact) (id : ℕ) (found : Option (Bor Fact)) (fact : Bor Fact) → AreValid shape dims facts
-    → option_copied found ≡ find (λ f. f.id == id) facts → found ≡ Some fact → IsRegion dims fact.now.region
+pub found-region : (shape : ShapeValue) (dims : List Dimension) (facts : List Fact) (id : ℕ) (found : Option Fact) (fact : Fact) → AreValid shape dims facts
+    → found ≡ find (λ f. f.id == id) facts → found ≡ Some fact → IsRegion dims fact.region
 found-region shape dims facts id found fact valid is some =
-    first-holds (λ f. IsRegion dims f.region) (λ f. f.id == id) facts fact.now (valid-regions shape dims facts valid) (sym is ∙ ap option_copied some)
+    first-holds (λ f. IsRegion dims f.region) (λ f. f.id == id) facts fact (valid-regions shape dims facts valid) (sym is ∙ some)
 
-module _ {P : Type 0} (weigh : P → CellStat → ℕ) (state seen : StateValue P) (same : seen ≡ state) (id : ℕ) (found : Option (Bor Fact)) (is : option_copied found ≡ find (λ f. f.id == id) seen.facts) where
+module _ {P : Type 0} (weigh : P → CellStat → ℕ) (state seen : StateValue P) (same : seen ≡ state) (id : ℕ) (found : Option Fact) (is : found ≡ find (λ f. f.id == id) seen.facts) where
   abbrev here : Policy
   here = policy_in weigh seen
 
   -- an id that is not there has no allocation
   pub looked-none : found ≡ None → None ≡ allocation_of id (rows_in weigh state)
   looked-none none =
-      let nothing : find (λ f. f.id == id) seen.facts ≡ None = sym is ∙ ap option_copied none in
+      let nothing : find (λ f. f.id == id) seen.facts ≡ None = sym is ∙ none in
       sym (allocation_of-found here seen.dims seen.facts id ∙ ap (option_map (allocation here seen.dims seen.facts)) nothing)
       ∙ ap (λ s. allocation_of id (rows_in weigh s)) same
 
-  module _ (fact : Bor Fact) (code : ℕ) (there : Option (Bor Group)) (some : found ≡ Some fact) (at : code ≡ code_of seen.dims fact.now.region)
+  module _ (fact : Fact) (code : ℕ) (there : Option (Bor Group)) (some : found ≡ Some fact) (at : code ≡ code_of seen.dims fact.region)
       (kept : IsState here seen.shape seen.dims seen.cuts seen.facts seen.kept) (trees : All IsTree seen.dims) (has : option_copied there ≡ value_at seen.kept.groups code) where
-    its : find (λ f. f.id == id) seen.facts ≡ Some fact.now
-    its = sym is ∙ ap option_copied some
+    its : find (λ f. f.id == id) seen.facts ≡ Some fact
+    its = sym is ∙ some
 
-    of_group : option_map (λ (g : Group). g.spread) (option_copied there) ≡ Some (allocation here seen.dims seen.facts fact.now)
+    of_group : option_map (λ (g : Group). g.spread) (option_copied there) ≡ Some (allocation here seen.dims seen.facts fact)
     of_group =
         ap (option_map (λ (g : Group). g.spread)) (has ∙ kept.groups code ∙ ap (group_at here (width_of_all seen.shape.measures) seen.dims seen.facts) at)
-        ∙ group-found here (width_of_all seen.shape.measures) seen.dims seen.facts trees (valid-regions seen.shape seen.dims seen.facts kept.valid) id fact.now its
+        ∙ group-found here (width_of_all seen.shape.measures) seen.dims seen.facts trees (valid-regions seen.shape seen.dims seen.facts kept.valid) id fact its
 
-    of_id : Some (allocation here seen.dims seen.facts fact.now) ≡ allocation_of id (rows_in weigh state)
+    of_id : Some (allocation here seen.dims seen.facts fact) ≡ allocation_of id (rows_in weigh state)
     of_id =
         sym (allocation_of-found here seen.dims seen.facts id ∙ ap (option_map (allocation here seen.dims seen.facts)) its)
         ∙ ap (λ s. allocation_of id (rows_in weigh s)) same
@@ -110,7 +110,7 @@ module _ {P : Type 0} (weigh : P → CellStat → ℕ) (state seen : StateValue 
     looked-never none = ap (option_map (λ (g : Group). g.spread)) (sym (ap option_copied none)) ∙ of_group ∙ of_id
 
     module _ (group : Bor Group) (shown : Group) (held : there ≡ Some group) (views : shown ≡ group.now) where
-      shown-spread : Some shown.spread ≡ Some (allocation here seen.dims seen.facts fact.now)
+      shown-spread : Some shown.spread ≡ Some (allocation here seen.dims seen.facts fact)
       shown-spread = ap (λ (g : Group). Some g.spread) views ∙ sym (ap (λ o. option_map (λ (g : Group). g.spread) (option_copied o)) held) ∙ of_group
 
       -- which is spread as the fact is
@@ -121,5 +121,5 @@ module _ {P : Type 0} (weigh : P → CellStat → ℕ) (state seen : StateValue 
       unfolding spread_at
       looked-cells =
           let a = shown.spread in
-          let spread : a ≡ spread_at here seen.dims seen.facts fact.now.region = some-same a (allocation here seen.dims seen.facts fact.now) shown-spread ∙ allocation-spread_at here seen.dims seen.facts fact.now in
-          subst (λ (s : StateValue P). AreRows s.dims a.rows) same (AreRows-spreads {E = ℕ} (Ok a) (weight_of here seen.dims seen.facts) seen.dims fact.now.region spread)
+          let spread : a ≡ spread_at here seen.dims seen.facts fact.region = some-same a (allocation here seen.dims seen.facts fact) shown-spread ∙ allocation-spread_at here seen.dims seen.facts fact in
+          subst (λ (s : StateValue P). AreRows s.dims a.rows) same (AreRows-spreads {E = ℕ} (Ok a) (weight_of here seen.dims seen.facts) seen.dims fact.region spread)

@@ -11,7 +11,7 @@ use Rattle.cube_model.specs.Facts.{after}
 use Rattle.cube_model.specs.Limits.{MAX_CELLS, MAX_FACTS, MAX_ROWS}
 use Rattle.cube_model.specs.Tree.{Dimension, IsTree}
 use Rattle.staged_map.specs.Staged.{Entries, value_at}
-use Rattle.region_algebra.specs.Space.{all_regions}
+use Rattle.region_algebra.specs.Space.{IsRegion, all_regions}
 use Rattle.fact_groups.specs.Groups.{Group, facts_with, group_at, spread_at}
 use Rattle.fact_groups.proofs.Refreshing.{same_allocation}
 use Rattle.fact_records.specs.Shape.{ShapeValue, width_of_all}
@@ -23,6 +23,7 @@ use Rattle.fact_indexes.specs.Kept.{IsState}
 use Rattle.cube_state.specs.State.{StateValue, policy_in}
 use Rattle.cube_state.proofs.Drafted.{IsDraft, drafted-all, drafted-few, drafted-rows, rows-before-le, rows-later-few, rows-later-le}
 use Rattle.cube_state.proofs.GroupSeen.{group-seen, move-seen}
+use Rattle.region_algebra.proofs.Spaces.{uncode-region}
 use Rattle.cube_state.proofs.OneGroup.{IsMove, group-made, group-none, region-there, spread-there}
 
 -- what is there of two
@@ -95,6 +96,12 @@ module _ {P : Type 0} (weigh : P → CellStat → ℕ) (state seen : StateValue 
 
     pub grouped-seen : found ≡ None → ⊥
     grouped-seen none = region-grouped policy state.shape state.dims moves.edit state.facts move code found is_in n.now at_now none
+
+    pub named-seen : (region : List ℕ) → found ≡ Some region → IsRegion state.dims region
+    named-seen region this = some-named (uncode-region state.dims code found move.trees is_in) this
+      where
+        some-named : IfSome found (IsRegion state.dims) → found ≡ Some region → IsRegion state.dims region
+        some-named each that = subst (λ o. IfSome o (IsRegion state.dims)) that each
 
     pub kept-seen : (region : List ℕ) → found ≡ Some region → (b : Bor Group) → before ≡ Some b → spread_at policy state.dims state.facts region ≡ spread_at policy state.dims then_facts region
         → group_is_respread (option_copied before) (option_copied now) ≡ false

@@ -71,7 +71,7 @@ impl<P: WeightPolicy + Drop> State<P> {
     fn shares_at(&self, region: &Inside<'_>, codes: &[u64]) -> Result<Vec<Share>, Memory>
         ensures { IfOk result (λ shares. shares.items ≡ shares_of (cells_inside region.now) (groups_found self.now.kept.groups codes.now)) }
     {
-        let mut shares = Vec::new(self.alloc);
+        let mut shares = Vec::with_capacity(self.alloc, codes.len())?;
         for code in codes {
             if let Some(group) = self.groups.get(*code) {
                 let share = share_in(group, region);

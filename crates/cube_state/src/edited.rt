@@ -19,7 +19,7 @@ pub fn edited_id(edit: &Edit) -> u64
 pub fn taken_fact(edit: &Edit, facts: &FactList) -> Option<Fact>
     ensures { result ≡ taken edit.now facts.now.facts }
 {
-    facts.get(edited_id(edit)).copied()
+    facts.get(edited_id(edit))
 }
 
 /// The new fact of an edit, if there is one.

@@ -1,9 +1,10 @@
 //! The group of a code after an edit.
-ghost use Rattle.std.specs.Prelude.{◌≡◌, ◌==◌, false, ◌*◌, ◌<◌, ◌≤◌, ◌+ℤ◌, ◌-ℤ◌, IfOk, IfSome, length, nat_abs};
+ghost use Rattle.std.specs.Prelude.{slice_get, ◌≡◌, ◌==◌, false, ◌*◌, ◌<◌, ◌≤◌, ◌+ℤ◌, ◌-ℤ◌, IfOk, IfSome, length, nat_abs};
 ghost use Rattle.std.specs.Option.{option_copied, option_map_or};
 ghost use Rattle.cube_model.specs.Facts.{after};
 ghost use Rattle.cube_model.specs.Limits.{MAX_COLS, MAX_FACTS, MAX_VALUE};
 ghost use Rattle.fact_groups.specs.Groups.{group_at};
+ghost use Rattle.region_algebra.specs.Space.{all_regions};
 ghost use Rattle.staged_map.specs.Staged.{value_at};
 ghost use Rattle.fact_records.specs.Shape.{width_of_all};
 ghost use Rattle.cube_state.specs.GroupAfter.{AreValuesWithin, fact_value, fact_with_code, group_total, members_of, number_of, sums_after};
@@ -15,18 +16,20 @@ use crate::edit_moves::Moves;
 use crate::{Group, State};
 use cell_weight::WeightPolicy;
 use cube_base::{Cols, MAX_COLS, Memory};
-use cube_model::Fact;
+use cube_model::{Fact, Region};
 
 impl<P: WeightPolicy + Drop> State<P> {
-    /// The group of a code after an edit, by the one before: None where no fact has a region of the code. Where neither the old fact nor
+    /// The group of a code, which is that of the region, after an edit, by the one before: None where no fact has a region of the code. Where neither the old fact nor
     /// the new fact is of the code, it need not be asked whether a cell weighs otherwise.
     pub(crate) fn group_after(
         &self,
         moves: &Moves,
         code: u64,
+        region: Option<&Region>,
         before: Option<&Group>,
         edited: bool,
     ) -> Result<Option<Group>, Memory>
+        requires region { option_copied region ≡ slice_get (all_regions self.now.dims) code }
         requires moves { AreMoves (policy_in P.weigh self.now) self.now.shape self.now.dims self.now.facts moves.now }
         requires before { option_copied before ≡ value_at self.now.kept.groups code }
         ensures { IfOk result (λ group. group ≡ group_at (policy_in P.weigh self.now) (width_of_all self.now.shape.measures) self.now.dims (after moves.now.edit self.now.facts) code) }
@@ -38,16 +41,29 @@ impl<P: WeightPolicy + Drop> State<P> {
         if members == 0 {
             return Ok(None);
         }
-        let Some(region) = self.space.uncode(code) else {
-            unreachable!()
-        };
-        let spread = self.spread_after(moves, region, before, edited)?;
+        let Some(region) = region else { unreachable!() };
+        let spread = self.spread_after(moves, *region, before, edited)?;
         let sums = sums_after(columns, before, taken, given);
         Ok(Some(Group {
             spread,
             members,
             sums,
         }))
+    }
+
+    /// The region of a code, if it is that of one: it need not be taken apart where one of the facts has it.
+    pub(crate) fn region_of(&self, moves: &Moves, code: u64) -> Option<Region>
+        requires { AreMoves (policy_in P.weigh self.now) self.now.shape self.now.dims self.now.facts moves.now }
+        ensures { result ≡ slice_get (all_regions self.now.dims) code }
+    {
+        let _ = self.shape.columns();
+        if let Some(given) = self.fact_at(moves.given.as_ref(), moves.given_code, code) {
+            return Some(given.region);
+        }
+        if let Some(taken) = self.fact_at(moves.taken.as_ref(), moves.taken_code, code) {
+            return Some(taken.region);
+        }
+        self.space.uncode(code)
     }
 
     /// Whether the old fact or the new fact of an edit is of the code.

@@ -1,10 +1,11 @@
 //! What an edit makes of the groups.
-ghost use Rattle.std.specs.Prelude.{◌≡◌, ◌≤◌, ◌<◌, ◌+◌, ◌^◌, [], ◌∷◌, ◌++◌, ◌||◌, if◌then◌else◌, IfOk, OnOk};
+ghost use Rattle.std.specs.Prelude.{slice_get, ◌≡◌, ◌≤◌, ◌<◌, ◌+◌, ◌^◌, [], ◌∷◌, ◌++◌, ◌||◌, if◌then◌else◌, IfOk, OnOk};
 ghost use Rattle.std.specs.Option.{option_copied};
 ghost use Rattle.cube_model.specs.Allocation.{extended, row_count};
 ghost use Rattle.cube_model.specs.Facts.{after};
 ghost use Rattle.cube_model.specs.Limits.{MAX_ROWS};
 ghost use Rattle.fact_groups.specs.Groups.{group_at};
+ghost use Rattle.region_algebra.specs.Space.{all_regions};
 ghost use Rattle.fact_records.specs.Shape.{width_of_all};
 ghost use Rattle.cube_state.specs.GroupAfter.{group_row_count};
 ghost use Rattle.cube_state.specs.Moves.{AreMoves};
@@ -16,7 +17,7 @@ use crate::edit_moves::Moves;
 use crate::{Group, State};
 use cell_weight::WeightPolicy;
 use cube_base::{Ids, Memory, PlainList};
-use cube_model::MAX_ROWS;
+use cube_model::{MAX_ROWS, Region};
 
 /// What is made of some of the codes: the groups and the codes as they will be in `Regrouped`, and the number of rows of the groups
 /// before the edit and after it.
@@ -99,10 +100,11 @@ impl<P: WeightPolicy + Drop> State<P> {
     {
         let group = self.groups.get(code);
         let edited = self.is_edited_at(moves, code);
-        let next = self.group_after(moves, code, group, edited)?;
+        let region = self.region_of(moves, code);
+        let next = self.group_after(moves, code, region.as_ref(), group, edited)?;
         draft.before += rows_of(group);
         draft.after += rows_of(next.as_ref());
-        let anew = self.is_spread_anew(moves, code, edited, group, next.as_ref());
+        let anew = self.is_spread_anew(moves, code, region.as_ref(), edited, group, next.as_ref());
         draft.hold(code, next, anew, edited)
     }
 
@@ -111,24 +113,25 @@ impl<P: WeightPolicy + Drop> State<P> {
         &self,
         moves: &Moves,
         code: u64,
+        region: Option<&Region>,
         edited: bool,
         before: Option<&Group>,
         now: Option<&Group>,
     ) -> bool
+        requires region { option_copied region ≡ slice_get (all_regions self.now.dims) code }
         requires moves { AreMoves (policy_in P.weigh self.now) self.now.shape self.now.dims self.now.facts moves.now }
         requires before { option_copied before ≡ group_at (policy_in P.weigh self.now) (width_of_all self.now.shape.measures) self.now.dims self.now.facts code }
         requires now { option_copied now ≡ group_at (policy_in P.weigh self.now) (width_of_all self.now.shape.measures) self.now.dims (after moves.now.edit self.now.facts) code }
         ensures { result ≡ group_is_respread (option_copied before.entry) (option_copied now.entry) }
     {
+        let _ = self.shape.columns();
         let (Some(before), Some(now)) = (before, now) else {
             return false;
         };
         if edited {
-            let Some(region) = self.space.uncode(code) else {
-                unreachable!()
-            };
+            let Some(region) = region else { unreachable!() };
             // Where no cell weighs otherwise, the rows are the same without a look at them.
-            if self.is_kept(moves, region, edited) {
+            if self.is_kept(moves, *region, edited) {
                 return false;
             }
         }

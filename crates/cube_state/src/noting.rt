@@ -18,7 +18,7 @@ pub fn patterns_of(space: &Space, facts: &FactList) -> DepthPatterns
 {
     let mut patterns = DepthPatterns::new();
     for fact in facts.iter() {
-        note_fact(&mut patterns, space, fact);
+        note_fact(&mut patterns, space, &fact);
     }
     patterns
 }

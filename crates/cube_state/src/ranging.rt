@@ -151,7 +151,7 @@ fn walked_ends(facts: &FactList, ids: &[u64], column: u32) -> Ends
     let mut place = 0;
     for fact in facts.iter() {
         if is_next(ids, place, fact.id) {
-            ends = with_either(ends, column_of(fact, column));
+            ends = with_either(ends, column_of(&fact, column));
             place += 1;
         }
     }
@@ -177,7 +177,7 @@ fn found_ends(facts: &FactList, ids: &[u64], column: u32) -> Ends
     };
     for id in ids {
         if let Some(fact) = facts.get(*id) {
-            ends = with_either(ends, column_of(fact, column));
+            ends = with_either(ends, column_of(&fact, column));
         }
     }
     ends

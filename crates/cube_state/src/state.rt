@@ -183,8 +183,8 @@ impl<P: WeightPolicy + Drop> State<P> {
     }
 
     /// The fact of an id: None exactly where there is none. It takes no memory.
-    pub fn fact(&self, id: u64) -> Option<&Fact>
-        ensures { option_copied result ≡ fact_of id self.now.facts }
+    pub fn fact(&self, id: u64) -> Option<Fact>
+        ensures { result ≡ fact_of id self.now.facts }
     {
         self.facts.get(id)
     }

@@ -17,7 +17,7 @@ use crate::edit_moves::Moves;
 use crate::{Group, State};
 use cell_weight::WeightPolicy;
 use cube_base::Memory;
-use fact_indexes::push_change;
+use fact_indexes::push_group;
 use region_algebra::Space;
 use staged_map::Staged;
 use std::alloc::Global;
@@ -91,6 +91,9 @@ fn push_changes(
     requires after { IsOfRegion space.now code (option_copied after) }
     ensures { OnOk result (changes.new.items ≡ changes.old.items ++ changes_at space.now code (option_copied before.entry) (option_copied after.entry)) }
 {
-    push_change(changes, false, space, code, before)?;
-    push_change(changes, true, space, code, after)
+    let Some(region) = space.uncode(code) else {
+        return Ok(());
+    };
+    push_group(changes, false, region, before)?;
+    push_group(changes, true, region, after)
 }

@@ -38,20 +38,20 @@ module _ {P : Type 0} (weigh : P → CellStat → ℕ) (state : StateValue P) wh
       (kept-each (policy_in weigh state) state.shape state.dims state.cuts all.facts.facts (kept_of all) trees is)
 
   -- whether a fact of an id lay so
-  module _ (valid : AreValid state.shape state.dims state.facts) (trees : All IsTree state.dims) (id : ℕ) (spread : Allocation) (found : Option (Bor Fact)) (is : option_copied found ≡ find (λ f. f.id == id) state.facts) where
-    its : find (λ f. f.id == id) state.facts ≡ option_copied found
+  module _ (valid : AreValid state.shape state.dims state.facts) (trees : All IsTree state.dims) (id : ℕ) (spread : Allocation) (found : Option Fact) (is : found ≡ find (λ f. f.id == id) state.facts) where
+    its : find (λ f. f.id == id) state.facts ≡ found
     its = sym is
 
     pub lay-seen_none : found ≡ None → false ≡ lay_so (policy_in weigh state) state.dims state.facts id spread
     lay-seen_none none =
-        lay-none (policy_in weigh state) (width_of_all state.shape.measures) state.dims state.facts valid.ascending trees (valid-regions state.shape state.dims state.facts valid) id spread (its ∙ ap option_copied none)
+        lay-none (policy_in weigh state) (width_of_all state.shape.measures) state.dims state.facts valid.ascending trees (valid-regions state.shape state.dims state.facts valid) id spread (its ∙ none)
 
-    pub lay-seen_some : (fact : Bor Fact) (code : ℕ) (lay : Bool) (before : Option Allocation) → found ≡ Some fact → code ≡ code_of state.dims fact.now.region
+    pub lay-seen_some : (fact : Fact) (code : ℕ) (lay : Bool) (before : Option Allocation) → found ≡ Some fact → code ≡ code_of state.dims fact.region
         → before ≡ option_map (λ (g : Group). g.spread) (group_at (policy_in weigh state) (width_of_all state.shape.measures) state.dims state.facts code) → lay ≡ is_same_spread before (Some spread)
         → lay ≡ lay_so (policy_in weigh state) state.dims state.facts id spread
     lay-seen_some fact code lay before some at before_is lay_is =
-        lay-some (policy_in weigh state) (width_of_all state.shape.measures) state.dims state.facts valid.ascending trees (valid-regions state.shape state.dims state.facts valid) id spread fact.now code lay before
-        (its ∙ ap option_copied some) at before_is lay_is
+        lay-some (policy_in weigh state) (width_of_all state.shape.measures) state.dims state.facts valid.ascending trees (valid-regions state.shape state.dims state.facts valid) id spread fact code lay before
+        (its ∙ some) at before_is lay_is
 
 -- the plan of new facts
 module _ {P : Type 0} (weigh : P → CellStat → ℕ) (state : StateValue P) (new : List Fact) (are : AreNew state.shape state.dims state.facts new) (valid : AreValid state.shape state.dims state.facts) (later : List Fact) (is : later ≡ facts_with_new state new) where

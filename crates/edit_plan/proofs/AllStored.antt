@@ -77,13 +77,9 @@ pub new-stored : (shape : ShapeValue) (dims : List Dimension) (new facts : List 
 new-stored shape dims new facts are up = ap (map kept_fact) (filter-alike (λ f. not (has_id f.id facts)) (λ f. has_id f.id new) (put_all new facts) (new-told shape dims new facts are up))
 
 -- one fact, as it is looked up
-module _ {P : Type 0} (state : StateValue P) (fact : Fact) (found : Option (Bor Fact)) (is : option_copied found ≡ find (λ f. f.id == fact.id) state.facts) where
-  copied : (o : Option (Bor Fact)) → is_some (option_copied o) ≡ is_some o
-  copied None = refl
-  copied (Some f) = refl
-
+module _ {P : Type 0} (state : StateValue P) (fact : Fact) (found : Option Fact) (is : found ≡ find (λ f. f.id == fact.id) state.facts) where
   has-seen : has_id fact.id state.facts ≡ is_some found
-  has-seen = found-there fact.id state.facts ∙ ap is_some (sym is) ∙ copied found
+  has-seen = found-there fact.id state.facts ∙ ap is_some (sym is)
 
   one-kept : (b : Bool) → has_id fact.id state.facts ≡ b → new_kept state.facts (fact ∷ []) ≡ (if b then [] else kept_fact fact ∷ [])
   one-kept true has = rw has refl

@@ -95,7 +95,7 @@ fn count_all<P: WeightPolicy + Drop>(state: &State<P>, all: &FactsKept) -> u64
     let _ = state.facts();
     let mut count = 0;
     for fact in all.facts.iter() {
-        count += count_one(state, all, fact);
+        count += count_one(state, all, &fact);
     }
     count
 }
@@ -153,7 +153,7 @@ fn refreshed_among<P: WeightPolicy + Drop>(
         rows: KeptRowsList::new(alloc),
     };
     for fact in all.facts.iter() {
-        refresh(state, all, fact, &mut refreshed)?;
+        refresh(state, all, &fact, &mut refreshed)?;
     }
     Ok(refreshed)
 }
@@ -199,7 +199,7 @@ fn new_among<P: WeightPolicy + Drop>(
 {
     let mut kept = KeptFacts::new(alloc);
     for fact in all.facts.iter() {
-        keep_new(alloc, state, fact, &mut kept)?;
+        keep_new(alloc, state, &fact, &mut kept)?;
     }
     Ok(kept)
 }

@@ -40,7 +40,7 @@ pub(crate) fn groups_of<P: WeightPolicy>(
     let mut groups = Staged::new(alloc);
     for fact in facts.iter() {
         let code = space.code(fact.region);
-        let group = group_joined(alloc, space, policy, stats, groups.get(code), fact)?;
+        let group = group_joined(alloc, space, policy, stats, groups.get(code), &fact)?;
         put_group(&mut groups, code, group)?;
     }
     Ok(groups)

@@ -36,7 +36,7 @@ fn places_of(alloc: Global, space: &Space, facts: &FactList) -> Result<Vec<(u64,
 {
     let mut places = Vec::new(alloc);
     for fact in facts.iter() {
-        gather(&mut places, space, *fact)?;
+        gather(&mut places, space, fact)?;
     }
     Ok(places)
 }

@@ -15,4 +15,4 @@ pub use anew::keep_all;
 pub use fault::TooMany;
 pub use group::Group;
 pub use kept::FactsKept;
-pub use viewing::{push_change, puts_at, view_of};
+pub use viewing::{push_group, puts_at, view_of};

@@ -26,7 +26,7 @@ pub(crate) fn stats_of(
     let _ = shape.columns();
     let mut stats = StatIndex::new(alloc);
     for fact in facts.iter() {
-        count_in(&mut stats, cell_of_fact(space, shape, Some(*fact)))?;
+        count_in(&mut stats, cell_of_fact(space, shape, Some(fact)))?;
     }
     Ok(stats)
 }

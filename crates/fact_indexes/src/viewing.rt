@@ -1,6 +1,6 @@
 //! The entries of views, made from the groups of facts.
-ghost use Rattle.std.specs.Prelude.{◌≡◌, ◌+◌, ◌<◌, ◌∷◌, ◌++◌, [], true, IfOk, OnOk, length};
-ghost use Rattle.std.specs.Option.{option_copied};
+ghost use Rattle.std.specs.Prelude.{◌≡◌, ◌+◌, ◌<◌, ◌∷◌, ◌++◌, [], true, IfOk, OnOk, length, map};
+ghost use Rattle.std.specs.Option.{option_copied, option_to_list};
 ghost use Rattle.cube_model.specs.Allocation.{extended};
 ghost use Rattle.fact_records.specs.Shape.{policy_over, width_of_all};
 ghost use Rattle.fact_records.specs.Valid.{AreValid};
@@ -108,7 +108,7 @@ pub fn puts_at(
 }
 
 /// Adds the change that puts the facts of the group at a code, or takes them away, where there is one.
-pub fn push_change(
+fn push_change(
     changes: &mut Vec<ViewChange>,
     put: bool,
     space: &Space,
@@ -118,10 +118,22 @@ pub fn push_change(
     requires { IsOfRegion space.now code (option_copied group) }
     ensures { OnOk result (changes.new.items ≡ changes.old.items ++ group_changes put space.now code (option_copied group.entry)) }
 {
+    match space.uncode(code) {
+        Some(region) => push_group(changes, put, region, group),
+        None => Ok(()),
+    }
+}
+
+/// The same where the region of the code is known.
+pub fn push_group(
+    changes: &mut Vec<ViewChange>,
+    put: bool,
+    region: Region,
+    group: Option<&Group>,
+) -> Result<(), Memory>
+    ensures { OnOk result (changes.new.items ≡ changes.old.items ++ map (group_change put region) (option_to_list (option_copied group.entry))) }
+{
     if let Some(group) = group {
-        let Some(region) = space.uncode(code) else {
-            unreachable!()
-        };
         changes.push(change_of(put, region, group)?)?;
     }
     Ok(())

@@ -2,6 +2,7 @@ pub mod Accepted
 pub mod BlockList
 pub mod Cut
 pub mod Examples
+pub mod FactColumns
 pub mod FactList
 pub mod Fields
 pub mod Judge
@@ -15,7 +16,9 @@ pub mod RefusedRecord
 pub mod Room
 pub mod SequenceExamples
 pub mod Shape
+pub mod ShortLists
 pub mod Starts
 pub mod Stocked
 pub mod Valid
 pub mod Values
+pub mod Walking

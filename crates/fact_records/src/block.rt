@@ -1,31 +1,37 @@
 //! A block: a few facts, and the room for a fixed number of them, which is taken once.
-ghost use Rattle.std.specs.Prelude.{◌≡◌, ◌+◌, ◌<◌, ◌≤◌, [], ◌++◌, Some, length, take, drop, slice_get, slice_set, insert, remove, IfOk};
+ghost use Rattle.std.specs.Prelude.{◌≡◌, ◌+◌, ◌^◌, ◌<◌, ◌≤◌, [], ◌++◌, Some, length, take, drop, slice_get, slice_set, insert, remove, map, IfOk};
 
-use cube_model::Fact;
+use crate::in_room::insert_in_room;
+use crate::moves;
+use crate::short_lists::ShortLists;
+use cube_base::{Cols, MAX_COLS};
+use cube_model::{Fact, MAX_DIMS, Region};
 use std::alloc::{AllocError, Global};
 use std::marker::Model;
-use std::mem;
 
 /// The most facts of a block.
-pub(crate) const BLOCK: usize = 256;
+pub(crate) const BLOCK: usize = 1024;
 
-/// Facts with room for as many as a block has at most. Contracts see the list of the facts.
+/// Facts with room for as many as a block has at most, in columns: a search by id reads the ids alone, and a fact takes up what its region
+/// and its values have. Contracts see the list of the facts.
 #[derive(Drop)]
 pub(crate) struct Block {
-    facts: Vec<Fact>,
+    ids: Vec<u64>,
+    regions: ShortLists<u32, MAX_DIMS>,
+    values: ShortLists<i64, MAX_COLS>,
 }
 
 impl Model for Block {
-    ghost use Rattle.std.specs.Prelude.{List, ◌≤◌};
+    ghost use Rattle.std.specs.Prelude.{List};
     ghost use Rattle.std.specs.Vec.{vec_capacity};
     ghost use Rattle.cube_model.specs.declared.edit.Fact.{Fact};
-    ghost use Rattle.fact_records.specs.declared.block.TheConstants.{BLOCK};
+    ghost use Rattle.fact_records.specs.FactColumns.{AreColumns, facts_of};
 
     ghost Value = { List Fact };
 
-    ghost view = { λ b. b.facts.items };
+    ghost view = { λ b. facts_of b.ids.items b.regions b.values };
 
-    ghost invariant = { λ b. BLOCK ≤ vec_capacity b.facts };
+    ghost invariant = { λ b. AreColumns b.ids.items (vec_capacity b.ids) b.regions b.values };
 }
 
 impl Block {
@@ -34,15 +40,37 @@ impl Block {
         ensures { IfOk result (λ block. block ≡ []) }
     {
         Ok(Block {
-            facts: Vec::with_capacity(alloc, BLOCK)?,
+            ids: Vec::with_capacity(alloc, BLOCK)?,
+            regions: ShortLists::new(alloc)?,
+            values: ShortLists::new(alloc)?,
         })
     }
 
-    /// The facts in order.
-    pub(crate) fn as_slice(&self) -> &[Fact]
-        ensures { result.now ≡ self.now }
+    /// The number of facts.
+    pub(crate) fn len(&self) -> usize
+        ensures count { result ≡ length self.now }
+        ensures most { length self.now < 2 ^ 63 }
     {
-        self.facts.as_slice()
+        self.ids().len()
+    }
+
+    /// The ids of the facts in order.
+    pub(crate) fn ids(&self) -> &[u64]
+        ensures { result.now ≡ map (λ f. f.id) self.now }
+    {
+        self.ids.as_slice()
+    }
+
+    /// The fact at a place.
+    pub(crate) fn get(&self, at: usize) -> Fact
+        requires { at < length self.now }
+        ensures { slice_get self.now at ≡ Some result }
+    {
+        Fact {
+            id: self.ids[at],
+            region: Region::new(self.regions.get(at)).unwrap(),
+            cols: Cols::new(self.values.get(at)).unwrap(),
+        }
     }
 
     /// Puts a fact in at a place.
@@ -51,9 +79,9 @@ impl Block {
         requires room { length self.old < BLOCK }
         ensures { self.new ≡ insert self.old at fact }
     {
-        if self.facts.insert(at, fact).is_err() {
-            unreachable!()
-        }
+        self.regions.insert(at, fact.region.nodes());
+        self.values.insert(at, fact.cols.as_slice());
+        insert_in_room(&mut self.ids, at, fact.id);
     }
 
     /// Writes a fact over the one at a place, which it hands back.
@@ -62,7 +90,11 @@ impl Block {
         ensures had { slice_get self.old at ≡ Some result }
         ensures facts { self.new ≡ slice_set self.old at fact }
     {
-        mem::replace(&mut self.facts[at], fact)
+        let old = self.get(at);
+        self.ids[at] = fact.id;
+        self.regions.replace(at, fact.region.nodes());
+        self.values.replace(at, fact.cols.as_slice());
+        old
     }
 
     /// Takes out the fact at a place.
@@ -71,7 +103,11 @@ impl Block {
         ensures had { slice_get self.old at ≡ Some result }
         ensures facts { self.new ≡ remove self.old at }
     {
-        self.facts.remove(at)
+        let old = self.get(at);
+        self.ids.remove(at);
+        self.regions.remove(at);
+        self.values.remove(at);
+        old
     }
 
     /// Moves the facts from a place on to the front of the next block.
@@ -81,11 +117,9 @@ impl Block {
         ensures front { self.new ≡ take from self.old }
         ensures back { next.new ≡ drop from self.old ++ next.old }
     {
-        if next.facts.extend_from_slice(&self.facts[from..]).is_err() {
-            unreachable!()
-        }
-        next.facts.rotate_right(self.facts.len() - from);
-        self.facts.truncate(from);
+        moves::give_end(&mut self.ids, from, &mut next.ids);
+        self.regions.give_end(from, &mut next.regions);
+        self.values.give_end(from, &mut next.values);
     }
 
     /// Moves so many facts from the front of the next block after these.
@@ -95,20 +129,17 @@ impl Block {
         ensures front { self.new ≡ self.old ++ take count next.old }
         ensures back { next.new ≡ drop count next.old }
     {
-        if self.facts.extend_from_slice(&next.facts[..count]).is_err() {
-            unreachable!()
-        }
-        next.facts.rotate_left(count);
-        next.facts.truncate(next.facts.len() - count);
+        moves::take_front(&mut self.ids, count, &mut next.ids);
+        self.regions.take_front(count, &mut next.regions);
+        self.values.take_front(count, &mut next.values);
     }
+
     /// Moves all facts of another block after these.
     pub(crate) fn append(&mut self, other: &mut Block)
         requires { length self.old + length other.old ≤ BLOCK }
         ensures facts { self.new ≡ self.old ++ other.old }
         ensures emptied { other.new ≡ [] }
     {
-        if self.facts.append(&mut other.facts).is_err() {
-            unreachable!()
-        }
+        self.take_front(other.len(), other);
     }
 }

@@ -1,7 +1,6 @@
 //! Blocks of facts one after another, and blocks in stock for facts to come.
 ghost use Rattle.std.specs.Prelude.{◌≡◌, ◌+◌, ◌*◌, ◌^◌, ◌<◌, ◌≤◌, [], Some, IfSome, length, take, drop, slice_get, slice_set, insert, remove, All, OnOk, true};
 ghost use Rattle.std.specs.Vec.{vec_capacity, vec_len};
-ghost use Rattle.std.specs.Option.{option_copied};
 ghost use Rattle.fact_records.specs.BlockList.{AllFilled, IsAtPlace, IsPlace, all_facts, block_at, load, place_in_all, spare_of};
 ghost use Rattle.fact_records.specs.Joining.{IsJoined, are_sparse, joined_blocks};
 ghost use Rattle.fact_records.specs.Leveling.{IsPairWithRoom, IsPlaceInPair, is_roomy, leveled};
@@ -17,10 +16,10 @@ use std::alloc::{AllocError, Global};
 use std::marker::Model;
 
 /// What goes to either side where a full block is split.
-pub(crate) const HALF: usize = 128;
+pub(crate) const HALF: usize = 512;
 
 /// A block with no more facts than this takes some from a full one next to it, which is then not split.
-pub(crate) const ROOMY: usize = 224;
+pub(crate) const ROOMY: usize = 896;
 
 /// Blocks in use, in order, and empty ones in stock. Putting facts in and taking them out takes no memory and gives none back.
 /// Contracts see the blocks in use and how many there are in stock.
@@ -73,19 +72,20 @@ impl Blocks {
     }
 
     /// The fact at a place among all: None exactly from their number on.
-    pub(crate) fn nth(&self, i: u64) -> Option<&Fact>
+    pub(crate) fn nth(&self, i: u64) -> Option<Fact>
         requires { AllFilled self.now.used }
-        ensures { option_copied result ≡ slice_get (all_facts self.now.used) i }
+        ensures { result ≡ slice_get (all_facts self.now.used) i }
     {
         nth(&self.used, &self.starts, i)
     }
 
-    /// The facts of a block.
-    fn block(&self, block: usize) -> &[Fact]
+    /// The number of facts of a block.
+    fn len_of(&self, block: usize) -> usize
         requires { block < length self.now.used }
-        ensures { result.now ≡ block_at self.now.used block }
+        ensures count { result ≡ length (block_at self.now.used block) }
+        ensures most { result < 2 ^ 63 }
     {
-        self.used[block].as_slice()
+        self.used[block].len()
     }
 
     /// Writes a fact over the one at a place, which it hands back.
@@ -111,7 +111,7 @@ impl Blocks {
         ensures spare { spare_of self.old ≤ spare_of self.new }
     {
         let fact = self.remove_within(place);
-        if self.block(place.block).is_empty() {
+        if self.len_of(place.block) == 0 {
             self.retire(place.block);
         } else {
             self.join_sparse(place.block);
@@ -137,7 +137,7 @@ impl Blocks {
         requires { block < length self.now.used }
         ensures { result ≡ are_sparse self.now.used block }
     {
-        self.used.len() > block + 1 && self.block(block).len() + self.block(block + 1).len() <= HALF
+        self.used.len() > block + 1 && self.len_of(block) + self.len_of(block + 1) <= HALF
     }
 
     /// Moves the facts of the block after a block to the end of that block, and gives the other to the stock.
@@ -177,7 +177,7 @@ impl Blocks {
             self.add(0);
             return place;
         }
-        if self.block(place.block).len() < BLOCK {
+        if self.len_of(place.block) < BLOCK {
             return place;
         }
         if place.at == BLOCK && place.block + 1 == self.used_blocks().len() {
@@ -216,7 +216,7 @@ impl Blocks {
         if place.block == pair {
             place.at
         } else {
-            self.block(pair).len() + place.at
+            self.len_of(pair) + place.at
         }
     }
 
@@ -237,7 +237,7 @@ impl Blocks {
         requires { first + 1 < length self.now.used }
         ensures { IsPlaceInPair first (length (block_at self.now.used first)) at result.block result.at }
     {
-        let len = self.used[first].as_slice().len();
+        let len = self.used[first].len();
         if at <= len {
             Place { block: first, at }
         } else {
@@ -268,7 +268,7 @@ impl Blocks {
         requires { block < length self.now.used }
         ensures { result ≡ is_roomy self.now.used block }
     {
-        self.block(block).len() <= ROOMY
+        self.len_of(block) <= ROOMY
     }
 
     /// Levels a block with the one after it.
@@ -279,7 +279,7 @@ impl Blocks {
         ensures stock { self.new.stock ≡ self.old.stock }
     {
         level_at(&mut self.used, block);
-        let len = self.used[block].as_slice().len();
+        let len = self.used[block].len();
         start_behind(&mut self.starts, block, len as u64);
     }
 
@@ -401,9 +401,9 @@ pub(crate) fn load(used: &[Block]) -> u64
     let Some((last, others)) = used.split_last() else {
         return HALF as u64;
     };
-    let mut load = last.as_slice().len() as u64;
+    let mut load = last.len() as u64;
     for block in others {
-        load += block.as_slice().len().saturating_sub(HALF) as u64;
+        load += block.len().saturating_sub(HALF) as u64;
     }
     load
 }

@@ -1,6 +1,5 @@
 //! The facts in order of their ids.
 ghost use Rattle.std.specs.Prelude.{◌≡◌, ◌+◌, ◌≤◌, [], true, length, nat_lt, ◌||◌, slice_get, IfSome, IsOk, OnOk, OnErr};
-ghost use Rattle.std.specs.Option.{option_copied};
 ghost use Rattle.cube_model.specs.Facts.{has_id, put, withdraw};
 ghost use Rattle.fact_records.specs.FactList.{IsAscending, fact_of, facts_left};
 
@@ -64,9 +63,19 @@ impl FactList {
         self.spare
     }
 
+    /// Whether there is a fact of an id. It takes no memory.
+    pub fn has(&self, id: u64) -> bool
+        ensures { result ≡ has_id id self.now.facts }
+    {
+        match search(self.blocks.used_blocks(), id) {
+            Ok(_) => true,
+            Err(_) => false,
+        }
+    }
+
     /// The fact of an id. It takes no memory.
-    pub fn get(&self, id: u64) -> Option<&Fact>
-        ensures { option_copied result ≡ fact_of id self.now.facts }
+    pub fn get(&self, id: u64) -> Option<Fact>
+        ensures { result ≡ fact_of id self.now.facts }
     {
         match search(self.blocks.used_blocks(), id) {
             Ok(place) => Some(fact_at(self.blocks.used_blocks(), place)),
@@ -75,8 +84,8 @@ impl FactList {
     }
 
     /// The fact at a place in the order, from 0: None exactly from the number of facts on. It takes no memory.
-    pub fn nth(&self, i: u64) -> Option<&Fact>
-        ensures { option_copied result ≡ slice_get self.now.facts i }
+    pub fn nth(&self, i: u64) -> Option<Fact>
+        ensures { result ≡ slice_get self.now.facts i }
     {
         self.blocks.nth(i)
     }

@@ -1,6 +1,6 @@
 //! A walk through facts.
 ghost use Rattle.std.specs.Prelude.{◌≡◌};
-ghost use Rattle.std.specs.Iterator.{YieldsFirstRef, item_count};
+ghost use Rattle.std.specs.Iterator.{YieldsFirst, item_count};
 ghost use Rattle.fact_records.specs.BlockList.{AllFilled, all_facts};
 ghost use Rattle.fact_records.specs.FactList.{facts_left};
 
@@ -11,21 +11,22 @@ use std::marker::Model;
 /// The facts of a list in order of their ids, each once. Contracts see those that are left.
 #[derive(Drop)]
 pub struct FactWalk<'a> {
-    // What is left of a block, and the blocks after it.
-    facts: &'a [Fact],
+    // The blocks from that of the next fact on, and its place there.
     blocks: &'a [Block],
+    at: usize,
 }
 
 impl<'a> Model for FactWalk<'a> {
-    ghost use Rattle.std.specs.Prelude.{List, ◌++◌};
+    ghost use Rattle.std.specs.Prelude.{List, drop};
     ghost use Rattle.cube_model.specs.declared.edit.Fact.{Fact};
-    ghost use Rattle.fact_records.specs.BlockList.{AllFilled, all_facts};
+    ghost use Rattle.fact_records.specs.BlockList.{all_facts};
+    ghost use Rattle.fact_records.specs.Walking.{IsNextPlace};
 
     ghost Value = { List Fact };
 
-    ghost view = { λ w. w.facts.now ++ all_facts w.blocks.now };
+    ghost view = { λ w. drop w.at (all_facts w.blocks.now) };
 
-    ghost invariant = { λ w. AllFilled w.blocks.now };
+    ghost invariant = { λ w. IsNextPlace w.blocks.now w.at };
 }
 
 impl<'a> FactWalk<'a> {
@@ -34,26 +35,25 @@ impl<'a> FactWalk<'a> {
         requires { AllFilled blocks.now }
         ensures { facts_left result ≡ all_facts blocks.now }
     {
-        FactWalk { facts: &[], blocks }
+        FactWalk { blocks, at: 0 }
     }
 }
 
 impl<'a> Iterator for FactWalk<'a> {
-    type Item = &'a Fact;
+    type Item = Fact;
 
-    ghost next_gives = { YieldsFirstRef facts_left };
+    ghost next_gives = { YieldsFirst facts_left };
 
     ghost remaining = { item_count facts_left };
 
-    fn next(&mut self) -> Option<&'a Fact> {
-        if let Some((fact, others)) = self.facts.split_first() {
-            self.facts = others;
-            return Some(fact);
+    fn next(&mut self) -> Option<Fact> {
+        let (block, others) = self.blocks.split_first()?;
+        let fact = block.get(self.at);
+        self.at += 1;
+        if self.at == block.len() {
+            self.blocks = others;
+            self.at = 0;
         }
-        let (block, blocks) = self.blocks.split_first()?;
-        let (fact, others) = block.as_slice().split_first()?;
-        self.facts = others;
-        self.blocks = blocks;
         Some(fact)
     }
 }

@@ -44,18 +44,11 @@ fn judge_id(edit: &Edit, facts: &FactList) -> Result<(), Code>
         ∷ (is_missing edit.now facts.now.facts, code.Missing) ∷ []) }
 {
     match edit {
-        Edit::Put(fact) if has(facts, fact.id) => Err(Code::Exists),
-        Edit::Change(fact) if !has(facts, fact.id) => Err(Code::Missing),
-        Edit::Withdraw(id) if !has(facts, *id) => Err(Code::Missing),
+        Edit::Put(fact) if facts.has(fact.id) => Err(Code::Exists),
+        Edit::Change(fact) if !facts.has(fact.id) => Err(Code::Missing),
+        Edit::Withdraw(id) if !facts.has(*id) => Err(Code::Missing),
         _ => Ok(()),
     }
-}
-
-/// Whether a fact has the id.
-fn has(facts: &FactList, id: u64) -> bool
-    ensures { result ≡ has_id id facts.now.facts }
-{
-    facts.get(id).is_some()
 }
 
 /// Judges the region of an edit's fact.

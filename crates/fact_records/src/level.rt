@@ -21,8 +21,8 @@ fn level(front: &mut Block, back: &mut Block)
     ensures front { front.new ≡ first_half front.old back.old }
     ensures back { back.new ≡ second_half front.old back.old }
 {
-    let there = front.as_slice().len();
-    let half = (there + back.as_slice().len()) / 2;
+    let there = front.len();
+    let half = (there + back.len()) / 2;
     if half <= there {
         front.give_end(half, back);
     } else {

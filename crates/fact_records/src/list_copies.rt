@@ -29,6 +29,6 @@ fn put_old(all: &mut FactList, facts: &FactList)
 {
     let _ = facts.len();
     for fact in facts.iter() {
-        let _ = all.put(*fact);
+        let _ = all.put(fact);
     }
 }

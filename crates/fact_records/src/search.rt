@@ -1,7 +1,6 @@
 //! Places of facts in blocks.
 ghost use Rattle.std.specs.Prelude.{◌≡◌, ◌+◌, ◌<◌, ℕ, Some, length, slice_get, IfSome, IsNone, IfOk, IfErr};
 ghost use Rattle.std.specs.Bool.{OnTrue};
-ghost use Rattle.std.specs.Option.{option_copied};
 ghost use Rattle.fact_records.specs.BlockList.{AllFilled, IsAtPlace, IsPlace, all_facts, place_in_all};
 ghost use Rattle.fact_records.specs.Cut.{IsCut, IsGapAt, IsIdAt, id_at};
 ghost use Rattle.fact_records.specs.FactList.{IsAscending};
@@ -43,22 +42,23 @@ fn search_block(block: &Block, id: u64) -> Result<usize, usize>
     ensures found { IfOk result (IsIdAt block.now id) }
     ensures absent { IfErr result (IsGapAt block.now id) }
 {
-    let facts = block.as_slice();
-    if is_behind(facts, id) {
-        return Err(facts.len());
+    let ids = block.ids();
+    if is_behind(block, id) {
+        return Err(ids.len());
     }
-    facts.binary_search_by_key(&id, |fact| fact.id)
+    ids.binary_search_by_key(&id, |id| *id)
 }
 
 /// Whether an id is greater than all of a block's facts. Facts are often put in the order of their ids, so this is asked first.
-fn is_behind(facts: &[Fact], id: u64) -> bool
-    requires { IsAscending facts.now }
-    ensures { OnTrue result ((k : ℕ) → k < length facts.now → id_at facts.now k < id) }
+fn is_behind(block: &Block, id: u64) -> bool
+    requires { IsAscending block.now }
+    ensures { OnTrue result ((k : ℕ) → k < length block.now → id_at block.now k < id) }
 {
-    if facts.is_empty() {
+    let ids = block.ids();
+    if ids.is_empty() {
         return true;
     }
-    facts[facts.len() - 1].id < id
+    ids[ids.len() - 1] < id
 }
 
 /// The last block whose first fact has no greater id, or the first block.
@@ -83,18 +83,18 @@ fn block_of(used: &[Block], id: u64) -> usize
 fn first_id(block: &Block) -> u64
     ensures { result ≡ id_at block.now 0 }
 {
-    match block.as_slice().first() {
-        Some(fact) => fact.id,
+    match block.ids().first() {
+        Some(id) => *id,
         None => 0,
     }
 }
 
 /// The fact at a place.
-pub(crate) fn fact_at(used: &[Block], place: Place) -> &Fact
+pub(crate) fn fact_at(used: &[Block], place: Place) -> Fact
     requires { IsAtPlace used.now place.block place.at }
-    ensures { slice_get (all_facts used.now) (place_in_all used.now place.block place.at) ≡ Some result.now }
+    ensures { slice_get (all_facts used.now) (place_in_all used.now place.block place.at) ≡ Some result }
 {
-    &used[place.block].as_slice()[place.at]
+    used[place.block].get(place.at)
 }
 
 /// The last block before which there are no more facts than a number: None exactly where there is no block.
@@ -109,16 +109,16 @@ fn block_before(used: &[Block], starts: &[u64], i: u64) -> Option<usize>
 }
 
 /// The fact at a place among all, by the number of facts before each block: None exactly from their number on.
-pub(crate) fn nth<'a>(used: &'a [Block], starts: &[u64], i: u64) -> Option<&'a Fact>
+pub(crate) fn nth(used: &[Block], starts: &[u64], i: u64) -> Option<Fact>
     requires filled { AllFilled used.now }
     requires counted { starts.now ≡ starts_of used.now }
-    ensures { option_copied result ≡ slice_get (all_facts used.now) i }
+    ensures { result ≡ slice_get (all_facts used.now) i }
 {
     let block = block_before(used, starts, i)?;
     let at = i - starts[block];
-    let facts = used[block].as_slice();
+    let facts = &used[block];
     if at < facts.len() as u64 {
-        return Some(&facts[at as usize]);
+        return Some(facts.get(at as usize));
     }
     None
 }

@@ -46,7 +46,7 @@ pub(crate) fn count_all(used: &[Block], starts: &[u64]) -> u64
         return 0;
     }
     let last = used.len() - 1;
-    starts[last] + used[last].as_slice().len() as u64
+    starts[last] + used[last].len() as u64
 }
 
 /// The last block before which there are no more facts than a number: None exactly where there is no block.

@@ -29,7 +29,7 @@ pub(crate) fn begun_levels(
 {
     let mut begun = vec![in alloc; 0; cells.len()]?;
     for fact in facts.iter() {
-        add_precise(space, *fact, cells, &mut begun);
+        add_precise(space, fact, cells, &mut begun);
     }
     Ok(begun)
 }

@@ -35,7 +35,7 @@ pub(crate) fn spots_of(alloc: Global, space: &Space, facts: &FactList) -> Result
     let mut firsts = Vec::new(alloc);
     let mut spots = Vec::new(alloc);
     for fact in facts.iter() {
-        let spot = add_fact(space, *fact, &mut codes, &mut firsts)?;
+        let spot = add_fact(space, fact, &mut codes, &mut firsts)?;
         spots.push(spot)?;
     }
     Ok(Spots { firsts, spots })

@@ -42,7 +42,7 @@ fn total_of(facts: &FactList, portions: &[u64], column: u32, columns: u32) -> i1
     let mut total = 0;
     let mut i = 0;
     for fact in facts.iter() {
-        total = plus_product(total, value(*fact, column), portions[i]);
+        total = plus_product(total, value(fact, column), portions[i]);
         i += 1;
     }
     total

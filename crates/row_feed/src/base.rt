@@ -30,7 +30,7 @@ fn append_facts(text: &mut Vec<u8>, schema: &Schema, facts: &FactList) -> Result
     ensures { OnOk result (text.new.items ≡ text.old.items ++ feed_bytes (map (fact_line schema.now) facts.now.facts)) }
 {
     for fact in facts.iter() {
-        append_fact_line(text, schema, fact)?;
+        append_fact_line(text, schema, &fact)?;
     }
     Ok(())
 }

@@ -1,6 +1,5 @@
 //! Answers about facts that are shared round after round, and which of them depend on each other.
 ghost use Rattle.std.specs.Prelude.{◌≡◌, ◌≤◌, ◌∷◌, length, map, pos, IfOk};
-ghost use Rattle.cube_model.specs.Facts.{has_id};
 ghost use Rattle.fact_records.specs.Valid.{AreValid};
 ghost use Rattle.region_algebra.specs.Space.{IsRegion};
 ghost use Rattle.schema_text.specs.Schema.{shape_of};
@@ -50,7 +49,7 @@ pub fn component_answer(
     ensures answer { IfOk result (λ told. told ≡ component_answer (record { dims = schema.now.dims; facts = facts.now.facts }) id) }
     ensures places { IfOk result (λ told. IfOk told (NamesPlaces schema.now.dims)) }
 {
-    if !has_fact(facts, id) {
+    if !facts.has(id) {
         return Ok(Err(Code::Missing));
     }
     match component(alloc, schema.space(), facts, id) {
@@ -58,13 +57,6 @@ pub fn component_answer(
         Err(IterFault::Many { .. }) => Ok(Err(Code::Many)),
         Err(IterFault::Memory) => Err(Memory),
     }
-}
-
-/// Whether a fact has the id.
-fn has_fact(facts: &FactList, id: u64) -> bool
-    ensures { result ≡ has_id id facts.now.facts }
-{
-    facts.get(id).is_some()
 }
 
 /// The number of ids, and the ids.

@@ -127,13 +127,9 @@ batch-mended policy dims content facts anew kept facts_are anew_are kept_are =
     ap (λ ids. batch_with ids (filter (is_wanting kept) anew)) gone ∙ ap (batch_with (strays content.rows content.facts)) rows
 
 -- an id of kept rows that is gone, or not
-module _ (facts : List Fact) (rows : KeptRows) (found : Option (Bor Fact)) (is : option_copied found ≡ find (λ f. f.id == rows.id) facts) (gone : List ℕ) where
-  copied : (o : Option (Bor Fact)) → is_some (option_copied o) ≡ is_some o
-  copied None = refl
-  copied (Some f) = refl
-
+module _ (facts : List Fact) (rows : KeptRows) (found : Option Fact) (is : found ≡ find (λ f. f.id == rows.id) facts) (gone : List ℕ) where
   has-seen : has_id rows.id facts ≡ is_some found
-  has-seen = found-there rows.id facts ∙ ap is_some (sym is) ∙ copied found
+  has-seen = found-there rows.id facts ∙ ap is_some (sym is)
 
   no-more : (xs : List ℕ) → xs ++ [] ≡ xs
   no-more [] = refl

@@ -126,7 +126,7 @@ fn rows_to_put<P: WeightPolicy + Drop>(
     let are_in_order = ascend(kept);
     let mut rows = KeptRowsList::new(alloc);
     for fact in state.facts().iter() {
-        put_wanting(state, fact, kept, are_in_order, &mut rows)?;
+        put_wanting(state, &fact, kept, are_in_order, &mut rows)?;
     }
     Ok(rows)
 }

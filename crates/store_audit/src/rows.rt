@@ -26,7 +26,7 @@ pub(crate) fn check_rows<P: WeightPolicy + Drop>(
 {
     let mut place = 0;
     for fact in state.facts().iter() {
-        check_fact(state, fact, place, kept.get(place))?;
+        check_fact(state, &fact, place, kept.get(place))?;
         place += 1;
     }
     check_end(place, kept.get(place))

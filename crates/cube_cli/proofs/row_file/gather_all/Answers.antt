@@ -23,7 +23,7 @@ loop-fact-preserved g c =
     let policy = schema_policy (weigh_of cube.policy) cube.schema in
     let left = c.loop-fact.invariant.0 in
     let cut = c.in-Some.ensures.steps in
-    let f = c.in-Some.fact.now in
+    let f = c.in-Some.fact in
     let waiting = c.loop-fact.text.items in (
       left-next policy cube.schema cube.facts _ _ f cut left,
       λ start on.
@@ -38,7 +38,7 @@ returns-in-Err g c = λ start on.
     let cube = c.args.cube.now in
     let policy = schema_policy (weigh_of cube.policy) cube.schema in
     let cut = c.in-Some.ensures.steps in
-    let f = c.in-Some.fact.now in
+    let f = c.in-Some.fact in
     let before = c.loop-fact.invariant.1 start on in
     not-gathered policy cube.schema cube.facts _ _ f cut c.loop-fact.text.items (since start (g.K.Sink.tells c.loop-fact.out)) before (since start (g.K.Sink.tells c.gather_fact.new.out)) c.in-Err.error
     (rw c.in-Err.is at (c.gather_fact.ensures start before.done (row policy cube.schema cube.facts _ _ f cut) (left-row policy cube.schema cube.facts _ _ f cut c.loop-fact.invariant.0) before.way))

@@ -26,7 +26,7 @@ loop-fact-preserved-in-Continue-1 g c =
     simp to_z-of_z
     (picked-next _ _ _ _ _ _ _ c.loop-fact.invariant c.in-Some.ensures.steps _ (c.inside-inside.ensures ∙ ap (λ dims. cells_of dims c.args.r) c.space.ensures) _ c.column_of-value.ensures (nat_abs-le c.column_of-value.result (search rules)) _ c.spread_of-spread.ensures
     c.rows.ensures.kept _ c.rows.ensures.rows _ (simp to_z-of_z at c.pick-cell.ensures) _ _ (simp to_z-of_z at c.with_own-sum.ensures)
-    (pushed-imprecise c.args.state.now.dims c.in-Some.fact.now _ c.is_imprecise.ensures c.if-is_imprecise.true _ _ _ c.in_ok-push.ensures.ok))
+    (pushed-imprecise c.args.state.now.dims c.in-Some.fact _ c.is_imprecise.ensures c.if-is_imprecise.true _ _ _ c.in_ok-push.ensures.ok))
 
 pub loop-fact-preserved : goal.loop-fact-preserved
 loop-fact-preserved g c =
@@ -35,7 +35,7 @@ loop-fact-preserved g c =
     simp to_z-of_z
     (picked-next _ _ _ _ _ _ _ c.loop-fact.invariant c.in-Some.ensures.steps _ (c.inside-inside.ensures ∙ ap (λ dims. cells_of dims c.args.r) c.space.ensures) _ c.column_of-value.ensures (nat_abs-le c.column_of-value.result (search rules)) _ c.spread_of-spread.ensures
     c.rows.ensures.kept _ c.rows.ensures.rows _ (simp to_z-of_z at c.pick-cell.ensures) _ _ (simp to_z-of_z at c.with_own-sum.ensures)
-    (pushed-precise c.args.state.now.dims c.in-Some.fact.now _ c.is_imprecise.ensures c.if-is_imprecise.false _ _))
+    (pushed-precise c.args.state.now.dims c.in-Some.fact _ c.is_imprecise.ensures c.if-is_imprecise.false _ _))
 
 -- at the end none is
 pub returns-clause-sum : goal.returns-clause-sum

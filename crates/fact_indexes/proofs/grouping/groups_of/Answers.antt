@@ -3,7 +3,7 @@ use Rattle.fact_indexes.proofs.GroupsSoFar.{can-be-added, few-counted, groups-jo
 use Rattle.fact_indexes.proofs.grouping.groups_of.Goals as goal
 
 pub group_joined-requires-clause-counted : goal.group_joined-requires-clause-counted
-group_joined-requires-clause-counted g c = few-counted (g.P.WeightPolicy.weigh c.args.policy.now) _ _ _ c.requires.valid _ c.requires.stats c.in-Some.fact.now.region
+group_joined-requires-clause-counted g c = few-counted (g.P.WeightPolicy.weigh c.args.policy.now) _ _ _ c.requires.valid _ c.requires.stats c.in-Some.fact.region
 
 pub group_joined-requires-clause-few : goal.group_joined-requires-clause-few
 group_joined-requires-clause-few g c =

@@ -26,7 +26,7 @@ pub loop-fact-preserved : goal.loop-fact-preserved
 loop-fact-preserved c =
     let dims = c.args.space.now in
     let keys = c.args.cells.now.keys in
-    let adds = subst (λ (ns : List ℕ). IsRaised (λ i. if lies_at dims (at keys i) c.in-Some.fact.now then WHOLE_FACT else 0) ns c.add_precise.new.begun) c.deref_mut.ensures.value c.add_precise.ensures in
-    let next = begin-next dims keys c.args.facts.now.facts c.loop-fact.fact-iterator c.loop-fact.begun.items c.loop-fact.invariant c.in-Some.fact.now c.next.new.self c.in-Some.ensures.steps c.add_precise.new.begun adds in
+    let adds = subst (λ (ns : List ℕ). IsRaised (λ i. if lies_at dims (at keys i) c.in-Some.fact then WHOLE_FACT else 0) ns c.add_precise.new.begun) c.deref_mut.ensures.value c.add_precise.ensures in
+    let next = begin-next dims keys c.args.facts.now.facts c.loop-fact.fact-iterator c.loop-fact.begun.items c.loop-fact.invariant c.in-Some.fact c.next.new.self c.in-Some.ensures.steps c.add_precise.new.begun adds in
     let long : length c.add_precise.new.begun ≡ c.loop-fact.begun.len = omega (arith, adds.as_many, c.loop-fact.begun.ok.0) in
     subst (λ (ns : List ℕ). Beginning dims keys c.args.facts.now.facts c.next.new.self ns) (sym (with_items_is c.loop-fact.begun c.add_precise.new.begun long)) next

@@ -11,7 +11,7 @@ overflow_mul-portion c =
     omega (
       arith,
       c.overlap_count.ensures,
-      apportion-fits c.args.space.now c.args.r c.args.portions.now c.args.facts.now.facts c.args.spots.now _ c.in-Some.fact.now _ _ _ c.in-Some.ensures.steps c.loop-fact.invariant,
+      apportion-fits c.args.space.now c.args.r c.args.portions.now c.args.facts.now.facts c.args.spots.now _ c.in-Some.fact _ _ _ c.in-Some.ensures.steps c.loop-fact.invariant,
     )
 
 pub loop-fact-preserved : goal.loop-fact-preserved
@@ -21,8 +21,8 @@ loop-fact-preserved c =
     let spots = c.args.spots.now in
     let i = c.loop-fact.i in
     let within : i < length spots
-    = apportion-within dims c.args.r c.args.portions.now facts spots c.loop-fact.fact-iterator c.in-Some.fact.now c.next.new.self i c.loop-fact.of_facts.items c.in-Some.ensures.steps c.loop-fact.invariant in
-    let next = apportion-next dims c.args.r c.args.portions.now facts spots c.loop-fact.fact-iterator c.in-Some.fact.now c.next.new.self i c.loop-fact.of_facts.items c.in-Some.ensures.steps c.loop-fact.invariant in
+    = apportion-within dims c.args.r c.args.portions.now facts spots c.loop-fact.fact-iterator c.in-Some.fact c.next.new.self i c.loop-fact.of_facts.items c.in-Some.ensures.steps c.loop-fact.invariant in
+    let next = apportion-next dims c.args.r c.args.portions.now facts spots c.loop-fact.fact-iterator c.in-Some.fact c.next.new.self i c.loop-fact.of_facts.items c.in-Some.ensures.steps c.loop-fact.invariant in
     elim c.match-spots-i.branch [
       | in-Some-spots w ↦
           let is : get_or spots i None ≡ Some w.in-Some-spots.spot = w.in-Some-spots.is in

@@ -15,10 +15,10 @@ overflow_add-draft g c =
 
 pub rows_of-requires-2 : goal.rows_of-requires-2
 rows_of-requires-2 g c =
-    let few = rows-later-seen g.P.WeightPolicy.weigh _ _ c.self.view_is c.self.invariant.state c.self.invariant.state.trees c.args.moves.now c.requires.moves c.args.code _ (c.as_ref.ensures.value ∙ c.in_ok-next.ensures) in
+    let few = rows-later-seen g.P.WeightPolicy.weigh _ _ c.self.view_is c.self.invariant.state c.self.invariant.state.trees c.args.moves.now c.requires.moves c.args.code _ (c.as_ref-2.ensures.value ∙ c.in_ok-next.ensures) in
     omega (arith, few)
 
 pub overflow_add-draft-2 : goal.overflow_add-draft-2
 overflow_add-draft-2 g c =
-    let few = rows-later-seen g.P.WeightPolicy.weigh _ _ c.self.view_is c.self.invariant.state c.self.invariant.state.trees c.args.moves.now c.requires.moves c.args.code _ (c.as_ref.ensures.value ∙ c.in_ok-next.ensures) in
+    let few = rows-later-seen g.P.WeightPolicy.weigh _ _ c.self.view_is c.self.invariant.state c.self.invariant.state.trees c.args.moves.now c.requires.moves c.args.code _ (c.as_ref-2.ensures.value ∙ c.in_ok-next.ensures) in
     omega (arith, few, c.rows_of-2.ensures, c.requires.few_after)
