@@ -1,6 +1,6 @@
--- Terms whose denominators ascend: where each stands, what is found, and what a write or an insertion does.
+-- Terms whose denominators ascend: where each stands, what is found, and what a write, an insertion or a removal does.
 use Rattle.std.proofs.Common.{◌≡◌, ℕ, zero, suc, ◌+◌, ◌<◌, ◌≤◌, true, List, [], ◌∷◌, length, set, ◌==◌, if◌then◌else◌, Some, None, refl, arith}
-use Rattle.std.specs.List.{insert}
+use Rattle.std.specs.List.{insert, remove}
 use Rattle.std.proofs.lemmas.Bool.Decides.{nat_tests}
 use Rattle.cube_model.specs.declared.term.Term.{Term}
 use Rattle.cube_model.specs.Answer.{term_of}
@@ -108,6 +108,28 @@ module _ (columns : ℕ) where
       let first = first_is columns least term terms ok in
       first_then columns least term (insert terms i new)
       (record { from = first.from; whole = first.whole; others = are_terms-insert (term.den + 1) terms first.others new i (is_gap_tail term terms new.den i gap) (omega (arith, gap.smaller_before 0 (omega arith))) whole })
+
+  -- without the term at a place its denominator is not found, and every other is as before
+  pub term_of-remove : (least : ℕ) (terms : List Term) → are_terms_from columns least terms ≡ true → (i : ℕ) → i < length terms → (d : ℕ) → term_of (remove terms i) d ≡ (if d == (term_at terms i).den then None else term_of terms d)
+  term_of-remove least [] ok i lt d = absurd (omega arith)
+  term_of-remove least (term ∷ terms) ok zero lt d =
+      let first = first_is columns least term terms ok in
+      grind (arith, nat_tests, term_of_below (term.den + 1) terms first.others d)
+  term_of-remove least (term ∷ terms) ok (suc i) lt d =
+      let first = first_is columns least term terms ok in
+      grind (arith, nat_tests, at_least (term.den + 1) terms first.others i (omega arith), term_of-remove (term.den + 1) terms first.others i (omega arith) d)
+
+  -- the others stay in order
+  pub are_terms-remove : (least : ℕ) (terms : List Term) → are_terms_from columns least terms ≡ true → (i : ℕ) → i < length terms → are_terms_from columns least (remove terms i) ≡ true
+  are_terms-remove least [] ok i lt = absurd (omega arith)
+  are_terms-remove least (term ∷ []) ok zero lt = refl
+  are_terms-remove least (term ∷ second ∷ terms) ok zero lt =
+      let first = first_is columns least term (second ∷ terms) ok in
+      let next = first_is columns (term.den + 1) second terms first.others in
+      first_then columns least second terms (record { from = omega (arith, first.from, next.from); whole = next.whole; others = next.others })
+  are_terms-remove least (term ∷ terms) ok (suc i) lt =
+      let first = first_is columns least term terms ok in
+      first_then columns least term (remove terms i) (record { from = first.from; whole = first.whole; others = are_terms-remove (term.den + 1) terms first.others i (omega arith) })
 
 -- a denominator that has a gap is not found
 pub term_of_gap : (terms : List Term) (den i : ℕ) → IsGapFor terms den i → term_of terms den ≡ None

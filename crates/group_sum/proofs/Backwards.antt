@@ -15,7 +15,7 @@ use Rattle.group_sum.specs.Merge.{FitsMerge, Merges}
 use Rattle.group_sum.specs.Back.{missing_in}
 use Rattle.group_sum.proofs.Ascending.{first_is, first_then, term_of_below, term_of_at}
 use Rattle.group_sum.proofs.Missing.{missing_more}
-use Rattle.group_sum.proofs.Walk.{next_from, next_from-push, term_of_beyond}
+use Rattle.group_sum.proofs.Behind.{next_from, next_from-push, term_of_beyond}
 use Rattle.group_sum.proofs.Numerators.{is_term_of, numerator_is}
 
 module _ (columns : ℕ) where
@@ -284,7 +284,7 @@ module _ (columns : ℕ) (left right : List Term) (left_ok : are_terms_from colu
           let more = missing_more left right j false (omega (arith, is.other)) has in
           let positive : 1 ≤ x.count + y.count = grind (arith, nat_tests, of_x.last.whole) in
           let t_is : IsTermOf x.den (columns - 1) (x.count + y.count) (total_in (Some x) (Some y)) t = record { has_den = total.has_den; count = total.count; columns = total.columns ∙ values; sums = total.sums } in
-          let t_whole = (is_term_of columns x.den (x.count + y.count) (total_in (Some x) (Some y)) t some positive both.count both.sums t_is).whole in
+          let t_whole = is_term_of columns x.den (x.count + y.count) (total_in (Some x) (Some y)) t some positive both.count both.sums t_is in
           let t_below : t.den < is.bound = omega (arith, of_x.below, total.has_den) in
           record {
             own = omega (arith, is.own);

@@ -17,13 +17,13 @@ abbrev below : ℕ → List Term → List Term
 below bound terms = filter (λ t. nat_lt t.den bound) terms
 
 -- the term has the denominator and the columns
-record IsFound (columns d : ℕ) (term : Term) : Type 0 where
-  at : term.den ≡ d
-  whole : is_term columns term ≡ true
+pub record IsFound (columns d : ℕ) (term : Term) : Type 0 where
+  pub at : term.den ≡ d
+  pub whole : is_term columns term ≡ true
 
 module _ (columns : ℕ) where
   -- what is found has the denominator that was sought
-  found_is : (least : ℕ) (terms : List Term) → are_terms_from columns least terms ≡ true → (d : ℕ) (term : Term) → term_of terms d ≡ Some term → IsFound columns d term
+  pub found_is : (least : ℕ) (terms : List Term) → are_terms_from columns least terms ≡ true → (d : ℕ) (term : Term) → term_of terms d ≡ Some term → IsFound columns d term
   found_is least [] ok d term found = absurd (cc)
   found_is least (first ∷ terms) ok d term found =
       let is = first_is columns least first terms ok in

@@ -1,12 +1,13 @@
--- Terms that are kept as their denominators and their numerators: where the row of a term stands, and what a write and an
--- insertion do.
-use Rattle.std.proofs.Common.{◌≡◌, ℕ, zero, suc, ◌+◌, ◌-◌, ◌*◌, ◌<◌, ◌≤◌, true, List, [], ◌∷◌, ◌++◌, length, take, drop, set, get_or, replicate, reverse, Result, Ok, Err, ℤ, pos, sym, ap, subst, ◌∙◌, refl, arith, append-nil, append_assoc, zero-add, suc-add}
-use Rattle.std.specs.List.{copy_within, insert}
+-- Terms that are kept as their denominators and their numerators: where the row of a term stands, and what a write, an
+-- insertion and a removal do.
+use Rattle.std.proofs.Common.{◌≡◌, ℕ, zero, suc, ◌+◌, ◌-◌, ◌*◌, ◌<◌, ◌≤◌, true, List, [], ◌∷◌, ◌++◌, length, take, drop, set, get_or, replicate, Result, Ok, Err, ℤ, pos, sym, ap, subst, ◌∙◌, refl, arith, append-nil, append_assoc, zero-add, suc-add}
+use Rattle.std.specs.List.{copy_within, insert, remove}
 use borrow.Rule.Slice.PartMut.{put_mid}
 use Rattle.std.proofs.Math.Nat.{suc-mul, zero-mul}
 use Rattle.std.proofs.Math.Seq.{take-append-add, drop-append-add}
 use Rattle.std.proofs.lemmas.Bool.Decides.{nat_tests}
-use Rattle.std.proofs.lemmas.List.{drop-drop, drop_more, length-append, length-reverse, reverse-append, reverse-reverse, take-append-drop, length-map, map-append, map-set, set_split, take_at, drop_at, length-replicate, get_or-set_same, set-get_or, replicate-append-replicate, get_or_default, take_all, drop_all, take_rest, drop-append-le, take-append-le, length-drop}
+use Rattle.std.proofs.lemmas.List.{drop-drop, drop_more, length-append, length-take-le, length-map, map-append, map-set, set_split, take_at, drop_at, length-replicate, get_or-set_same, set-get_or, replicate-append-replicate, get_or_default, take_all, take-take, drop_all, drop-append-le, take-append-le, length-drop}
+use Rattle.std.proofs.lemmas.List.Edits.{take-paste}
 use Rattle.std.proofs.lemmas.List.Concat.{flat_map-append}
 use Rattle.cube_model.specs.declared.term.Term.{Term}
 use Rattle.cube_base.proofs.Search.{Searched}
@@ -72,6 +73,12 @@ module _ (columns : ℕ) where
   have-insert (term ∷ terms) ok zero new row = grind (arith, nat_tests)
   have-insert (term ∷ terms) ok (suc i) new row = let first = first_has columns term terms ok in grind (arith, nat_tests, first.row, have-insert terms first.others i new row)
 
+  have-remove : (terms : List Term) → have_columns columns terms ≡ true → (i : ℕ) → have_columns columns (remove terms i) ≡ true
+  have-remove [] ok zero = refl
+  have-remove [] ok (suc i) = refl
+  have-remove (term ∷ terms) ok zero = (first_has columns term terms ok).others
+  have-remove (term ∷ terms) ok (suc i) = let first = first_has columns term terms ok in grind (arith, nat_tests, first.row, have-remove terms first.others i)
+
 have-append : (columns : ℕ) (xs ys : List Term) → have_columns columns xs ≡ true → have_columns columns ys ≡ true → have_columns columns (xs ++ ys) ≡ true
 have-append columns [] ys ok oks = oks
 have-append columns (x ∷ xs) ys ok oks = let first = first_has columns x xs ok in grind (arith, nat_tests, first.row, have-append columns xs ys first.others oks)
@@ -121,36 +128,35 @@ resized xs len n more x is_len is_n =
     let rest : n - len ≡ more = omega arith in
     rw (take_all n xs (omega arith), rest) refl
 
--- a row behind all, turned to a place before
-pub turned : (nums row : List ℤ) (start columns : ℕ) → start ≤ length nums → length row ≡ columns → (all turn : List ℤ) → all ≡ nums ++ row
-    → turn ≡ drop (length (take (length all - start) (drop start all)) - columns) (take (length all - start) (drop start all)) ++ take (length (take (length all - start) (drop start all)) - columns) (take (length all - start) (drop start all))
-    → put_mid start (length all - start) all turn ≡ take start nums ++ (row ++ drop start nums)
-turned nums row start columns le len all turn is_all is_turn =
-    let behind : drop start all ≡ drop start nums ++ row = ap (drop start) is_all ∙ drop-append-le start nums row le in
-    let lent : take (length all - start) (drop start all) ≡ drop start nums ++ row = take_rest all start ∙ behind in
-    let many : length (drop start nums ++ row) - columns ≡ length (drop start nums) = omega (arith, length-append (drop start nums) row) in
-    let turn_is : turn ≡ row ++ drop start nums = is_turn ∙ rw (lent, many, drop_at (drop start nums) row (length (drop start nums)) refl, take_at (drop start nums) row (length (drop start nums)) refl) refl in
-    let front : take start all ≡ take start nums = ap (take start) is_all ∙ take-append-le start nums row le in
-    let none : drop (length all - start) (drop start all) ≡ [] = drop_all (length all - start) (drop start all) (omega (arith, length-drop start all)) in
-    rw (front, turn_is, none, append-nil) refl
+-- A row behind all makes room: what stands from a place on is moved by its length, and another row is written into the gap.
+pub moved_up : (nums more row : List ℤ) (start columns : ℕ) → start ≤ length nums → length more ≡ columns → (all moved : List ℤ) → all ≡ nums ++ more
+    → moved ≡ copy_within all start (length nums) (start + columns) → put_mid start (start + columns - start) moved row ≡ take start nums ++ (row ++ drop start nums)
+moved_up nums more row start columns le len all moved is_all is_moved =
+    let whole : length all ≡ length nums + columns = omega (arith, ap length is_all, length-append nums more, len) in
+    let n = length nums - start in
+    let rest : take n (drop start all) ≡ drop start nums =
+    ap (λ xs. take n (drop start xs)) is_all ∙ rw (drop-append-le start nums more le) (take_at (drop start nums) more n (length-drop start nums)) in
+    let behind = take n (drop start all) ++ drop (start + columns + n) all in
+    let parts : moved ≡ take (start + columns) all ++ behind = is_moved ∙ append_assoc (take (start + columns) all) (take n (drop start all)) (drop (start + columns + n) all) in
+    let long : length (take (start + columns) all) ≡ start + columns = length-take-le (start + columns) all (omega (arith, whole)) in
+    let front : take start moved ≡ take start nums =
+    ap (take start) parts ∙ take-append-le start (take (start + columns) all) behind (omega (arith, long))
+    ∙ take-take start (start + columns) all (omega arith) ∙ ap (take start) is_all ∙ take-append-le start nums more le in
+    let ends : drop (start + columns + n) all ≡ [] = drop_all (start + columns + n) all (omega (arith, whole)) in
+    let back : drop (start + columns) moved ≡ drop start nums =
+    ap (drop (start + columns)) parts ∙ drop_at (take (start + columns) all) behind (start + columns) long
+    ∙ ap (λ xs. take n (drop start all) ++ xs) ends ∙ append-nil (take n (drop start all)) ∙ rest in
+    let wide : start + columns - start ≡ columns = omega arith in
+    let after : drop (start + columns - start) (drop start moved) ≡ drop start nums = ap (λ m. drop m (drop start moved)) wide ∙ drop-drop columns start moved ∙ back in
+    rw (front, after) refl
 
--- reversed as a whole, then each of two parts, the parts have changed places
-pub turned_by_parts : (xs : List ℤ) (by : ℕ) → by ≤ length xs → (front all back : List ℤ)
-    → front ≡ reverse (take by (reverse xs)) → all ≡ front ++ drop by (reverse xs) → back ≡ reverse (take (length all - by) (drop by all))
-    → put_mid by (length all - by) all back ≡ drop (length xs - by) xs ++ take (length xs - by) xs
-turned_by_parts xs by le front all back is_front is_all is_back =
-    let p = take (length xs - by) xs in
-    let q = drop (length xs - by) xs in
-    let many : length (reverse q) ≡ by = omega (arith, length-reverse q, length-drop (length xs - by) xs) in
-    let parts : reverse xs ≡ reverse q ++ reverse p = ap reverse (sym (take-append-drop (length xs - by) xs)) ∙ reverse-append p q in
-    let front_is : front ≡ q = is_front ∙ rw (parts, take_at (reverse q) (reverse p) by many) (reverse-reverse q) in
-    let all_is : all ≡ q ++ reverse p = is_all ∙ rw (front_is, parts, drop_at (reverse q) (reverse p) by many) refl in
-    let long : length q ≡ by = omega (arith, length-drop (length xs - by) xs) in
-    let behind : drop by all ≡ reverse p = ap (drop by) all_is ∙ drop_at q (reverse p) by long in
-    let back_is : back ≡ p = is_back ∙ rw (take_rest all by, behind) (reverse-reverse p) in
-    let before : take by all ≡ q = ap (take by) all_is ∙ take_at q (reverse p) by long in
-    let none : drop (length all - by) (drop by all) ≡ [] = drop_all (length all - by) (drop by all) (omega (arith, length-drop by all)) in
-    rw (before, back_is, none, append-nil) refl
+-- what stands behind a row is moved over it, and so many fewer are left
+pub moved_down : (nums : List ℤ) (start columns : ℕ) → start + columns ≤ length nums → take (length nums - columns) (copy_within nums (start + columns) (length nums) start) ≡ take start nums ++ drop (start + columns) nums
+moved_down nums start columns le =
+    let n = length nums - (start + columns) in
+    let all : length nums - columns ≡ start + n = omega arith in
+    let len : length (drop (start + columns) nums) ≡ n = length-drop (start + columns) nums in
+    rw all (take-paste nums start (drop (start + columns) nums) n (omega arith) (omega (arith, len)) ∙ ap (λ ns. take start nums ++ ns) (take_all n (drop (start + columns) nums) (omega (arith, len))))
 
 module _ (columns : ℕ) (terms : List Term) (dens : List ℕ) (nums : List ℤ) (flat : IsFlat columns terms dens nums) where
   -- the lists are read as the terms
@@ -212,6 +218,26 @@ module _ (columns : ℕ) (terms : List Term) (dens : List ℕ) (nums : List ℤ)
       let back : drop (j * columns + columns) nums ≡ drop columns (drop (j * columns) nums) = sym (drop-drop columns (j * columns) nums) in
       rw (wide, row_is i lt, back, append_assoc) (flat-set j lt_to (term_at terms i) (row_length columns terms flat.whole i lt))
 
+  -- without the row at a place, the terms are without the term
+  pub flat-remove : (i : ℕ) → i < length terms → IsFlat columns (remove terms i) (remove dens i) (take (i * columns) nums ++ drop (i * columns + columns) nums)
+  flat-remove i lt =
+      let front : take (i * columns) nums ≡ numerators (take i terms) = ap (take (i * columns)) (sym flat.nums_are) ∙ take-numerators columns terms flat.whole i (omega arith) in
+      let after : i * columns + columns ≡ suc i * columns = omega (arith, suc-mul i columns) in
+      let back : drop (i * columns + columns) nums ≡ numerators (drop (suc i) terms) =
+      ap (λ n. drop n nums) after ∙ ap (drop (suc i * columns)) (sym flat.nums_are) ∙ drop-numerators columns terms flat.whole (suc i) (omega arith) in
+      record {
+        some = flat.some;
+        whole = have-remove columns terms flat.whole i;
+        dens_are = rw (← flat.dens_are) (denominators-remove terms i);
+        nums_are = flat_map-append row_of (take i terms) (drop (suc i) terms) ∙ rw (front, back) refl;
+      }
+    where
+      denominators-remove : (xs : List Term) (i : ℕ) → denominators (remove xs i) ≡ remove (denominators xs) i
+      denominators-remove [] zero = refl
+      denominators-remove [] (suc i) = refl
+      denominators-remove (x ∷ xs) zero = refl
+      denominators-remove (x ∷ xs) (suc i) = ap (λ ds. x.den ∷ ds) (denominators-remove xs i)
+
   -- and with one put in between, the term is too
   pub flat-insert : (i : ℕ) → i ≤ length terms → (new : Term) → length (row_of new) ≡ columns → IsFlat columns (insert terms i new) (insert dens i new.den) (take (i * columns) nums ++ (row_of new ++ drop (i * columns) nums))
   flat-insert i le new row =
@@ -230,16 +256,7 @@ module _ (columns : ℕ) (terms : List Term) (dens : List ℕ) (nums : List ℤ)
       denominators-insert (x ∷ xs) zero new = refl
       denominators-insert (x ∷ xs) (suc i) new = ap (λ ds. x.den ∷ ds) (denominators-insert xs i new)
 
-  -- with one behind all
-  pub flat-push : (new : Term) → length (row_of new) ≡ columns → IsFlat columns (terms ++ new ∷ []) (dens ++ new.den ∷ []) (nums ++ row_of new)
-  flat-push new row = record {
-    some = flat.some;
-    whole = have-append columns terms (new ∷ []) flat.whole (grind (arith, nat_tests));
-    dens_are = map-append (λ (t : Term). t.den) terms (new ∷ []) ∙ ap (λ ds. ds ++ new.den ∷ []) flat.dens_are;
-    nums_are = flat_map-append row_of terms (new ∷ []) ∙ rw (append-nil, flat.nums_are) refl;
-  }
-
-  -- and with so many that have no share
+  -- with so many behind all that have no share, these are too
   pub flat-grow : (more : ℕ) → IsFlat columns (terms ++ replicate more (bare_term 0 (columns - 1))) (dens ++ replicate more 0) (nums ++ replicate (more * columns) (pos 0))
   flat-grow more =
       let bare = bare_rows columns flat.some more in

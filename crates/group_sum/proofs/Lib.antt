@@ -11,8 +11,7 @@ pub mod Scaled
 pub mod Adding
 pub mod Determined
 pub mod Written
-pub mod Fronts
-pub mod Walk
+pub mod Behind
 pub mod Numerators
 pub mod Merged
 pub mod MergeLaws

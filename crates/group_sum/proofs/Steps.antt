@@ -16,7 +16,7 @@ use Rattle.group_sum.specs.Terms.{are_terms_from}
 use Rattle.group_sum.proofs.Ascending.{at_least, term_of_below}
 use Rattle.group_sum.proofs.Backwards.{IsBack, adds_up, copies, moves, pair_count, pair_sums}
 use Rattle.group_sum.proofs.Missing.{missing_more}
-use Rattle.group_sum.proofs.Walk.{next_from, next_from-push}
+use Rattle.group_sum.proofs.Behind.{next_from, next_from-push}
 
 -- where both last terms have the denominator, the own one is copied and the other added to it
 pub adds_up_in_place : (old others mid new : List Term) (ahead : Ahead) (row : List ℤ) → AreLevel old others ahead → ahead.place - 1 < length old → mid ≡ set old (ahead.place - 1) (last_own old ahead)

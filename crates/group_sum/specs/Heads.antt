@@ -1,29 +1,8 @@
--- The heads of two lists of terms that are walked together, and what becomes of their terms.
-use Rattle.std.specs.Prelude.{◌≡◌, ◌≢◌, ℕ, ◌+◌, ◌-◌, ◌<◌, ◌≤◌, ◌⊎◌, List, [], ◌∷◌, length, Option, Some, None, min, ◌==◌, if◌then◌else◌, ℤ, pos, ◌+ℤ◌, ◌-ℤ◌, nat_abs, slice_get, slice_index_or}
+-- Terms of a denominator, which may not be there, and what becomes of two of them.
+use Rattle.std.specs.Prelude.{◌≡◌, ◌≢◌, ℕ, ◌+◌, ◌<◌, ◌≤◌, ◌⊎◌, List, length, Option, Some, ℤ, pos, ◌+ℤ◌, ◌-ℤ◌, nat_abs, slice_index_or}
 use Rattle.std.specs.Option.{option_map_or}
 use Rattle.cube_model.specs.declared.term.Term.{Term}
 use Rattle.cube_model.specs.Limits.{WIDE}
-
--- the smaller of two denominators, if there is a term
-abbrev pub least_of : Option Term → Option Term → Option ℕ
-least_of None None = None
-least_of None (Some y) = Some y.den
-least_of (Some x) None = Some x.den
-least_of (Some x) (Some y) = Some (min x.den y.den)
-
--- the smaller of the first denominators
-abbrev pub least_head : List Term → List Term → Option ℕ
-least_head left right = least_of (slice_get left 0) (slice_get right 0)
-
--- the first term, if it has the denominator
-abbrev pub head_at : List Term → ℕ → Option Term
-head_at [] den = None
-head_at (term ∷ terms) den = if term.den == den then Some term else None
-
--- the terms without the first, if it has the denominator
-abbrev pub rest_at : List Term → ℕ → List Term
-rest_at [] den = []
-rest_at (term ∷ terms) den = if term.den == den then terms else term ∷ terms
 
 -- the count's numerator of a term, 0 where there is none
 abbrev pub head_count : Option Term → ℕ
@@ -67,11 +46,6 @@ HasOtherSums values whole part = (k : ℕ) × (k < values) × (head_sum whole k 
 -- two terms, either of which may not be there, have the same sums
 abbrev pub HasSameSums : ℕ → Option Term → Option Term → Type 0
 HasSameSums values whole part = (k : ℕ) → k < values → head_sum whole k ≡ head_sum part k
-
--- what is left of a term without a part of it: none where all numerators are the same
-abbrev pub IsRemainder : ℕ → ℕ → Option Term → Option Term → Option Term → Type 0
-IsRemainder den values whole part None = (head_count whole ≡ head_count part) × HasSameSums values whole part
-IsRemainder den values whole part (Some term) = (head_count part < head_count whole) × IsTermOf den values (head_count whole - head_count part) (remainder_in whole part) term
 
 -- nothing can be left: the count would be below 0, or 0 beside another numerator
 abbrev pub HasNoRemainder : ℕ → Option Term → Option Term → Type 0

@@ -1,7 +1,6 @@
 //! Terms in two flat lists: their denominators, and row after row their numerators.
-ghost use Rattle.std.specs.Prelude.{◌≡◌, ◌+◌, ◌-◌, ◌*◌, ◌<◌, ◌≤◌, Some, [], ◌∷◌, ◌++◌, length, slice_get, drop, take, IfOk, IfErr, OnOk, OnErr, replicate, slice_set};
-ghost use Rattle.std.specs.List.{insert};
-ghost use Rattle.std.specs.Option.{option_map};
+ghost use Rattle.std.specs.Prelude.{◌≡◌, ◌+◌, ◌-◌, ◌*◌, ◌<◌, ◌≤◌, Some, [], ◌++◌, length, IfOk, IfErr, OnOk, OnErr, pos, replicate, slice_set};
+ghost use Rattle.std.specs.List.{insert, remove};
 ghost use Rattle.cube_model.specs.Limits.{WIDE};
 ghost use Rattle.group_sum.specs.Heads.{AreWithin, IsTermOf, IsTotal, remainder_in, total_in};
 ghost use Rattle.group_sum.specs.Place.{Ascend, IsAt, IsGapFor, term_at};
@@ -102,13 +101,6 @@ impl Rows {
         &self.nums[from..from + self.columns as usize]
     }
 
-    /// The denominator of the term at a place, if there is one.
-    pub fn den_at(&self, at: usize) -> Option<u64>
-        ensures { result ≡ option_map (λ t. t.den) (slice_get self.now.terms at) }
-    {
-        self.dens.get(at).copied()
-    }
-
     /// Where the term of a denominator is, or where it would go. The denominators ascend strictly.
     pub fn search(&self, den: u64) -> Result<usize, usize>
         requires { Ascend self.now.terms }
@@ -194,20 +186,17 @@ impl Rows {
             .copy_within(from..from + self.columns as usize, dest);
     }
 
-    /// Appends a term. An error leaves the terms as they were.
-    pub fn push(&mut self, den: u64, row: &[i128]) -> Result<(), Memory>
-        requires columns { length row.now ≡ self.old.columns }
-        requires row { IsRow row.now }
-        ensures ok { OnOk result (self.new ≡ record { columns = self.old.columns; terms = self.old.terms ++ row_term den row.now ∷ [] }) }
-        ensures err { OnErr result (self.new ≡ self.old) }
+    /// Removes the term at a place, and moves those behind it there.
+    pub fn remove(&mut self, at: usize)
+        requires { at < length self.old.terms }
+        ensures { self.new ≡ record { columns = self.old.columns; terms = remove self.old.terms at } }
     {
+        let columns = self.columns as usize;
+        let from = start(self.columns, &self.nums, at);
         let len = self.nums.len();
-        self.nums.extend_from_slice(row)?;
-        if self.dens.push(den).is_err() {
-            self.nums.truncate(len);
-            return Err(Memory);
-        }
-        Ok(())
+        self.nums.copy_within(from + columns..len, from);
+        self.nums.truncate(len - columns);
+        self.dens.remove(at);
     }
 
     /// Appends so many terms that have no share yet. An error leaves the terms as they were.
@@ -247,20 +236,17 @@ impl Rows {
             return Err(Memory);
         }
         let from = start(self.columns, &self.nums, at);
-        turn_right(&mut self.nums[from..], columns);
+        self.nums.copy_within(from..len, from + columns);
+        clear(&mut self.nums[from..from + columns]);
         Ok(())
     }
 }
 
-// Turns items to the right by a number of places. The kit's `rotate_right` clears a room of 4 KB each time, which costs more
-// than the few items here.
-fn turn_right(items: &mut [i128], by: usize)
-    requires { by ≤ length items.old }
-    ensures { items.new ≡ drop (length items.old - by) items.old ++ take (length items.old - by) items.old }
+// Makes each numerator 0.
+fn clear(row: &mut [i128])
+    ensures { row.new ≡ replicate (length row.old) (pos 0) }
 {
-    items.reverse();
-    items[..by].reverse();
-    items[by..].reverse();
+    row.fill(0);
 }
 
 // Where the row at a place starts.

@@ -1,14 +1,7 @@
-use Rattle.std.proofs.Common.{◌+◌, ◌-◌, ◌≤◌, drop, length}
-use Rattle.group_sum.proofs.Subtracting.{IsJudging}
+use Rattle.std.proofs.Common.{take}
+use Rattle.group_sum.specs.Merge.{HasRemainders}
 use Rattle.group_sum.proofs.difference.find_bad.Given as goal
 
--- something can be left at each denominator so far
-abbrev pub invariant-denominators : goal.invariant-denominators
-invariant-denominators l = record {
-  judging : IsJudging l.whole.columns l.whole.terms l.part.terms (drop l.i l.whole.terms) (drop l.j l.part.terms);
-  whole_left : l.i ≤ length l.whole.terms;
-  part_left : l.j ≤ length l.part.terms;
-}
-
-abbrev pub decreases-denominators : goal.decreases-denominators
-decreases-denominators l = (length l.whole.terms - l.i) + (length l.part.terms - l.j)
+-- something can be left at each denominator of the part so far, and at those that it has not
+abbrev pub invariant-loop-j : goal.invariant-loop-j
+invariant-loop-j l = HasRemainders l.whole (record { columns = l.part.columns; terms = take l.j l.part.terms })
