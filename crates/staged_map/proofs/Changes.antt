@@ -1,5 +1,5 @@
 -- What a write at a key does to a map in which keys have places.
-use Rattle.std.proofs.Common.{◌≡◌, ℕ, true, false, cond, List, [], ◌∷◌, ◌||◌, ◌+◌, ◌<◌, take, drop, get_or, length, Option, Some, None, eqb, ap, sym, ◌∙◌, arith}
+use Rattle.std.proofs.Common.{◌≡◌, ℕ, true, false, cond, List, [], ◌∷◌, ◌||◌, ◌+◌, ◌<◌, take, drop, get_or, length, Option, Some, None, is_some, eqb, ap, sym, subst, ◌∙◌, arith}
 use Rattle.std.proofs.lemmas.Bool.{or_left}
 use Rattle.std.proofs.lemmas.Grind.{common_steps}
 use Rattle.std.proofs.lemmas.List.{take-append-drop, take_more}
@@ -7,7 +7,7 @@ use Rattle.std.proofs.lemmas.List.Folds.{list_any-append}
 use Rattle.std.specs.Cmp.{nat_eq_equiv}
 use Rattle.std.specs.List.{All, list_any}
 use Rattle.staged_map.specs.Lends.{Stays}
-use Rattle.staged_map.specs.Staged.{Places, Reserves, ReservesSome, Sets, has_place, key_place}
+use Rattle.staged_map.specs.Staged.{Places, Reserves, ReservesSome, Sets, has_place, key_of_place, key_place}
 
 module _ {V : Type 0} (old new : Places V) (key : ℕ) where
   -- a key that has a place gets a value
@@ -33,6 +33,20 @@ module _ {V : Type 0} (old new : Places V) (key : ℕ) where
     values = λ k. grind (arith, common_steps, absent, writes k);
     places = λ k. grind (arith, common_steps, absent, writes k, nat_eq_equiv.symm key k);
   }
+
+module _ {V : Type 0} where
+  -- the key of a place gets a value
+  pub Sets-at : (places inside new : Places V) (i : ℕ) (held : Option V) (written : Option V) (value : V) → inside ≡ places → written ≡ Some value → key_place inside (key_of_place inside i) ≡ Some held
+      → ((k : ℕ) → key_place new k ≡ cond (eqb (key_of_place inside i) k) (Some written) (key_place inside k)) → Sets places new (key_of_place places i) value
+  Sets-at places inside new i held written value same is there writes =
+      let sets : Sets inside new (key_of_place inside i) value = Sets-written inside new (key_of_place inside i) value (ap is_some there) (λ k. writes k ∙ ap (λ w. cond (eqb (key_of_place inside i) k) (Some w) (key_place inside k)) is) in
+      subst (λ old. Sets old new (key_of_place old i) value) same sets
+
+  -- a key that has no place gets one
+  pub Reserves-added : (places inside new : Places V) (key : ℕ) → inside ≡ places → has_place places key ≡ false
+      → ((k : ℕ) → key_place new k ≡ cond (eqb key k) (Some None) (key_place inside k)) → Reserves places new (key ∷ [])
+  Reserves-added places inside new key same absent writes =
+      Reserves-new places new key absent (λ k. writes k ∙ ap (λ old. cond (eqb key k) (Some None) (key_place old k)) same)
 
 module _ {V : Type 0} (old new : Places V) where
   -- the next of the keys, behind those before it

@@ -1,5 +1,5 @@
 -- A map in which keys have places, with or without a value.
-use Rattle.std.specs.Prelude.{◌≡◌, ℕ, ◌+◌, ◌<◌, Bool, true, List, length, not, ◌&&◌, ◌||◌, ◌==◌, if◌then◌else◌, Option, Some, None, is_some, nat_eq, slice_index, unwrap_or, option_map, filter_map}
+use Rattle.std.specs.Prelude.{◌≡◌, ℕ, ◌+◌, ◌<◌, Bool, true, List, length, not, ◌&&◌, ◌||◌, ◌==◌, if◌then◌else◌, Option, Some, None, is_some, nat_eq, get_or, slice_index, unwrap_or, option_map, filter_map}
 use Rattle.std.specs.Borrow.{Bor}
 use Rattle.std.specs.Option.{option_flatten, option_map_or}
 use Rattle.std.specs.List.{IsDistinct, list_all, list_any}
@@ -20,6 +20,14 @@ value_at places key = option_flatten (key_place places key)
 -- the key has a place
 abbrev pub has_place : {V : Type 0} → Places V → ℕ → Bool
 has_place places key = is_some (key_place places key)
+
+-- a key's place itself, if it has one
+abbrev pub place_of : {V : Type 0} → Places V → ℕ → Option (ℕ × Option V)
+place_of places key = option_map (λ value. (key, value)) (key_place places key)
+
+-- the key of the place of a number
+abbrev pub key_of_place : {V : Type 0} → Places V → ℕ → ℕ
+key_of_place places i = get_or (keys_of places) i 0
 
 -- the key and the value of a place, if it has one
 abbrev pub held_of : {V : Type 0} → ℕ × Option V → Option (ℕ × V)

@@ -1,22 +1,28 @@
 //! A map from numbers in which keys can have a place before they have a value.
-ghost use Rattle.std.specs.Prelude.{◌≡◌, ◌∷◌, ◌++◌, [], ◌<◌, ◌+◌, ◌==◌, ℕ, true, false, length, map, filter, take, slice_get, is_some, nat_eq, option_and_then, option_to_list, All, IfOk, IsOk, OnOk, OnErr};
+ghost use Rattle.std.specs.Prelude.{◌≡◌, ◌∷◌, ◌++◌, [], ◌<◌, ◌+◌, ◌==◌, ℕ, true, false, length, map, filter, take, slice_get, is_some, nat_eq, option_and_then, option_to_list, All, IfSome, IfOk, Some, IsOk, OnOk, OnErr};
 ghost use Rattle.std.specs.List.{IsDistinct};
 ghost use Rattle.std.specs.Map.{keys_of, lookup};
 ghost use Rattle.std.specs.Borrow.{sem};
-ghost use Rattle.std.specs.Option.{option_copied, option_copied_mut};
+ghost use Rattle.std.specs.Option.{option_copied, option_copied_mut, option_map};
 ghost use Rattle.staged_map.specs.Lends.{lends_value};
-ghost use Rattle.staged_map.specs.Staged.{AreKeys, AreOfDifferentKeys, PutsAll, Removes, Reserves, ReservesSome, Sets, has_place, have_places, held, held_of, held_copied, value_at};
+ghost use Rattle.staged_map.specs.declared.staged.TheConstants.{HINTS};
+ghost use Rattle.staged_map.specs.Staged.{AreKeys, AreOfDifferentKeys, PutsAll, Removes, Reserves, ReservesSome, Sets, has_place, have_places, held, held_of, held_copied, key_of_place, place_of, staged_entry, value_at};
 
 use cube_base::{Ids, Memory};
 use indexmap::IndexMap;
 use std::alloc::{AllocError, Global};
 use std::marker::Model;
 
+/// How many places are noted that were found last.
+const HINTS: usize = 8;
+
 /// A finite map from u64 in which a key may have a place before it has a value: an entry of the map beneath that holds
 /// None. Contracts see the places with their values.
 #[derive(Drop)]
 pub struct Staged<V> {
     places: IndexMap<u64, Option<V>>,
+    /// For some numbers of keys the place that was found or made last, where such a key is looked for first. There need be none.
+    hints: [usize; HINTS],
 }
 
 impl<V> Model for Staged<V> {
@@ -34,14 +40,37 @@ impl<V: Drop> Staged<V> {
     {
         Staged {
             places: IndexMap::new(alloc),
+            hints: [0; HINTS],
         }
+    }
+
+    /// The number of a key's place. It is searched for by hash only where no hint tells it.
+    fn find(&self, key: u64) -> Option<usize>
+        ensures found { is_some result ≡ has_place self.now key }
+        ensures place { IfSome result (λ i. slice_get self.now i ≡ place_of self.now key) }
+    {
+        let hint = self.hints[slot(key)];
+        match self.places.get_index(hint) {
+            Some((hinted, _)) if *hinted == key => Some(hint),
+            _ => self.search(key),
+        }
+    }
+
+    /// The same by hash.
+    fn search(&self, key: u64) -> Option<usize>
+        ensures found { is_some result ≡ has_place self.now key }
+        ensures place { IfSome result (λ i. slice_get self.now i ≡ place_of self.now key) }
+    {
+        let (i, _, _) = self.places.get_full(&key)?;
+        Some(i)
     }
 
     /// The value at a key. It takes no memory.
     pub fn get(&self, key: u64) -> Option<&V>
         ensures { option_copied result ≡ value_at self.now key }
     {
-        self.places.get(&key)?.as_ref()
+        let i = self.find(key)?;
+        self.places.get_index(i)?.1.as_ref()
     }
 
     /// The value at a key, to be changed in place. It takes no memory.
@@ -49,7 +78,9 @@ impl<V: Drop> Staged<V> {
         ensures* lends { sem 𝓛 (lends_value V.row self.entry key result) }
         ensures value { option_copied_mut result ≡ value_at self.old key }
     {
-        self.places.get_mut(&key)?.as_mut()
+        let i = self.find(key)?;
+        self.hints[slot(key)] = i;
+        self.places.get_index_mut(i)?.as_mut()
     }
 
     /// How many keys have a place, with a value or without. It takes no memory.
@@ -80,7 +111,19 @@ impl<V: Drop> Staged<V> {
         ensures had { result ≡ value_at self.old key }
         ensures sets { Sets self.old self.new key value }
     {
-        self.places.get_mut(&key).unwrap().replace(value)
+        let i = self.find(key).unwrap();
+        self.hints[slot(key)] = i;
+        self.set_at(i, value)
+    }
+
+    /// Gives the key of a place a value, and hands back the one that it had. It takes no memory.
+    pub fn set_at(&mut self, i: usize, value: V) -> Option<V>
+        requires { i < length self.old }
+        ensures had { result ≡ value_at self.old (key_of_place self.old i) }
+        ensures sets { Sets self.old self.new (key_of_place self.old i) value }
+        ensures keys { keys_of self.new ≡ keys_of self.old }
+    {
+        self.places.get_index_mut(i).unwrap().replace(value)
     }
 
     /// Takes a key's value and its place away, and hands back the value. It takes no memory.
@@ -132,15 +175,41 @@ impl<V: Drop> Staged<V> {
         Ok(())
     }
 
+    /// Gives each key of the entries a place, as `reserve` does.
+    pub fn reserve_for(&mut self, entries: &[(u64, Option<V>)]) -> Result<(), Memory>
+        ensures ok { OnOk result (Reserves self.old self.new (keys_of entries.now)) }
+        ensures err { OnErr result (ReservesSome self.old self.new (keys_of entries.now)) }
+        ensures placed { All (λ key. has_place self.old key ≡ true) (keys_of entries.now) → IsOk result }
+    {
+        for (key, _) in entries {
+            self.give_place(*key)?;
+        }
+        Ok(())
+    }
+
     /// Gives a key a place. On an error it has none.
     fn give_place(&mut self, key: u64) -> Result<(), Memory>
         ensures ok { OnOk result (Reserves self.old self.new (key ∷ [])) }
         ensures err { OnErr result (self.new ≡ self.old) }
         ensures absent { OnErr result (has_place self.old key ≡ false) }
     {
-        if !self.places.contains_key(&key) {
-            self.places.insert(key, None)?;
+        match self.find(key) {
+            Some(i) => {
+                self.hints[slot(key)] = i;
+                Ok(())
+            }
+            None => self.add_place(key),
         }
+    }
+
+    /// The same of a key that has none.
+    fn add_place(&mut self, key: u64) -> Result<(), Memory>
+        requires { has_place self.old key ≡ false }
+        ensures ok { OnOk result (Reserves self.old self.new (key ∷ [])) }
+        ensures err { OnErr result (self.new ≡ self.old) }
+    {
+        let (i, _) = self.places.insert_full(key, None)?;
+        self.hints[slot(key)] = i;
         Ok(())
     }
 
@@ -151,6 +220,28 @@ impl<V: Drop> Staged<V> {
         let mut keys = self.keys_in_any_order()?;
         keys.sort_unstable();
         Ok(Ids::from(keys))
+    }
+
+    /// Moves the values out, each with its key, from the last place to the first. No key has a place afterwards, and the
+    /// room stays. On an error some of them may be gone.
+    pub fn take_entries(&mut self) -> Result<Vec<(u64, Option<V>)>, Memory>
+        ensures each { IfOk result (λ entries. (key : ℕ) → staged_entry entries.items key ≡ option_map Some (value_at self.old key)) }
+        ensures distinct { IfOk result (λ entries. AreOfDifferentKeys entries.items) }
+        ensures none { OnOk result (self.new ≡ []) }
+    {
+        let count = self.places.len();
+        let mut entries = Vec::with_capacity(*self.places.allocator(), count)?;
+        while let Some((key, value)) = self.places.pop() {
+            push_held(&mut entries, key, value)?;
+        }
+        Ok(entries)
+    }
+
+    /// Takes all places away. The room stays.
+    pub fn clear(&mut self)
+        ensures { self.new ≡ [] }
+    {
+        self.places.clear();
     }
 
     /// The keys that have a value.
@@ -164,4 +255,25 @@ impl<V: Drop> Staged<V> {
             .map(|(key, _)| *key)
             .collect(*self.places.allocator())
     }
+}
+
+/// Which hint is a key's.
+fn slot(key: u64) -> usize
+    ensures { result < HINTS }
+{
+    (key % HINTS as u64) as usize
+}
+
+/// Appends the entry of a place, where it has a value.
+fn push_held<V: Drop>(
+    entries: &mut Vec<(u64, Option<V>)>,
+    key: u64,
+    value: Option<V>,
+) -> Result<(), Memory>
+    ensures { OnOk result (entries.new.items ≡ entries.old.items ++ filter (λ place. is_some place.1) ((key, value) ∷ [])) }
+{
+    if value.is_some() {
+        entries.push((key, value))?;
+    }
+    Ok(())
 }

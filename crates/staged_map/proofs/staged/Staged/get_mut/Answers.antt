@@ -1,8 +1,14 @@
 -- What is written through the value's place is the key's value.
-use Rattle.std.proofs.Common.{◌≡◌, ℕ, true, cond, eqb, Option, None, Some, refl, sym, ap, subst, ◌∙◌}
-use Rattle.std.specs.Option.{OnSome, is_some, option_copied_mut, option_flatten}
-use Rattle.staged_map.specs.Staged.{Places, Sets, has_place, key_place, value_at}
-use Rattle.staged_map.proofs.Changes.{Sets-written, Stays-written}
+use Rattle.std.proofs.Common.{◌≡◌, ℕ, cond, eqb, Option, None, Some, refl, sym, ap, subst, ◌∙◌}
+use Rattle.std.specs.Cmp.{nat_eq_equiv}
+use Rattle.std.specs.List.{slice_get}
+use Rattle.std.specs.Map.{values_of}
+use Rattle.std.specs.Option.{OnSome, option_copied_mut, option_flatten}
+use Rattle.indexmap.proofs.CallerLemmas.{updates-with_value_at}
+use Rattle.indexmap.specs.IndexMap.{set_value_at}
+use Rattle.staged_map.specs.Staged.{Places, Sets, key_of_place, key_place, value_at}
+use Rattle.staged_map.proofs.Changes.{Sets-at, Stays-written}
+use Rattle.staged_map.proofs.Places.{found-key, key_place-at, slice-place}
 use Rattle.staged_map.proofs.staged.Staged.get_mut.Goals as goal
 
 OnSome-any : {A P : Type 0} (r : Option A) → P → OnSome r P
@@ -10,10 +16,13 @@ OnSome-any None holds = tt
 OnSome-any (Some x) holds = holds
 
 pub returns : goal.returns
-returns g c = ((refl, (λ w. OnSome-any c.as_mut.result (Sets-written old (after (Some w)) key w placed (written (Some w)))), Stays-written old (after value) key value there (written value)), record { lends = tt; value = same })
+returns g c = ((refl, (λ w. OnSome-any c.as_mut.result (subst (λ k. Sets old (after (Some w)) k w) key-is (sets w))), stays), record { lends = tt; value = same })
   where
     key : ℕ
     key = c.args.key
+
+    i : ℕ
+    i = c.in_ok-i.i
 
     value : Option g.row.V.Denot
     value = c.in_ok-self-inside.field-0.now
@@ -21,23 +30,32 @@ returns g c = ((refl, (λ w. OnSome-any c.as_mut.result (Sets-written old (after
     old : Places g.row.V.Denot
     old = c.args.self.now
 
-    viewed : c.self.inside.places.entries ≡ old
-    viewed = cc
+    inside : Places g.row.V.Denot
+    inside = c.self.inside.places.entries
+
+    held : slice_get (values_of inside) i ≡ Some value
+    held = sym c.in_ok-self-inside.ensures.value
+
+    there : key_place inside (key_of_place inside i) ≡ Some value
+    there = key_place-at inside i value c.in_ok-self-inside.ensures.unique held
 
     after : Option g.row.V.Denot → Places g.row.V.Denot
-    after w = (c.get_mut.follows.lender w).entries
+    after w = set_value_at inside i w
 
-    there : key_place old key ≡ Some value
-    there = subst (λ places. key_place places key ≡ Some value) viewed (sym c.in_ok-self-inside.ensures.value)
+    updates : (w : Option g.row.V.Denot) (k : ℕ) → key_place (after w) k ≡ cond (eqb (key_of_place inside i) k) (Some w) (key_place inside k)
+    updates w = (updates-with_value_at c.self.inside.places i w nat_eq_equiv c.in_ok-self-inside.ensures.unique (key_of_place inside i) value (slice-place inside i value held)).0
 
-    placed_inside : has_place c.self.inside.places.entries key ≡ true
-    placed_inside = ap is_some (sym c.in_ok-self-inside.ensures.value)
+    key-is : key_of_place old i ≡ key
+    key-is = subst (λ places. key_of_place places i ≡ key) c.self.view_is (found-key inside key i (sym c.in_ok-i.ensures.found) c.in_ok-i.ensures.place)
 
-    placed : has_place old key ≡ true
-    placed = ap is_some there
+    sets : (w : g.row.V.Denot) → Sets old (after (Some w)) (key_of_place old i) w
+    sets w = Sets-at old inside (after (Some w)) i value (Some w) w c.self.view_is refl there (updates (Some w))
 
-    written : (w : Option g.row.V.Denot) (k : ℕ) → key_place (after w) k ≡ cond (eqb key k) (Some w) (key_place old k)
-    written w k = subst (λ places. key_place (after w) k ≡ cond (eqb key k) (Some w) (key_place places k)) viewed (((c.get_mut.follows.holds w).3 placed_inside).0 k)
+    stays : (k : ℕ) → key_place (after value) k ≡ key_place old k
+    stays k = Stays-written inside (after value) (key_of_place inside i) value there (updates value) k ∙ ap (λ places. key_place places k) c.self.view_is
+
+    here : key_place old key ≡ Some value
+    here = ap (key_place old) (sym key-is) ∙ subst (λ places. key_place places (key_of_place places i) ≡ Some value) c.self.view_is there
 
     same : option_copied_mut c.as_mut.result ≡ value_at old key
-    same = c.as_mut.ensures.value ∙ sym (ap option_flatten there)
+    same = c.as_mut.ensures.value ∙ sym (ap option_flatten here)

@@ -1,11 +1,17 @@
--- What is written through the place is the key's value.
-use Rattle.std.proofs.Common.{◌≡◌, true}
-use Rattle.staged_map.specs.Staged.{has_place}
-use Rattle.staged_map.proofs.Changes.{Sets-written}
+-- The key of the place that is found is the key.
+use Rattle.std.proofs.Common.{◌≡◌, ap, subst, ◌∙◌}
+use Rattle.staged_map.specs.Staged.{Sets, key_of_place, value_at}
+use Rattle.staged_map.proofs.Places.{found-key-some}
 use Rattle.staged_map.proofs.staged.Staged.set.Goals as goal
 
+pub returns-clause-had : goal.returns-clause-had
+returns-clause-had g c =
+    let is = found-key-some c.args.self.now c.args.key c.unwrap-i.result c.find.result c.unwrap-i.ensures c.find.ensures.place c.requires in
+    let had = subst (λ places. c.set_at.result ≡ value_at places (key_of_place places c.unwrap-i.result)) c.self.view_is c.set_at.ensures.had in
+    had ∙ ap (value_at c.args.self.now) is
+
 pub returns-clause-sets : goal.returns-clause-sets
-returns-clause-sets g c = Sets-written _ _ _ _ c.requires (λ k.
-    let there : has_place c.self.inside.places.entries c.args.key ≡ true = cc in
-    let held = ((c.get_mut.follows.holds c.replace.new.self).3 there).0 k in
-    cc)
+returns-clause-sets g c =
+    let is = found-key-some c.args.self.now c.args.key c.unwrap-i.result c.find.result c.unwrap-i.ensures c.find.ensures.place c.requires in
+    let sets = subst (λ places. Sets places c.set_at.new.self (key_of_place places c.unwrap-i.result) c.args.value) c.self.view_is c.set_at.ensures.sets in
+    subst (λ key. Sets c.args.self.now c.set_at.new.self key c.args.value) is sets
