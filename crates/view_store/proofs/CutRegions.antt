@@ -1,11 +1,10 @@
 -- The regions of a product of cuts: each cell is in one of them.
-use Rattle.std.proofs.Common.{◌≡◌, ℕ, zero, suc, ◌+◌, ◌*◌, ◌/◌, ◌%◌, ◌<◌, ◌≤◌, ◌≢◌, Bool, true, false, List, [], ◌∷◌, length, get_or, set, take, refl, sym, ap, subst, ◌∙◌, inl, inr, true≢false, eq-eqb, ne_eqb, arith}
-use Rattle.std.specs.Prelude.{All, IfSome, Option, Some, None, nat_lt, slice_get}
+use Rattle.std.proofs.Common.{◌≡◌, ℕ, zero, suc, ◌+◌, ◌*◌, ◌/◌, ◌%◌, ◌<◌, ◌≢◌, Bool, true, false, List, [], ◌∷◌, length, refl, sym, ap, ◌∙◌, inl, inr, true≢false, eq-eqb, ne_eqb, arith}
+use Rattle.std.specs.Prelude.{All, Option, Some, None, nat_lt, slice_get}
 use Rattle.std.specs.Option.{option_and_then, option_map, option_map_or}
 use Rattle.std.proofs.lemmas.Bool.{cases_eq}
 use Rattle.std.proofs.lemmas.Bool.Decides.{nat_tests}
-use Rattle.std.proofs.lemmas.List.{get_or-set_other, get_or-set_same, get_or-take, length-take-le}
-use Rattle.std.proofs.lemmas.List.Elements.{All-get_or, All-head, All-tail}
+use Rattle.std.proofs.lemmas.List.Elements.{All-head, All-tail}
 use Rattle.std.proofs.lemmas.Nat.{div-add-mod', mod_below}
 use Rattle.std.proofs.lemmas.Option.{get_or_from_slice_get, same_Some, slice_get-get_or, slice_get_within}
 use Rattle.cube_model.specs.Cells.{all_cells, cells_of, is_among, is_inside}
@@ -18,16 +17,13 @@ use Rattle.region_algebra.proofs.Codes.{length-all_regions, slice_get-blocks}
 use Rattle.region_algebra.proofs.Numbers.{found-passes, number-at}
 use Rattle.region_algebra.proofs.LeafTuples.{are_leaves, cells-are, is_among-inside, is_node_leaf}
 use Rattle.region_algebra.proofs.Spaces.{uncode-region}
-use Rattle.region_algebra.proofs.Turns.{is_region-length, region_total-some}
+use Rattle.region_algebra.proofs.Turns.{region_total-some}
 use Rattle.view_store.specs.Cuts.{HoldsCells, HoldsRegion, IsCodeOver, IsCutNode}
 use Rattle.view_store.specs.Views.{is_in_cuts, region_at}
 use Rattle.view_store.proofs.CutNodes.{above-first, in_cut-from, one_in_cut, under-under}
 
--- one node in each dimension, of the cut there, and the leaf is under it
-pub record AreLifted (dims : List Dimension) (depths leaves nodes : List ℕ) (n : ℕ) : Type 0 where
-  pub each : (d : ℕ) → d < n → IfSome (slice_get dims d) (λ dim. IsCutNode dim (get_or depths d 0) (get_or leaves d 0) (get_or nodes d 0))
-
--- The region of such nodes: it is one of the product of the cuts, and the cell of the leaves is in it.
+-- A region of nodes, in each dimension one of the cut there that the leaf is under: it is one of the product of the cuts, and the cell
+-- of the leaves is in it.
 pub record IsLifted (dims : List Dimension) (depths leaves nodes : List ℕ) : Type 0 where
   pub region : is_region dims nodes ≡ true
   pub cuts : is_in_cuts dims depths nodes ≡ true
@@ -44,49 +40,6 @@ lifted-cons dim dims depth depths leaf node leaves nodes here rest = record {
 pub lifted-none : IsLifted [] [] [] []
 unfolding is_inside
 lifted-none = record { region = refl; cuts = refl; inside = refl }
-
-pub lifted : (dims : List Dimension) (depths leaves nodes : List ℕ) → length depths ≡ length dims → length leaves ≡ length dims → length nodes ≡ length dims
-    → AreLifted dims depths leaves nodes (length dims) → IsLifted dims depths leaves nodes
-unfolding is_inside
-lifted [] [] [] [] a b c are = lifted-none
-lifted [] (depth ∷ depths) leaves nodes a b c are = absurd (omega arith)
-lifted [] [] (leaf ∷ leaves) nodes a b c are = absurd (omega arith)
-lifted [] [] [] (node ∷ nodes) a b c are = absurd (omega arith)
-lifted (dim ∷ dims) [] leaves nodes a b c are = absurd (omega arith)
-lifted (dim ∷ dims) (depth ∷ depths) [] nodes a b c are = absurd (omega arith)
-lifted (dim ∷ dims) (depth ∷ depths) (leaf ∷ leaves) [] a b c are = absurd (omega arith)
-lifted (dim ∷ dims) (depth ∷ depths) (leaf ∷ leaves) (node ∷ nodes) a b c are =
-    lifted-cons dim dims depth depths leaf node leaves nodes (are.each 0 (omega arith)) (lifted dims depths leaves nodes (omega (arith, a)) (omega (arith, b)) (omega (arith, c)) (record { each = λ d lt. are.each (suc d) (omega arith) }))
-
--- one dimension more
-pub lifted-next : (dims : List Dimension) (depths leaves nodes : List ℕ) (d : ℕ) (dim : Dimension) (depth leaf node : ℕ) → AreLifted dims depths leaves nodes d
-    → d < length nodes → slice_get dims d ≡ Some dim → depth ≡ get_or depths d 0 → slice_get leaves d ≡ Some leaf → IsCutNode dim depth leaf node
-    → AreLifted dims depths leaves (set nodes d node) (d + 1)
-lifted-next dims depths leaves nodes d dim depth leaf node are room is deep at here = record {
-  each = λ e lt. elim (cases_eq e d) [
-    | inl same ↦
-        let read : get_or (set nodes d node) d 0 ≡ node = get_or-set_same nodes d node 0 room in
-        let of_leaf : get_or leaves d 0 ≡ leaf = get_or_from_slice_get leaves d leaf 0 at in
-        rw (same, is, ← deep, of_leaf, read) here
-    | inr other ↦
-        let read : get_or (set nodes d node) e 0 ≡ get_or nodes e 0 = get_or-set_other nodes d e node 0 other in
-        rw read (are.each e (omega (arith, other)))
-  ];
-}
-
--- the first nodes make the region
-pub lifted_first : (dims : List Dimension) (depths leaves nodes : List ℕ) (n d : ℕ) → n ≡ length dims → n ≤ d → n ≤ length nodes → length depths ≡ length dims → is_region dims leaves ≡ true
-    → AreLifted dims depths leaves nodes d → IsLifted dims depths leaves (take n nodes)
-lifted_first dims depths leaves nodes n d count most room deep names are =
-    lifted dims depths leaves (take n nodes) deep (is_region-length dims leaves names) (length-take-le n nodes room ∙ count) (record {
-      each = λ i lt.
-          let read : get_or (take n nodes) i 0 ≡ get_or nodes i 0 = get_or-take n nodes i 0 (omega (arith, count)) in
-          rw read (are.each i (omega (arith, count)));
-    })
-
--- each dimension is a tree
-pub tree-at : (dims : List Dimension) (d : ℕ) (dim : Dimension) → All IsTree dims → slice_get dims d ≡ Some dim → IsTree dim
-tree-at dims d dim trees is = subst IsTree (get_or_from_slice_get dims d dim dim is) (All-get_or IsTree dims d dim (slice_get_within dims d dim is) trees)
 
 -- two regions of the product of the cuts that a cell is in are one
 one_lifted : (dims : List Dimension) (depths leaves a b : List ℕ) → All IsTree dims → are_leaves dims leaves ≡ true → is_in_cuts dims depths a ≡ true → is_in_cuts dims depths b ≡ true → is_inside dims a leaves ≡ true → is_inside dims b leaves ≡ true → a ≡ b
@@ -238,7 +191,7 @@ module _ (dims : List Dimension) (depths region : List ℕ) (code : ℕ) (trees 
       by cell None at inside = absurd (true≢false (sym inside))
       by cell (Some leaves) at inside = holds-cell leaves cell at inside
 
--- a region is inside itself, and a cell inside the region of its leaves
+-- a region is inside itself
 pub inside-self : (dims : List Dimension) (nodes : List ℕ) → All IsTree dims → is_region dims nodes ≡ true → is_inside dims nodes nodes ≡ true
 unfolding is_inside
 inside-self [] [] trees named = refl
@@ -248,5 +201,7 @@ inside-self (dim ∷ dims) (x ∷ nodes) trees named =
     let first = both (nat_lt x (length dim)) (is_region dims nodes) named in
     together (above-first dim (All-head IsTree dim dims trees) 0 x (grind (arith, nat_tests, first.0))).over (inside-self dims nodes (All-tail IsTree dim dims trees) first.1)
 
-pub holds-own_cell : (dims : List Dimension) (depths leaves : List ℕ) (cell code : ℕ) → All IsTree dims → is_region dims leaves ≡ true → slice_get (all_cells dims) cell ≡ Some leaves → HoldsRegion dims depths leaves code → IsCodeOver dims depths cell code
-holds-own_cell dims depths leaves cell code trees named at holds = holds-cell dims depths leaves code trees named holds leaves cell at (inside-self dims leaves trees named)
+-- what holds each cell of the region of a cell's leaves holds that cell
+pub holds-own_cell : (dims : List Dimension) (depths leaves : List ℕ) (cell code : ℕ) → All IsTree dims → is_region dims leaves ≡ true → slice_get (all_cells dims) cell ≡ Some leaves → HoldsCells dims depths leaves code → IsCodeOver dims depths cell code
+holds-own_cell dims depths leaves cell code trees named at holds =
+    holds.each cell (is_among-inside dims leaves cell ∙ ap (λ o. option_map_or (is_inside dims leaves) o false) at ∙ inside-self dims leaves trees named)

@@ -2,7 +2,6 @@
 use Rattle.std.proofs.Common.{◌≡◌, ℕ, zero, suc, ◌+◌, ◌*◌, ◌/◌, ◌%◌, ◌<◌, ◌≤◌, true, List, [], ◌∷◌, ◌++◌, length, drop, get_or, refl, sym, ap, ◌∙◌, inl, inr, arith, Option, Some, None, is_some, true≢false}
 use Rattle.std.specs.Prelude.{All, IfSome, slice_get, nat_lt}
 use Rattle.std.specs.Option.{option_and_then, option_map}
-use Rattle.std.proofs.Math.Nat.{mul-le-mul}
 use Rattle.std.proofs.lemmas.Bool.{cases_eq}
 use Rattle.std.proofs.lemmas.List.{drop_all, length-append}
 use Rattle.std.proofs.lemmas.List.Elements.{All-tail}
@@ -14,48 +13,20 @@ use Rattle.cube_model.specs.Tree.{Dimension, IsTree, is_leaf, leaves, numbers}
 use Rattle.dim_tree.proofs.Climbing.{both, together}
 use Rattle.dim_tree.proofs.Renumbering.{length-numbers}
 use Rattle.region_algebra.specs.Fault.{space_fault}
-use Rattle.region_algebra.specs.Space.{all_regions, cell_total, code_of, is_region, region_total}
+use Rattle.region_algebra.specs.Space.{all_regions, cell_total, is_region, region_total}
 use Rattle.region_algebra.proofs.Codes.{blocks, length-all_cells, length-all_regions, length-blocks, slice_get-back, slice_get-blocks, slice_get-front}
 use Rattle.region_algebra.proofs.LeafTuples.{are_leaves, cells-are, is_node_leaf}
-use Rattle.region_algebra.proofs.Numbers.{found-passes, place_of-number}
+use Rattle.region_algebra.proofs.Numbers.{found-passes}
 use Rattle.region_algebra.proofs.Spaces.{accepted-limits}
-use Rattle.region_algebra.proofs.Tuples.{region-at_code, region-below}
 use Rattle.region_algebra.proofs.Turns.{drop-at, region_total-drop}
-use Rattle.view_store.specs.Cuts.{HoldsCells, HoldsRegion, IsCodeOver, reaches_cuts}
-use Rattle.view_store.specs.CutTables.{AreDigits, AreDigitsOf, AreShares, IsDigit, IsShareOf, IsTable, share_sum}
+use Rattle.view_store.specs.Cuts.{HoldsCells, IsCodeOver, IsShareOf, reaches_cuts}
+use Rattle.view_store.specs.CutTables.{AreDigits, AreDigitsOf, AreShares, IsDigit, IsTable, share_sum}
 use Rattle.view_store.specs.declared.cut_table.CutDigit.{CutDigit}
 use Rattle.view_store.specs.declared.cut_table.CutTable.{CutTable}
 use Rattle.view_store.specs.Views.{region_at}
-use Rattle.view_store.proofs.CutRegions.{IsLifted, holds-cells, holds-own_cell, lifted-cons, lifted-holds, lifted-none, region_at-below}
+use Rattle.view_store.proofs.CutRegions.{lifted-none, region_at-below}
+use Rattle.view_store.proofs.CutSums.{IsSumOf, share-room, sum-cons, sum-over_cell, sum-over_region}
 use Rattle.view_store.proofs.Reaching.{leaves-reach}
-
--- over nodes, one in each dimension, there is a region of the cuts, and this is its code
-pub record IsSumOver (dims : List Dimension) (depths low : List ℕ) (over : ℕ) : Type 0 where
-  pub nodes : List ℕ
-  pub lifted : IsLifted dims depths low nodes
-  pub coded : over ≡ code_of dims nodes
-
--- that is told exactly where they reach the cuts
-pub record IsSumOf (dims : List Dimension) (depths low : List ℕ) (sum : Option ℕ) : Type 0 where
-  pub reached : is_some sum ≡ reaches_cuts dims depths low
-  pub over : IfSome sum (IsSumOver dims depths low)
-
--- the shares of one dimension and of those behind it
-sum-cons : (dim : Dimension) (dims : List Dimension) (depth : ℕ) (depths : List ℕ) (x : ℕ) (low : List ℕ) (share sum : Option ℕ) → IsShareOf dim depth (region_total dims) x share → IsSumOf dims depths low sum
-    → IsSumOf (dim ∷ dims) (depth ∷ depths) (x ∷ low) (option_and_then (λ s. option_map (λ more. s + more) sum) share)
-sum-cons dim dims depth depths x low None sum here rest = record { reached = grind (arith, here.reached); over = tt }
-sum-cons dim dims depth depths x low (Some s) None here rest = record { reached = rw (sym here.reached) rest.reached; over = tt }
-sum-cons dim dims depth depths x low (Some s) (Some more) here rest = record {
-  reached = rw (sym here.reached) rest.reached;
-  over =
-      let first = here.over in
-      let last = rest.over in
-      record {
-        nodes = first.node ∷ last.nodes;
-        lifted = lifted-cons dim dims depth depths x first.node low last.nodes first.over last.lifted;
-        coded = rw first.placed (rw (← last.coded, ← first.is) refl);
-      };
-}
 
 -- the digits behind the first
 digits-behind : (nodes : Dimension → List ℕ) (total : List Dimension → ℕ) (dim : Dimension) (dims : List Dimension) (depth : ℕ) (depths : List ℕ) (digit : CutDigit) (digits : List CutDigit)
@@ -110,21 +81,8 @@ module _ (nodes : Dimension → List ℕ) (total : List Dimension → ℕ) (tupl
           rw (← same, first.apart_is) (sum-cons dim dims depth depths x t (get_or digit.shares (code / total dims) None) (share_sum digits (code % total dims)) (first.shares.each (code / total dims) x inside here)
           (each t (omega (arith, deep)) (digits-behind nodes total dim dims depth depths digit digits are) behind))
 
--- A sum over the nodes of a region is the code of a region of the cuts that holds it, and one over the leaves of a cell that of the one over it.
+-- What the digits of a code add together is a sum over the nodes of its region, or over the leaves of a cell.
 module _ (dims : List Dimension) (depths : List ℕ) (trees : All IsTree dims) where
-  sum-holds : (low : List ℕ) (over : ℕ) → IsSumOver dims depths low over → HoldsRegion dims depths low over
-  sum-holds low over is =
-      let found : slice_get (all_regions dims) over ≡ Some is.nodes = ap (slice_get (all_regions dims)) is.coded ∙ region-at_code dims is.nodes trees is.lifted.region in
-      lifted-holds dims depths low is.nodes over found (region-below dims over is.nodes found) is.lifted
-
-  pub sum-over_region : (region : List ℕ) (sum : Option ℕ) → is_region dims region ≡ true → IsSumOf dims depths region sum → IfSome sum (HoldsCells dims depths region)
-  sum-over_region region None named is = tt
-  sum-over_region region (Some over) named is = holds-cells dims depths region over trees named (sum-holds region over is.over)
-
-  pub sum-over_cell : (leaves : List ℕ) (cell : ℕ) (sum : Option ℕ) → is_region dims leaves ≡ true → slice_get (all_cells dims) cell ≡ Some leaves → IsSumOf dims depths leaves sum → IfSome sum (IsCodeOver dims depths cell)
-  sum-over_cell leaves cell None named at is = tt
-  sum-over_cell leaves cell (Some over) named at is = holds-own_cell dims depths leaves cell over trees named at (sum-holds leaves over is.over)
-
   pub regions-summed : (digits : List CutDigit) (code : ℕ) (region : List ℕ) → length depths ≡ length dims → AreDigits numbers region_total dims depths (length dims) digits → slice_get (all_regions dims) code ≡ Some region → IsSumOf dims depths region (share_sum digits code)
   unfolding all_regions
   regions-summed digits code region deep are at = sum-over numbers region_total all_regions refl (λ dim dims. refl) length-all_regions dims depths digits code region deep are at
@@ -139,15 +97,6 @@ pub record IsNext (digit : CutDigit) (digits : List CutDigit) (code total : ℕ)
   pub place : code / digit.step < length digit.shares
   pub of : AreDigitsOf digits (code % digit.step)
   pub room : IfSome (get_or digit.shares (code / digit.step) None) (λ share. share + region_total of.dims ≤ total)
-
-share-room : (dim : Dimension) (depth step low : ℕ) (share : Option ℕ) → IsShareOf dim depth step low share → IfSome share (λ s. s + step ≤ length dim * step)
-share-room dim depth step low None is = tt
-share-room dim depth step low (Some s) is =
-    let over = is.over in
-    let within : over.place < length dim = (place_of-number dim over.node over.place over.placed).0 in
-    let least : (over.place + 1) * step ≤ length dim * step = mul-le-mul (omega (arith, within)) (omega arith) in
-    let apart : (over.place + 1) * step ≡ over.place * step + step = omega arith in
-    omega (arith, over.is, least, apart)
 
 digits-next : (nodes : Dimension → List ℕ) (total : List Dimension → ℕ) → ((dim : Dimension) (dims : List Dimension) → total (dim ∷ dims) ≡ length (nodes dim) * total dims) → (dims : List Dimension) (depths : List ℕ) (digit : CutDigit) (digits : List CutDigit) (code : ℕ)
     → length depths ≡ length dims → AreDigits nodes total dims depths (length dims) (digit ∷ digits) → code < total dims → All IsTree dims → region_total dims < SPACE_LIMIT → IsNext digit digits code (region_total dims)
@@ -340,10 +289,3 @@ module _ (dims : List Dimension) (depths : List ℕ) (deep : length depths ≡ l
       leaves-region (dim ∷ dims) (z ∷ low) are =
           let parts = both (is_node_leaf dim z) (are_leaves dims low) are in
           together (both (is_leaf dim z) (nat_lt z (length dim)) parts.0).1 (leaves-region dims low parts.1)
-
--- all nodes of a dimension are few beside what is behind it
-pub shares-small : (dims : List Dimension) (d step : ℕ) (dim : Dimension) → All IsTree dims → space_fault dims ≡ None → slice_get dims d ≡ Some dim → step ≡ region_total (drop (d + 1) dims) → length dim * step < SPACE_LIMIT
-shares-small dims d step dim trees accepted at is =
-    let here : drop d dims ≡ dim ∷ drop (d + 1) dims = drop-at dims d dim at in
-    let whole : region_total (drop d dims) ≡ length dim * step = ap region_total here ∙ ap (λ n. length dim * n) (sym is) in
-    omega (arith, whole, region_total-drop dims d trees, (accepted-limits dims accepted).regions)

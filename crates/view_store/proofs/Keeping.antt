@@ -1,14 +1,16 @@
--- What is staged for drafts, code by code.
-use Rattle.std.proofs.Common.{◌≡◌, ℕ, ◌+◌, ◌<◌, true, false, List, [], ◌∷◌, ◌++◌, eqb, get_or, length, refl, ap, sym, ◌∙◌, inl, inr, arith, drop, take, Some, add-one, drop-cons}
+-- What is staged for drafts, and entries that are taken out of a map one after another.
+use Rattle.std.proofs.Common.{◌≡◌, ℕ, zero, suc, ◌+◌, ◌<◌, ◌≤◌, true, false, List, [], ◌∷◌, eqb, get_or, length, map, set, refl, ap, sym, subst, ◌∙◌, inl, inr, arith, drop, Option, None, Some, add-one, drop-cons}
 use Rattle.std.specs.Prelude.{◌==◌}
-use Rattle.std.specs.List.{list_any}
+use Rattle.std.specs.List.{IsDistinct, list_any}
+use Rattle.std.specs.Map.{keys_of}
+use Rattle.std.specs.Option.{option_map}
+use Rattle.std.proofs.lemmas.Map.Made.{lookup-map_values}
 use Rattle.std.proofs.lemmas.Bool.{cases_eq}
 use Rattle.std.proofs.lemmas.Bool.Decides.{nat_tests}
-use Rattle.std.proofs.lemmas.List.{map-append, take_more}
 use Rattle.group_sum.specs.Terms.{TermList}
-use Rattle.staged_map.specs.Staged.{AreKeys, Entries, Places, Removes, value_at}
+use Rattle.staged_map.specs.Staged.{AreKeys, AreOfDifferentKeys, Entries, Places, Removes, staged_entry, value_at}
 use Rattle.cube_model.proofs.Ascending.{ascends_increasing}
-use Rattle.view_store.specs.Drafts.{kept, kept_drafts}
+use Rattle.view_store.specs.Drafts.{AreKept, kept, kept_entry}
 use Rattle.view_store.proofs.Ascending.{has, not_among-behind}
 
 -- The entries of the codes from a place on are there still.
@@ -46,21 +48,42 @@ module _ (entries : Places TermList) (codes : List ℕ) (i : ℕ) (within : i < 
     ];
   }
 
--- What is staged for the codes before a place; the drafts of the others are there.
-pub record AreKept (drafts : Places TermList) (codes : List ℕ) (i : ℕ) (entries : Entries TermList) (now : Places TermList) : Type 0 where
-  pub done : entries ≡ kept_drafts drafts (take i codes)
-  pub ahead : AreAhead drafts codes i now
+-- the entries, of which the first are what is kept of them
+abbrev pub kept_first : ℕ → Entries TermList → Entries TermList
+kept_first zero entries = entries
+kept_first (suc i) [] = []
+kept_first (suc i) (entry ∷ entries) = kept_entry entry ∷ kept_first i entries
 
--- one code more
-pub AreKept-next : (drafts : Places TermList) (codes : List ℕ) (i : ℕ) (entries more : Entries TermList) (now new : Places TermList) (terms : TermList) → i < length codes → AreKept drafts codes i entries now
-    → value_at now (get_or codes i 0) ≡ Some terms → Removes now new (get_or codes i 0) → more ≡ entries ++ (get_or codes i 0, kept (Some terms)) ∷ []
-    → AreKept drafts codes (i + 1) more new
-AreKept-next drafts codes i entries more now new terms within before found removes is =
-    let code = get_or codes i 0 in
-    let draft : value_at drafts code ≡ Some terms = sym (ahead-here drafts codes i within now before.ahead) ∙ found in
-    let next : kept_drafts drafts (take (i + 1) codes) ≡ kept_drafts drafts (take i codes) ++ (code, kept (value_at drafts code)) ∷ [] =
-    ap (kept_drafts drafts) (take_more codes i 0 within) ∙ map-append (λ (c : ℕ). (c, kept (value_at drafts c))) (take i codes) (code ∷ []) in
-    record {
-      done = is ∙ ap (λ es. es ++ (code, kept (Some terms)) ∷ []) before.done ∙ ap (λ o. kept_drafts drafts (take i codes) ++ (code, kept o) ∷ []) (sym draft) ∙ sym next;
-      ahead = ahead-next drafts codes i within now new before.ahead removes;
-    }
+length-kept_first : (i : ℕ) (entries : Entries TermList) → length (kept_first i entries) ≡ length entries
+length-kept_first zero entries = refl
+length-kept_first (suc i) [] = refl
+length-kept_first (suc i) (entry ∷ entries) = ap suc (length-kept_first i entries)
+
+-- one more
+pub kept_first-next : (i : ℕ) (entries : Entries TermList) (entry : ℕ × Option TermList) → i < length entries → set (kept_first i entries) i (kept_entry (get_or (kept_first i entries) i entry)) ≡ kept_first (suc i) entries
+kept_first-next i [] entry within = absurd (omega (arith, within))
+kept_first-next zero (first ∷ entries) entry within = refl
+kept_first-next (suc i) (first ∷ entries) entry within = ap (λ rest. kept_entry first ∷ rest) (kept_first-next i entries entry (omega (arith, within)))
+
+-- and all
+pub kept_first-all : (i : ℕ) (entries : Entries TermList) → length entries ≤ i → kept_first i entries ≡ map kept_entry entries
+kept_first-all zero [] end = refl
+kept_first-all zero (entry ∷ entries) end = absurd (omega (arith, end))
+kept_first-all (suc i) [] end = refl
+kept_first-all (suc i) (entry ∷ entries) end = ap (λ rest. kept_entry entry ∷ rest) (kept_first-all i entries (omega (arith, end)))
+
+-- it is of the same keys
+keys_of-kept : (entries : Entries TermList) → keys_of (map kept_entry entries) ≡ keys_of entries
+keys_of-kept [] = refl
+keys_of-kept (entry ∷ entries) = ap (λ rest. entry.0 ∷ rest) (keys_of-kept entries)
+
+pub distinct-kept : (entries : Entries TermList) → AreOfDifferentKeys entries → AreOfDifferentKeys (map kept_entry entries)
+distinct-kept entries = subst (IsDistinct eqb) (sym (keys_of-kept entries))
+
+-- and what is staged for drafts that were moved out
+pub AreKept-moved : (drafts : Places TermList) (entries : Entries TermList) → ((code : ℕ) → staged_entry entries code ≡ option_map Some (value_at drafts code)) → AreKept drafts (map kept_entry entries)
+AreKept-moved drafts entries each code = lookup-map_values kept (eqb code) entries ∙ ap (option_map kept) (each code) ∙ kept-some (value_at drafts code)
+  where
+    kept-some : (held : Option TermList) → option_map kept (option_map Some held) ≡ option_map (λ list. kept (Some list)) held
+    kept-some None = refl
+    kept-some (Some list) = refl

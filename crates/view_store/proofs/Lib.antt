@@ -2,6 +2,7 @@ pub mod ChangeFacts
 pub mod Shares
 pub mod CutNodes
 pub mod CutRegions
+pub mod CutSums
 pub mod CutTables
 pub mod Reaching
 pub mod Drafting

@@ -1,27 +1,14 @@
 -- Tables of the product of cuts: by the digits of a code, what the nodes there add to the code of the region over them.
-use Rattle.std.specs.Prelude.{◌≡◌, ℕ, ◌+◌, ◌*◌, ◌/◌, ◌%◌, ◌<◌, All, IfSome, List, [], ◌∷◌, None, Option, Some, drop, get_or, is_some, length, slice_get}
+use Rattle.std.specs.Prelude.{◌≡◌, ℕ, ◌+◌, ◌*◌, ◌/◌, ◌%◌, ◌<◌, All, IfSome, List, [], ◌∷◌, None, Option, Some, drop, get_or, length, slice_get}
 use Rattle.std.specs.Option.{option_and_then, option_map}
 use Rattle.cube_model.specs.Limits.{SPACE_LIMIT}
-use Rattle.cube_model.specs.Tree.{Dimension, IsTree, leaves, numbers, place_of}
+use Rattle.cube_model.specs.Tree.{Dimension, IsTree, leaves, numbers}
 use Rattle.group_sum.specs.Terms.{TermList}
 use Rattle.region_algebra.specs.Space.{cell_total, region_total}
 use Rattle.staged_map.specs.Staged.{Places}
-use Rattle.view_store.specs.Cuts.{IsCutNode, reaches_cut}
+use Rattle.view_store.specs.Cuts.{IsShareOf}
 use Rattle.view_store.specs.declared.cut_table.CutDigit.{CutDigit}
 use Rattle.view_store.specs.declared.cut_table.CutTable.{CutTable}
-
--- what a node adds to the code: the place of the node of the cut over it, so many times
-pub record IsShareOver (dim : Dimension) (depth step low share : ℕ) : Type 0 where
-  pub node : ℕ
-  pub over : IsCutNode dim depth low node
-  pub place : ℕ
-  pub placed : place_of dim node ≡ Some place
-  pub is : share ≡ place * step
-
--- it adds something exactly where it reaches the cut
-pub record IsShareOf (dim : Dimension) (depth step low : ℕ) (share : Option ℕ) : Type 0 where
-  pub reached : is_some share ≡ reaches_cut dim depth low
-  pub over : IfSome share (IsShareOver dim depth step low)
 
 -- what the first of some nodes add
 pub record AreShares (dim : Dimension) (depth step : ℕ) (nodes : List ℕ) (n : ℕ) (shares : List (Option ℕ)) : Type 0 where

@@ -1,10 +1,10 @@
 -- The nodes of a cut over leaves, the regions of a product of cuts over cells, and all regions where the cuts of a view meet.
-use Rattle.std.specs.Prelude.{◌≡◌, ℕ, ◌<◌, All, Bool, true, false, List, [], ◌∷◌, length, map, filter, nat_le, nat_lt, ◌==◌, ◌&&◌, ◌||◌}
+use Rattle.std.specs.Prelude.{◌≡◌, ℕ, ◌*◌, ◌<◌, All, Bool, IfSome, Option, Some, true, false, List, [], ◌∷◌, is_some, length, map, filter, nat_le, nat_lt, ◌==◌, ◌&&◌, ◌||◌}
 use Rattle.std.specs.List.{flat_map}
 use Rattle.std.specs.Option.{option_map_or}
 use Rattle.cube_model.specs.Cells.{cells_of, is_among, is_inside}
 use Rattle.cube_model.specs.Cut.{cut}
-use Rattle.cube_model.specs.Tree.{Dimension, entry_of, is_leaf, is_under}
+use Rattle.cube_model.specs.Tree.{Dimension, entry_of, is_leaf, is_under, place_of}
 use Rattle.group_sum.specs.Terms.{TermList}
 use Rattle.view_store.specs.Views.{is_in_view, region_at}
 
@@ -22,6 +22,19 @@ pub record IsCutNode (dim : Dimension) (depth low node : ℕ) : Type 0 where
 -- a node reaches the cut at a depth where it lies there or deeper, or is a leaf
 abbrev pub reaches_cut : Dimension → ℕ → ℕ → Bool
 reaches_cut dim depth node = option_map_or (λ e. nat_le depth e.depth) (entry_of dim node) false || is_leaf dim node
+
+-- what a node adds to the code: the place of the node of the cut over it, so many times
+pub record IsShareOver (dim : Dimension) (depth step low share : ℕ) : Type 0 where
+  pub node : ℕ
+  pub over : IsCutNode dim depth low node
+  pub place : ℕ
+  pub placed : place_of dim node ≡ Some place
+  pub is : share ≡ place * step
+
+-- it adds something exactly where it reaches the cut
+pub record IsShareOf (dim : Dimension) (depth step low : ℕ) (share : Option ℕ) : Type 0 where
+  pub reached : is_some share ≡ reaches_cut dim depth low
+  pub over : IfSome share (IsShareOver dim depth step low)
 
 -- the nodes of a region reach the cuts in every dimension
 abbrev pub reaches_cuts : List Dimension → List ℕ → List ℕ → Bool

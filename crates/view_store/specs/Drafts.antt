@@ -1,6 +1,8 @@
 -- Drafts: terms by region code, made from entries by shares.
-use Rattle.std.specs.Prelude.{◌≡◌, ℕ, ◌+◌, ◌*◌, ◌<◌, ◌≤◌, Bool, true, false, List, [], IfSome, length, map, filter, nat_abs, not, ◌||◌, ◌==◌, ◌+ℤ◌, is_some, unwrap_or, take, Option, Some, None, if◌then◌else◌}
+use Rattle.std.specs.Prelude.{◌≡◌, ℕ, ◌+◌, ◌*◌, ◌<◌, ◌≤◌, Bool, true, false, List, [], IfSome, length, filter, nat_abs, not, ◌||◌, ◌==◌, ◌+ℤ◌, is_some, unwrap_or, take, Option, Some, None, if◌then◌else◌}
 use Rattle.std.specs.List.{flat_map, sum_by}
+use Rattle.std.specs.Map.{keys_of}
+use Rattle.std.specs.Option.{option_map}
 use Rattle.cube_model.specs.Allocation.{ExtendedFact}
 use Rattle.cube_model.specs.Answer.{count_at, count_of, numerator_of, sum_at, weight_inside}
 use Rattle.cube_model.specs.Cells.{AreRows, cells_of}
@@ -8,7 +10,7 @@ use Rattle.cube_model.specs.Limits.{WIDE}
 use Rattle.cube_model.specs.Tree.{Dimension}
 use Rattle.group_sum.specs.Merge.{FitsDifference, HasDifference, IsDifference}
 use Rattle.group_sum.specs.Terms.{AddsUnits, FitsUnits, TermList}
-use Rattle.staged_map.specs.Staged.{Entries, Places, value_at}
+use Rattle.staged_map.specs.Staged.{Entries, Places, staged_entry, value_at}
 use Rattle.view_store.specs.declared.change.Share.{Share}
 use Rattle.view_store.specs.declared.change.ViewChange.{ViewChange}
 use Rattle.view_store.specs.Changes.{IsMadeAnew, IsWithinWide, change_facts, facts_put, facts_taken_away, shares}
@@ -99,9 +101,21 @@ pub record FitsShares (columns : ℕ) (dims : List Dimension) (put : Bool) (chan
 abbrev pub KeepsToView : List Dimension → List ℕ → Places TermList → Places TermList → Type 0
 KeepsToView dims depths old new = (code : ℕ) → is_some (value_at new code) ≡ true → (is_some (value_at old code) || is_in_view dims depths code) ≡ true
 
--- what is held at each code can be taken from the entry there
+-- these terms can be taken from the entry at a code
+abbrev pub CanTakeAt : ℕ → Places TermList → ℕ → TermList → Type 0
+CanTakeAt columns entries code part = HasDifference (held_at columns entries code) part × FitsDifference (held_at columns entries code) part
+
+-- and so can what is held at each code
 abbrev pub CanTake : ℕ → Places TermList → Places TermList → Type 0
-CanTake columns entries taken = (code : ℕ) → IfSome (value_at taken code) (λ part. HasDifference (held_at columns entries code) part × FitsDifference (held_at columns entries code) part)
+CanTake columns entries taken = (code : ℕ) → IfSome (value_at taken code) (CanTakeAt columns entries code)
+
+-- at a code, where something was to be taken away, the entry without it is left; all else stays
+pub record LeavesAt (columns : ℕ) (entries : Places TermList) (code : ℕ) (old new : Places TermList) : Type 0 where
+  pub keys : keys_of new ≡ keys_of old
+  pub codes : (k : ℕ) → is_some (value_at new k) ≡ is_some (value_at old k)
+  pub left : IfSome (value_at old code) (λ part. IsDifference (held_at columns entries code) part (held_at columns new code))
+  pub others : (k : ℕ) → (code == k) ≡ false → value_at new k ≡ value_at old k
+  pub over : AreOver columns new
 
 -- where something is taken away, and there alone, the entry without it is left
 pub record AreWithout (columns : ℕ) (entries taken rests : Places TermList) : Type 0 where
@@ -127,6 +141,10 @@ abbrev pub kept : Option TermList → Option TermList
 kept None = None
 kept (Some list) = if length list.terms == 0 then None else Some list
 
--- so for each of these codes
-abbrev pub kept_drafts : Places TermList → List ℕ → Entries TermList
-kept_drafts drafts codes = map (λ code. (code, kept (value_at drafts code))) codes
+-- so for an entry
+abbrev pub kept_entry : ℕ × Option TermList → ℕ × Option TermList
+kept_entry entry = (entry.0, kept entry.1)
+
+-- and for all drafts: what is staged is what is kept of them, and nothing where there is none
+abbrev pub AreKept : Places TermList → Entries TermList → Type 0
+AreKept drafts entries = (code : ℕ) → staged_entry entries code ≡ option_map (λ list. kept (Some list)) (value_at drafts code)

@@ -1,11 +1,12 @@
 //! The regions of a product of cuts, by what lies in them.
-ghost use Rattle.std.specs.Prelude.{◌≡◌, ◌<◌, IfSome, is_some, true, length};
+ghost use Rattle.std.specs.Prelude.{◌≡◌, ◌<◌, ◌*◌, IfSome, is_some, true, length};
 ghost use Rattle.cube_model.specs.Cells.{all_cells};
+ghost use Rattle.cube_model.specs.Limits.{SPACE_LIMIT};
 ghost use Rattle.cube_model.specs.Tree.{IsTree};
 ghost use Rattle.region_algebra.specs.Space.{IsRegion};
-ghost use Rattle.view_store.specs.Cuts.{HoldsCells, HoldsRegion, IsCodeOver, IsCutNode, reaches_cut, reaches_cuts};
+ghost use Rattle.view_store.specs.Cuts.{HoldsCells, IsCodeOver, IsCutNode, IsShareOf, reaches_cut, reaches_cuts};
 
-use cube_model::{MAX_DIMS, Region};
+use cube_model::Region;
 use dim_tree::Dim;
 use region_algebra::Space;
 
@@ -16,20 +17,6 @@ pub fn reaches_cut(dim: &Dim, node: u32, depth: u8) -> bool
     ensures { result ≡ reaches_cut dim.now depth node }
 {
     dim.depth(node) >= depth || dim.is_leaf(node)
-}
-
-/// Whether in each dimension the node of a region reaches the cut.
-fn reaches_cuts(space: &Space, depths: &[u8], r: Region) -> bool
-    requires depths { length depths.now ≡ length space.now }
-    requires region { IsRegion space.now r }
-    ensures { result ≡ reaches_cuts space.now depths.now r }
-{
-    for d in 0..space.dims() {
-        if !reaches_cut(space.dim(d), r.node(d), depths[d as usize]) {
-            return false;
-        }
-    }
-    true
 }
 
 /// The node of the cut at a depth that a node is under, which reaches the cut.
@@ -46,20 +33,19 @@ pub fn cut_node(dim: &Dim, low: u32, depth: u8) -> u32
     node
 }
 
-/// The code of the region of the product of the cuts under which a region lies, whose nodes reach the cuts.
-fn code_above(space: &Space, depths: &[u8], r: Region) -> u64
-    requires depths { length depths.now ≡ length space.now }
-    requires region { IsRegion space.now r }
-    requires reaches { reaches_cuts space.now depths.now r ≡ true }
-    ensures { HoldsRegion space.now depths.now r result }
+/// What a node adds to the code of the region over it: the place of the node of the cut over it, `step` times. None where it does not
+/// reach the cut.
+pub fn share_over(dim: &Dim, node: u32, depth: u8, step: u64) -> Option<u64>
+    requires tree { IsTree dim.now }
+    requires within { node < length dim.now }
+    requires small { length dim.now * step < SPACE_LIMIT }
+    ensures { IsShareOf dim.now depth step node result }
 {
-    let dims = space.dims() as usize;
-    let mut nodes = [0; MAX_DIMS];
-    for d in 0..dims {
-        nodes[d] = cut_node(space.dim(d as u32), r.node(d as u32), depths[d]);
+    if !reaches_cut(dim, node, depth) {
+        return None;
     }
-    let region = space.region(&nodes[..dims]).unwrap();
-    space.code(region)
+    let over = dim.place(cut_node(dim, node, depth));
+    Some(u64::from(over) * step)
 }
 
 /// The code of the region of the product of the cuts that holds a cell.
@@ -69,7 +55,7 @@ pub fn cut_code(space: &Space, depths: &[u8], cell: u64) -> u64
     ensures { IsCodeOver space.now depths.now cell result }
 {
     let _ = space.dims();
-    code_above(space, depths, space.cell_at(cell))
+    code_over(space, depths, space.cell_at(cell)).unwrap()
 }
 
 /// The code of the one region of the product of the cuts that holds all cells of a region: None exactly where in some dimension
@@ -80,10 +66,14 @@ pub fn code_over(space: &Space, depths: &[u8], r: Region) -> Option<u64>
     ensures some { is_some result ≡ reaches_cuts space.now depths.now r }
     ensures over { IfSome result (HoldsCells space.now depths.now r) }
 {
-    let _ = space.dims();
-    if reaches_cuts(space, depths, r) {
-        Some(code_above(space, depths, r))
-    } else {
-        None
+    let mut code = 0;
+    for d in (0..space.dims()).rev() {
+        code += share_over(
+            space.dim(d),
+            r.node(d),
+            depths[d as usize],
+            space.region_step(d),
+        )?;
     }
+    Some(code)
 }

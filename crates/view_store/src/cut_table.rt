@@ -1,10 +1,10 @@
 //! The product of cuts, listed: what the nodes of each dimension add to the code of the region over them.
-ghost use Rattle.std.specs.Prelude.{◌≡◌, ◌<◌, ◌≤◌, ◌*◌, ◌/◌, ◌%◌, IfOk, IfSome, length};
+ghost use Rattle.std.specs.Prelude.{◌≡◌, ◌<◌, ◌≤◌, ◌*◌, ◌/◌, ◌%◌, IfOk, length};
 ghost use Rattle.cube_model.specs.Limits.{SPACE_LIMIT};
-ghost use Rattle.cube_model.specs.Tree.{IsTree, leaves, numbers};
-ghost use Rattle.view_store.specs.CutTables.{AreDigitsOf, AreShares, IsShareOf, IsTable, share_sum};
+ghost use Rattle.cube_model.specs.Tree.{leaves, numbers};
+ghost use Rattle.view_store.specs.CutTables.{AreDigitsOf, AreShares, IsTable, share_sum};
 
-use crate::cut::{cut_node, reaches_cut};
+use crate::cut::share_over;
 use cube_base::{Memory, PlainList};
 use dim_tree::Dim;
 use region_algebra::Space;
@@ -83,20 +83,6 @@ fn leaf_shares(
         shares.push(share_over(dim, dim.leaf_node(i), depth, step))?;
     }
     Ok(PlainList::from(shares))
-}
-
-/// What a node adds: the place of the node of the cut over it, `step` times.
-fn share_over(dim: &Dim, node: u32, depth: u8, step: u64) -> Option<u64>
-    requires tree { IsTree dim.now }
-    requires within { node < length dim.now }
-    requires small { length dim.now * step < SPACE_LIMIT }
-    ensures { IsShareOf dim.now depth step node result }
-{
-    if !reaches_cut(dim, node, depth) {
-        return None;
-    }
-    let over = dim.place(cut_node(dim, node, depth));
-    Some(u64::from(over) * step)
 }
 
 /// What the nodes at the digits of a code add together: None where one of them adds nothing.

@@ -1,21 +1,23 @@
 //! Drafts of entries: terms by region code, to which the shares of facts are added.
-ghost use Rattle.std.specs.Prelude.{[], ◌≡◌, ◌≤◌, ◌+◌, ◌*◌, ◌==◌, ℕ, true, false, IfOk, IfSome, OnOk, OnErr, All, Some, is_some, length, unwrap_or};
+ghost use Rattle.std.specs.Prelude.{[], ◌≡◌, ◌≤◌, ◌+◌, ◌*◌, ◌==◌, ◌<◌, ℕ, true, false, IfOk, IfSome, OnOk, OnErr, All, Some, is_some, length, map, nat_eq, unwrap_or};
+ghost use Rattle.std.specs.List.{IsDistinct};
 ghost use Rattle.std.specs.Map.{keys_of};
 ghost use Rattle.std.specs.Option.{option_copied};
 ghost use Rattle.cube_model.specs.Limits.{MAX_COLS};
 ghost use Rattle.group_sum.specs.Merge.{FitsDifference, HasDifference, IsDifference};
 ghost use Rattle.group_sum.specs.Terms.{AddsUnits, AreTerms, FitsUnits};
-ghost use Rattle.staged_map.specs.Staged.{AreKeys, AreOfDifferentKeys, Reserves, Sets, value_at};
+ghost use Rattle.staged_map.specs.Staged.{AreOfDifferentKeys, Reserves, Sets, key_of_place, value_at};
 ghost use Rattle.view_store.specs.Changes.{AreWhole, FitsView, IsChange, IsMadeFor, facts_taken_away};
 ghost use Rattle.view_store.specs.Cuts.{HoldsRows};
 ghost use Rattle.view_store.specs.Views.{AreEntries, held_at, is_in_view, IsOver, no_terms};
-ghost use Rattle.view_store.specs.Drafts.{AddsChange, AddsRow, AddsSpread, AreLeftOver, AreOver, AreRemade, AreWithout, BeginsDraft, CanTake, FitsChange, FitsShares, FitsSpread, IsSpread, HasShares, KeepsToView, draft_at, facts_of_kind, kept, kept_drafts};
+ghost use Rattle.view_store.specs.Drafts.{AddsChange, AddsRow, AddsSpread, AreKept, AreLeftOver, AreOver, AreRemade, AreWithout, BeginsDraft, CanTake, CanTakeAt, FitsChange, FitsShares, FitsSpread, IsSpread, HasShares, KeepsToView, LeavesAt, draft_at, facts_of_kind, kept, kept_entry};
 
 use crate::{Cuts, Share, ViewChange};
-use cube_base::{Ids, Memory};
+use cube_base::Memory;
 use group_sum::{SubFault, Terms};
 use staged_map::Staged;
 use std::alloc::Global;
+use std::mem::replace;
 
 /// Equal terms, or none over the columns, with room for some, where there are none.
 fn copy_or_none(
@@ -280,35 +282,51 @@ fn take_away(
     }
 }
 
-/// Puts at each of these codes what is left of its entry without what stands there.
+/// Puts in a place what is left of its code's entry without what stands there, if something does.
+fn leave_at(
+    alloc: Global,
+    columns: u32,
+    entries: &Staged<Terms>,
+    parts: &mut Staged<Terms>,
+    i: usize,
+) -> Result<(), Memory>
+    requires some { 1 ≤ columns }
+    requires most { columns ≤ MAX_COLS + 1 }
+    requires place { i < length parts.old }
+    requires distinct { IsDistinct nat_eq (keys_of parts.old) }
+    requires entries { AreOver columns entries.now }
+    requires parts { AreOver columns parts.old }
+    requires there { IfSome (value_at parts.old (key_of_place parts.old i)) (CanTakeAt columns entries.now (key_of_place parts.old i)) }
+    ensures { OnOk result (LeavesAt columns entries.now (key_of_place parts.old i) parts.old parts.new) }
+{
+    if let Some((code, part)) = parts.at(i) {
+        let rest = take_away(alloc, columns, entries.get(code), part)?;
+        let _ = parts.set_at(i, rest);
+    }
+    Ok(())
+}
+
+/// Puts in each place what is left of its code's entry without what stands there.
 fn leave_each(
     alloc: Global,
     columns: u32,
     entries: &Staged<Terms>,
     parts: &mut Staged<Terms>,
-    codes: &[u64],
 ) -> Result<(), Memory>
     requires some { 1 ≤ columns }
     requires most { columns ≤ MAX_COLS + 1 }
     requires entries { AreOver columns entries.now }
     requires parts { AreOver columns parts.old }
     requires there { CanTake columns entries.now parts.old }
-    requires codes { AreKeys parts.old codes.now }
     ensures { OnOk result (AreWithout columns entries.now parts.old parts.new) }
 {
-    for code in codes {
-        let rest = take_away(
-            alloc,
-            columns,
-            entries.get(*code),
-            parts.get(*code).unwrap(),
-        )?;
-        let _ = parts.set(*code, rest);
+    for i in 0..parts.count() {
+        leave_at(alloc, columns, entries, parts, i)?;
     }
     Ok(())
 }
 
-/// What is left of the entries of these codes without what is taken away from them.
+/// What is left of the entries from which something is taken away.
 pub fn take_all_away(
     alloc: Global,
     columns: u32,
@@ -322,8 +340,7 @@ pub fn take_all_away(
     requires there { CanTake columns entries.now parts }
     ensures { IfOk result (AreWithout columns entries.now parts) }
 {
-    let codes = parts.keys()?;
-    leave_each(alloc, columns, entries, &mut parts, codes.as_slice())?;
+    leave_each(alloc, columns, entries, &mut parts)?;
     Ok(parts)
 }
 
@@ -334,28 +351,40 @@ fn entry_of(terms: Terms) -> Option<Terms>
     if terms.len() == 0 { None } else { Some(terms) }
 }
 
-/// What is staged for the drafts of these codes.
-pub fn entries_of(
-    alloc: Global,
-    mut drafts: Staged<Terms>,
-    codes: &[u64],
-) -> Result<Vec<(u64, Option<Terms>)>, Memory>
-    requires { AreKeys drafts codes.now }
-    ensures { IfOk result (λ entries. entries.items ≡ kept_drafts drafts codes.now) }
+/// Makes of a draft what is staged for it.
+fn keep(entry: &mut (u64, Option<Terms>))
+    ensures { entry.new ≡ kept_entry entry.old }
 {
-    let mut entries = Vec::with_capacity(alloc, codes.len())?;
-    for code in codes {
-        let terms = drafts.remove(*code).unwrap();
-        entries.push((*code, entry_of(terms)))?;
+    if let Some(terms) = entry.1.take() {
+        entry.1 = entry_of(terms);
     }
+}
+
+/// The same of drafts, in place.
+fn keep_each(entries: &mut [(u64, Option<Terms>)])
+    ensures { entries.new ≡ map kept_entry entries.old }
+{
+    for i in 0..entries.len() {
+        keep(&mut entries[i]);
+    }
+}
+
+/// What is staged for the drafts, each once. They are moved out.
+fn entries_of(drafts: &mut Staged<Terms>) -> Result<Vec<(u64, Option<Terms>)>, Memory>
+    ensures each { IfOk result (λ entries. AreKept drafts.old entries.items) }
+    ensures distinct { IfOk result (λ entries. AreOfDifferentKeys entries.items) }
+{
+    let mut entries = drafts.take_entries()?;
+    keep_each(entries.as_mut_slice());
     Ok(entries)
 }
 
-/// The shares that changes take away, by region code.
+/// The shares that changes take away, by region code, in the room of a map whose content goes.
 fn taken_away(
     alloc: Global,
     cuts: &Cuts,
     columns: u32,
+    mut parts: Staged<Terms>,
     changes: &[ViewChange],
 ) -> Result<Staged<Terms>, Memory>
     requires some { 1 ≤ columns }
@@ -367,7 +396,7 @@ fn taken_away(
     ensures over { IfOk result (AreOver columns) }
 {
     let none = Staged::new(alloc);
-    let mut parts = Staged::new(alloc);
+    parts.clear();
     add_changes(alloc, cuts, columns, &none, &mut parts, changes, false)?;
     Ok(parts)
 }
@@ -379,13 +408,14 @@ fn left_over(
     cuts: &Cuts,
     columns: u32,
     entries: &Staged<Terms>,
+    parts: Staged<Terms>,
     changes: &[ViewChange],
 ) -> Result<Staged<Terms>, Memory>
     requires entries { AreEntries columns entries.now }
     requires changes { FitsView cuts.now.dims changes.now (record { columns = columns; depths = cuts.now.depths; entries = entries.now }) }
     ensures { IfOk result (AreLeftOver cuts.now.dims changes.now (record { columns = columns; depths = cuts.now.depths; entries = entries.now })) }
 {
-    let parts = taken_away(alloc, cuts, columns, changes)?;
+    let parts = taken_away(alloc, cuts, columns, parts, changes)?;
     take_all_away(alloc, columns, entries, parts)
 }
 
@@ -395,34 +425,36 @@ fn remake_entries(
     cuts: &Cuts,
     columns: u32,
     entries: &Staged<Terms>,
+    drafts: Staged<Terms>,
     changes: &[ViewChange],
 ) -> Result<Staged<Terms>, Memory>
     requires entries { AreEntries columns entries.now }
     requires changes { FitsView cuts.now.dims changes.now (record { columns = columns; depths = cuts.now.depths; entries = entries.now }) }
     ensures { IfOk result (AreRemade cuts.now.dims changes.now (record { columns = columns; depths = cuts.now.depths; entries = entries.now })) }
 {
-    let mut drafts = left_over(alloc, cuts, columns, entries, changes)?;
+    let mut drafts = left_over(alloc, cuts, columns, entries, drafts, changes)?;
     add_changes(alloc, cuts, columns, entries, &mut drafts, changes, true)?;
     Ok(drafts)
 }
 
-/// The entries that changes make of those of a view, each once, with their codes, ascending.
+/// The entries that changes make of those of a view, each once. Their drafts stand in the room of a map, which is left empty.
 pub fn make_entries(
     alloc: Global,
     cuts: &Cuts,
     columns: u32,
     entries: &Staged<Terms>,
+    room: &mut Staged<Terms>,
     changes: &[ViewChange],
-) -> Result<(Ids, Vec<(u64, Option<Terms>)>), Memory>
+) -> Result<Vec<(u64, Option<Terms>)>, Memory>
     requires entries { AreEntries columns entries.now }
     requires changes { FitsView cuts.now.dims changes.now (record { columns = columns; depths = cuts.now.depths; entries = entries.now }) }
-    ensures made { IfOk result (λ made. IsMadeFor cuts.now.dims changes.now (record { columns = columns; depths = cuts.now.depths; entries = entries.now }) made.1.items) }
-    ensures codes { IfOk result (λ made. keys_of made.1.items ≡ made.0) }
-    ensures distinct { IfOk result (λ made. AreOfDifferentKeys made.1.items) }
-    ensures whole { IfOk result (λ made. AreWhole columns made.1.items) }
+    ensures made { IfOk result (λ made. IsMadeFor cuts.now.dims changes.now (record { columns = columns; depths = cuts.now.depths; entries = entries.now }) made.items) }
+    ensures distinct { IfOk result (λ made. AreOfDifferentKeys made.items) }
+    ensures whole { IfOk result (λ made. AreWhole columns made.items) }
 {
-    let drafts = remake_entries(alloc, cuts, columns, entries, changes)?;
-    let codes = drafts.keys()?;
-    let made = entries_of(alloc, drafts, codes.as_slice())?;
-    Ok((codes, made))
+    let drafts = replace(room, Staged::new(alloc));
+    let mut drafts = remake_entries(alloc, cuts, columns, entries, drafts, changes)?;
+    let made = entries_of(&mut drafts)?;
+    *room = drafts;
+    Ok(made)
 }

@@ -30,6 +30,8 @@ pub struct View {
     columns: u32,
     depths: Depths,
     entries: Staged<Terms>,
+    // No more than room, in which the drafts of an edit's entries stand.
+    drafts: Staged<Terms>,
 }
 
 impl Model for View {
@@ -54,6 +56,7 @@ impl View {
             columns,
             depths,
             entries: Staged::new(alloc),
+            drafts: Staged::new(alloc),
         }
     }
 
@@ -115,14 +118,15 @@ impl View {
         ensures made { IfOk result (λ entries. IsMadeFor space.now changes.now self.new entries.items) }
     {
         let cuts = Cuts::climbed(self.alloc, space, self.depths.as_slice());
-        let (codes, entries) = make_entries(
+        let entries = make_entries(
             self.alloc,
             &cuts,
             self.columns,
             &self.entries,
+            &mut self.drafts,
             changes,
         )?;
-        self.entries.reserve(codes.as_slice())?;
+        self.entries.reserve_for(entries.as_slice())?;
         Ok(entries)
     }
 

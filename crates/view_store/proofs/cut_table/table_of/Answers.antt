@@ -1,7 +1,8 @@
 -- The digits of the next dimension are listed.
 use Rattle.cube_model.specs.Tree.{leaves, numbers}
 use Rattle.region_algebra.specs.Space.{cell_total, region_total}
-use Rattle.view_store.proofs.CutTables.{digits-more, shares-small}
+use Rattle.view_store.proofs.CutSums.{shares-small}
+use Rattle.view_store.proofs.CutTables.{digits-more}
 use Rattle.view_store.proofs.cut_table.table_of.Goals as goal
 
 pub node_shares-requires : goal.node_shares-requires

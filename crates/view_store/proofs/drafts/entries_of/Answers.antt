@@ -1,14 +1,27 @@
--- A draft is taken out, and what is staged for it is appended.
-use Rattle.std.proofs.Common.{◌∙◌, ap, sym}
-use Rattle.std.proofs.lemmas.List.{take_all}
-use Rattle.view_store.specs.Drafts.{kept_drafts}
-use Rattle.view_store.proofs.Keeping.{AreKept-next}
+-- What is moved out is kept.
+use Rattle.std.proofs.Common.{◌≡◌, ◌++◌, ◌∙◌, ap, arith, drop, length, map, subst, sym, take}
+use Rattle.std.proofs.lemmas.List.{length-map, take-append-le, take_all}
+use Rattle.staged_map.specs.Staged.{AreOfDifferentKeys, staged_entry}
+use Rattle.view_store.specs.Drafts.{kept_entry}
+use Rattle.view_store.proofs.Keeping.{AreKept-moved, distinct-kept}
 use Rattle.view_store.proofs.drafts.entries_of.Goals as goal
 
-pub loop-code-preserved : goal.loop-code-preserved
-loop-code-preserved c =
-    AreKept-next c.args.drafts c.args.codes.now c.loop-code.code-index c.loop-code.entries.items c.push.new.self.items c.loop-code.drafts c.remove.new.self c.unwrap-terms.result c.loop-code-test.true c.loop-code.invariant
-    (sym c.remove.ensures.had ∙ c.unwrap-terms.ensures) c.remove.ensures.removes (rw c.entry_of.ensures at c.in_ok-push.ensures.items)
+pub returns-clause-each : goal.returns-clause-each
+returns-clause-each c =
+    let new = c.keep_each.new.entries in
+    let items = c.in_ok-entries.entries.items in
+    let len = c.in_ok-entries.entries.len in
+    let long : length new ≡ len = ap length c.keep_each.ensures ∙ length-map c.as_mut_slice.result.now kept_entry ∙ c.as_mut_slice.ensures.len in
+    let all : take len (new ++ drop (length new) items) ≡ new = take-append-le len new (drop (length new) items) (omega (arith, long)) ∙ take_all len new (omega (arith, long)) in
+    let is : take len (new ++ drop (length new) items) ≡ map kept_entry items = all ∙ c.keep_each.ensures ∙ ap (map kept_entry) c.as_mut_slice.ensures.value in
+    λ code. ap (λ entries. staged_entry entries code) is ∙ AreKept-moved c.args.drafts.now items c.in_ok-entries.ensures.each code
 
-pub returns : goal.returns
-returns c = c.loop-code.invariant.done ∙ ap (kept_drafts c.args.drafts) (take_all c.loop-code.code-index c.args.codes.now c.loop-code-test.false)
+pub returns-clause-distinct : goal.returns-clause-distinct
+returns-clause-distinct c =
+    let new = c.keep_each.new.entries in
+    let items = c.in_ok-entries.entries.items in
+    let len = c.in_ok-entries.entries.len in
+    let long : length new ≡ len = ap length c.keep_each.ensures ∙ length-map c.as_mut_slice.result.now kept_entry ∙ c.as_mut_slice.ensures.len in
+    let all : take len (new ++ drop (length new) items) ≡ new = take-append-le len new (drop (length new) items) (omega (arith, long)) ∙ take_all len new (omega (arith, long)) in
+    let is : take len (new ++ drop (length new) items) ≡ map kept_entry items = all ∙ c.keep_each.ensures ∙ ap (map kept_entry) c.as_mut_slice.ensures.value in
+    subst AreOfDifferentKeys (sym is) (distinct-kept items c.in_ok-entries.ensures.distinct)
