@@ -8,12 +8,12 @@ use Rattle.cube_model.specs.declared.edit.Fact.{Fact}
 use Rattle.cube_model.specs.declared.statistic.CellStat.{CellStat}
 use Rattle.cube_model.specs.Allocation.{Allocation, Policy}
 use Rattle.cube_model.specs.Cells.{cells_of}
-use Rattle.cube_model.specs.Facts.{after}
+use Rattle.cube_model.specs.Facts.{after, withdraw}
 use Rattle.cube_model.specs.Limits.{MAX_CELLS, MAX_FACTS, MAX_VALUE}
 use Rattle.cube_model.specs.Tree.{IsTree}
 use Rattle.staged_map.specs.Staged.{value_at}
 use Rattle.region_algebra.specs.Space.{IsRegion, all_regions, code_of}
-use Rattle.fact_groups.specs.Edits.{given, taken}
+use Rattle.fact_groups.specs.Edits.{edited_id, given, taken}
 use Rattle.fact_groups.specs.Groups.{Group, column_sums, facts_with, group_at, has_code, spread_at}
 use Rattle.fact_records.specs.Shape.{IsShape, width_of_all}
 use Rattle.fact_records.specs.Valid.{IsFactOf}
@@ -22,7 +22,7 @@ use Rattle.cube_state.specs.GroupAfter.{AreValuesWithin, fact_with_code, members
 use Rattle.cube_state.specs.Moves.{AreMoves}
 use Rattle.fact_indexes.specs.Kept.{IsState}
 use Rattle.cube_state.specs.State.{StateValue, policy_in}
-use Rattle.cube_state.proofs.OneGroup.{IfSome-weaker, IsMove, few-members, given-of, group-made, group-none, members-move, region-few, region-there, spread-there, sums-move, sums-within, taken-of, values-within}
+use Rattle.cube_state.proofs.OneGroup.{IfSome-weaker, IsMove, few-members, given-of, group-made, group-none, members-move, others-move, region-few, region-there, spread-there, sums-move, sums-within, taken-of, values-within}
 
 module _ {P : Type 0} (weigh : P → CellStat → ℕ) (state seen : StateValue P) (same : seen ≡ state) (kept : IsState (policy_in weigh seen) seen.shape seen.dims seen.cuts seen.facts seen.kept) where
   abbrev kept_in : IsState (policy_in weigh state) state.shape state.dims state.cuts state.facts state.kept
@@ -82,6 +82,17 @@ module _ {P : Type 0} (weigh : P → CellStat → ℕ) (state seen : StateValue 
     module _ (code : ℕ) (got : Option (Bor Group)) (has : option_copied got ≡ value_at seen.kept.groups code) where
       pub few-seen : members_of (option_copied got) ≤ MAX_FACTS
       few-seen = subst (λ o. members_of o ≤ MAX_FACTS) (sym (group-seen code got has)) (few-members policy columns state.dims state.facts code kept_in.valid.few)
+
+      -- the facts of the code but for the one of the edit's id
+      pub others-seen : (took from : Option Fact) → took ≡ fact_with_code state.dims code from → from ≡ moves.taken → (members less : ℕ) → members ≡ members_of (option_copied got) → less ≡ number_of took
+          → length (facts_with state.dims code (withdraw (edited_id moves.edit) state.facts)) + less ≡ members
+      others-seen took from took_is from_is members less members_is less_is =
+          omega (
+            arith,
+            others-move policy state.shape state.dims moves.edit state.facts move-seen code,
+            members_is ∙ ap members_of (group-seen code got has),
+            less_is ∙ ap number_of (took_is ∙ ap (fact_with_code state.dims code) (from_is ∙ are.takes)),
+          )
 
       -- the sums of the group are those of accepted values
       pub sums-seen : (n : ℕ) → n ≡ 1 + width_of_all seen.shape.measures → IsShape seen.shape → IfSome (option_copied got) (λ g. AreValuesWithin (n - 1) (MAX_FACTS * MAX_VALUE) g.sums)

@@ -8,16 +8,17 @@ use Rattle.std.proofs.lemmas.List.Elements.{All-filter, All-from_get_or, All-hea
 use Rattle.std.proofs.lemmas.List.FromFn.{get_or-map-range_with_len, length-map-range_with_len}
 use Rattle.std.proofs.lemmas.List.Sums.{count_by-le-length, length-filter}
 use Rattle.cube_model.specs.declared.edit.Edit.{Edit}
+use Rattle.cube_model.specs.declared.edit.Edit.TheVariants.{Withdraw}
 use Rattle.cube_model.specs.declared.edit.Fact.{Fact}
 use Rattle.cube_model.specs.Allocation.{Policy, allocation}
 use Rattle.cube_model.specs.Answer.{total_by}
 use Rattle.cube_model.specs.Cells.{cells_of}
-use Rattle.cube_model.specs.Facts.{after}
+use Rattle.cube_model.specs.Facts.{after, withdraw}
 use Rattle.cube_model.specs.Limits.{MAX_CELLS, MAX_FACTS, MAX_VALUE}
 use Rattle.cube_model.specs.Tree.{Dimension, IsTree}
 use Rattle.region_algebra.specs.Space.{IsRegion, all_regions, code_of}
 use Rattle.region_algebra.proofs.Tuples.{region-at_code}
-use Rattle.fact_groups.specs.Edits.{given, taken}
+use Rattle.fact_groups.specs.Edits.{edited_id, given, taken}
 use Rattle.fact_groups.specs.Groups.{Group, column_sums, facts_with, group_at, has_code, spread_at}
 use Rattle.fact_groups.proofs.Edits.{count-with, total-with}
 use Rattle.fact_groups.proofs.Groups.{first-holds, first-passes, group_at-region}
@@ -180,7 +181,17 @@ module _ (policy : Policy) (shape : ShapeValue) (dims : List Dimension) (edit : 
         members-at policy columns dims facts code,
       )
 
-  -- and so are the sums of their columns
+  -- those but for the one of the edit's id are those before without the one that it takes
+  pub others-move : length (facts_with dims code (withdraw (edited_id edit) facts)) + number_of took ≡ members_of before
+  others-move =
+      omega (
+        arith,
+        count-with (has_code dims code) (Withdraw (edited_id edit)) facts move.valid.ascending,
+        number-at dims code (taken edit facts),
+        members-at policy columns dims facts code,
+      )
+
+  -- the sums of the columns move as the facts do
   sum-move : (column : ℕ) → column < columns → sum_after before took gave column ≡ total_by (λ f. slice_index_or f.cols column (pos 0)) (facts_with dims code later)
   sum-move column within =
       let moved = total-with (λ f. slice_index_or f.cols column (pos 0)) (has_code dims code) edit facts move.valid.ascending in

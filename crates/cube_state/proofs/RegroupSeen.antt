@@ -21,7 +21,7 @@ use Rattle.cube_state.specs.Moves.{AreMoves}
 use Rattle.cube_state.specs.Regrouped.{HoldChanged, group_is_respread, groups_after, spread_anew}
 use Rattle.fact_indexes.specs.Kept.{IsState}
 use Rattle.cube_state.specs.State.{StateValue, policy_in}
-use Rattle.cube_state.proofs.Drafted.{IsDraft, drafted-all, drafted-few, drafted-rows, rows-before-le, rows-later-few, rows-later-le}
+use Rattle.cube_state.proofs.Drafted.{IsDraft, drafted-all, drafted-few, drafted-others, drafted-rows, rows-before-le, rows-later-few, rows-later-le}
 use Rattle.cube_state.proofs.GroupSeen.{group-seen, move-seen}
 use Rattle.region_algebra.proofs.Spaces.{uncode-region}
 use Rattle.cube_state.proofs.OneGroup.{IsMove, group-made, group-none, region-there, spread-there}
@@ -110,23 +110,27 @@ module _ {P : Type 0} (weigh : P → CellStat → ℕ) (state seen : StateValue 
         ∙ ap (λ o. group_is_respread (Some b.now) o) (ap option_copied now_there)
         ∙ spread-kept policy state.shape state.dims moves.edit state.facts move code found is_in n.now at_now region this b.now (sym before_is ∙ ap option_copied there) stays
 
-  module _ (codes : List ℕ) (hold : HoldChanged policy width state.dims moves.edit state.facts codes) (i : ℕ) (groups : Entries Group) (anew : List ℕ) (before now : ℕ)
-      (so_far : IsDraft policy width state.dims moves.edit state.facts (take i codes) groups anew before now) where
+  module _ (codes : List ℕ) (hold : HoldChanged policy width state.dims moves.edit state.facts codes) (i : ℕ) (groups : Entries Group) (anew : List ℕ) (others before now : ℕ)
+      (so_far : IsDraft policy width state.dims moves.edit state.facts (take i codes) groups anew others before now) where
     -- nor do those of some codes
     pub drafted-seen : (before ≤ MAX_ROWS) × (now ≤ MAX_FACTS * MAX_CELLS)
     drafted-seen =
-        let few = drafted-few policy state.shape state.dims moves.edit state.facts move codes hold i groups anew before now so_far in
+        let few = drafted-few policy state.shape state.dims moves.edit state.facts move codes hold i groups anew others before now so_far in
         (omega (arith, few.0, kept_in.rows, kept_in.few_rows), omega (arith, few.1, rows-later-few policy state.shape state.dims moves.edit state.facts move))
 
+    -- and the other facts of these are few
+    pub others-few : others ≤ MAX_FACTS
+    others-few = drafted-others policy state.shape state.dims moves.edit state.facts move codes hold i groups anew others before now so_far
+
     module _ (past : length codes ≤ i) where
-      done : IsDraft policy width state.dims moves.edit state.facts codes groups anew before now
-      done = drafted-all policy width state.dims moves.edit state.facts codes i groups anew before now past so_far
+      done : IsDraft policy width state.dims moves.edit state.facts codes groups anew others before now
+      done = drafted-all policy width state.dims moves.edit state.facts codes i groups anew others before now past so_far
 
       moved : row_count (extended policy state.dims then_facts) + before ≡ seen.kept.rows + now
       moved =
           omega (
             arith,
-            drafted-rows policy state.shape state.dims moves.edit state.facts move codes hold groups anew before now done,
+            drafted-rows policy state.shape state.dims moves.edit state.facts move codes hold groups anew others before now done,
             kept_in.rows,
             ap (λ (s : StateValue P). s.kept.rows) same,
           )
@@ -142,5 +146,5 @@ module _ {P : Type 0} (weigh : P → CellStat → ℕ) (state seen : StateValue 
 
       pub groups-seen : seen.kept.rows + now - before ≤ MAX_ROWS → groups ≡ groups_after policy width state.dims moves.edit state.facts codes
       groups-seen few =
-          let most = drafted-few policy state.shape state.dims moves.edit state.facts move codes hold i groups anew before now so_far in
+          let most = drafted-few policy state.shape state.dims moves.edit state.facts move codes hold i groups anew others before now so_far in
           done.groups_are (omega (arith, few, rows-seen, most.1))

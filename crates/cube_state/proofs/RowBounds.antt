@@ -15,7 +15,7 @@ use Rattle.region_algebra.proofs.Tuples.{code_of-same}
 use Rattle.fact_groups.specs.Groups.{Group, column_sums, facts_with, group_at, has_code}
 use Rattle.fact_groups.proofs.Ascending.{once_among}
 use Rattle.fact_groups.proofs.Groups.{first-holds, first-passes}
-use Rattle.fact_groups.proofs.Partition.{sum_by-alike, sum_by-either, sum_by-filter}
+use Rattle.fact_groups.proofs.Partition.{sum_by-alike, sum_by-either, sum_by-filter, sum_by-ones}
 use Rattle.fact_groups.proofs.Sharing.{allocation-shared}
 use Rattle.cube_state.specs.GroupAfter.{group_row_count}
 use Rattle.fact_indexes.proofs.GroupsSoFar.{filter-never}
@@ -54,6 +54,16 @@ module _ (dims : List Dimension) (f : Fact → ℕ) where
   held-le : (facts : List Fact) (codes : List ℕ) → ascends_from (λ code. code) 0 codes ≡ true → sum_by (held facts) codes ≤ sum_by f facts
   held-le [] codes up = omega (arith, held-none codes)
   held-le (fact ∷ facts) codes up = omega (arith, held-cons fact facts codes, once-le codes up (code_of dims fact.region) (f fact), held-le facts codes up, sum_by-cons f fact facts)
+
+-- and no more facts have them than there are
+pub facts-le : (dims : List Dimension) (facts : List Fact) (codes : List ℕ) → ascends_from (λ code. code) 0 codes ≡ true → sum_by (λ code. length (facts_with dims code facts)) codes ≤ length facts
+facts-le dims facts codes up =
+    omega (
+      arith,
+      sum_by-alike (λ code. length (facts_with dims code facts)) (held dims (λ f. 1) facts) codes (λ code. sum_by-ones (facts_with dims code facts)),
+      held-le dims (λ f. 1) facts codes up,
+      sum_by-ones facts,
+    )
 
 -- equal numbers
 sum_by-equal : {X : Type 0} (f : X → ℕ) (v : ℕ) (xs : List X) → All (λ x. f x ≡ v) xs → sum_by f xs ≡ length xs * v

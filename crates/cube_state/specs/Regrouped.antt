@@ -1,16 +1,16 @@
 -- The groups after an edit.
-use Rattle.std.specs.Prelude.{◌≡◌, ℕ, Bool, false, List, filter, map, not, ◌||◌, Option}
+use Rattle.std.specs.Prelude.{◌≡◌, ℕ, Bool, false, List, filter, length, map, not, sum_by, ◌||◌, Option}
 use Rattle.std.specs.Option.{option_map_or}
 use Rattle.cube_model.specs.declared.edit.Edit.{Edit}
 use Rattle.cube_model.specs.declared.edit.Fact.{Fact}
 use Rattle.cube_model.specs.Allocation.{Policy}
 use Rattle.cube_model.specs.Cells.{is_among}
 use Rattle.cube_model.specs.Difference.{is_same}
-use Rattle.cube_model.specs.Facts.{after}
+use Rattle.cube_model.specs.Facts.{after, withdraw}
 use Rattle.cube_model.specs.Tree.{Dimension}
 use Rattle.staged_map.specs.Staged.{Entries}
-use Rattle.fact_groups.specs.Edits.{given, taken}
-use Rattle.fact_groups.specs.Groups.{Group, group_at, has_code}
+use Rattle.fact_groups.specs.Edits.{edited_id, given, taken}
+use Rattle.fact_groups.specs.Groups.{Group, facts_with, group_at, has_code}
 use Rattle.region_index.specs.Content.{AreAscending}
 use Rattle.cube_state.specs.declared.changed_groups.Regrouped.{Regrouped}
 
@@ -26,6 +26,10 @@ group_is_respread before now = option_map_or (λ b. option_map_or (λ n. not (is
 -- those of the codes whose region is, ascending as they are
 abbrev pub spread_anew : Policy → ℕ → List Dimension → Edit → List Fact → List ℕ → List ℕ
 spread_anew policy columns dims edit facts codes = filter (λ code. group_is_respread (group_at policy columns dims facts code) (group_at policy columns dims (after edit facts) code)) codes
+
+-- how many facts have one of the codes, but for the one of the edit's id
+abbrev pub other_count : List Dimension → Edit → List Fact → List ℕ → ℕ
+other_count dims edit facts codes = sum_by (λ code. length (facts_with dims code (withdraw (edited_id edit) facts))) codes
 
 -- the old fact or the new fact of an edit is of the code
 abbrev pub is_edited_at : List Dimension → Edit → List Fact → ℕ → Bool
@@ -46,3 +50,4 @@ pub record IsRegrouped (policy : Policy) (columns : ℕ) (dims : List Dimension)
   pub hold : HoldChanged policy columns dims edit facts codes
   pub groups : regrouped.groups ≡ groups_after policy columns dims edit facts codes
   pub anew : regrouped.spread_anew ≡ spread_anew policy columns dims edit facts codes
+  pub others : regrouped.others ≡ other_count dims edit facts regrouped.spread_anew

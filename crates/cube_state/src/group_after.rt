@@ -1,9 +1,10 @@
 //! The group of a code after an edit.
 ghost use Rattle.std.specs.Prelude.{slice_get, ◌≡◌, ◌==◌, false, ◌*◌, ◌<◌, ◌≤◌, ◌+ℤ◌, ◌-ℤ◌, IfOk, IfSome, length, nat_abs};
 ghost use Rattle.std.specs.Option.{option_copied, option_map_or};
-ghost use Rattle.cube_model.specs.Facts.{after};
+ghost use Rattle.cube_model.specs.Facts.{after, withdraw};
 ghost use Rattle.cube_model.specs.Limits.{MAX_COLS, MAX_FACTS, MAX_VALUE};
-ghost use Rattle.fact_groups.specs.Groups.{group_at};
+ghost use Rattle.fact_groups.specs.Edits.{edited_id};
+ghost use Rattle.fact_groups.specs.Groups.{facts_with, group_at};
 ghost use Rattle.region_algebra.specs.Space.{all_regions};
 ghost use Rattle.staged_map.specs.Staged.{value_at};
 ghost use Rattle.fact_records.specs.Shape.{width_of_all};
@@ -64,6 +65,18 @@ impl<P: WeightPolicy + Drop> State<P> {
             return Some(taken.region);
         }
         self.space.uncode(code)
+    }
+
+    /// How many facts have the code, which has this group, but for the one of an edit's id.
+    pub(crate) fn count_others(&self, moves: &Moves, code: u64, before: Option<&Group>) -> u64
+        requires moves { AreMoves (policy_in P.weigh self.now) self.now.shape self.now.dims self.now.facts moves.now }
+        requires before { option_copied before ≡ value_at self.now.kept.groups code }
+        ensures count { result ≡ length (facts_with self.now.dims code (withdraw (edited_id moves.now.edit) self.now.facts)) }
+        ensures few { result ≤ MAX_FACTS }
+    {
+        let _ = self.shape.columns();
+        let taken = self.fact_at(moves.taken.as_ref(), moves.taken_code, code);
+        members_of(before) - number_of(taken)
     }
 
     /// Whether the old fact or the new fact of an edit is of the code.

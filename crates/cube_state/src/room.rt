@@ -129,6 +129,7 @@ fn sets_of(stages: Stages, regrouped: Regrouped) -> Sets
     let Regrouped {
         groups,
         spread_anew: _,
+        others: _,
         rows: _,
     } = regrouped;
     Sets {

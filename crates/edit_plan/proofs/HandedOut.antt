@@ -68,15 +68,23 @@ module _ (policy : Policy) (columns : ℕ) (dims : List Dimension) (edit : Edit)
       either false true is = cc
       either false false is = is
 
+  -- so each fact there is imprecise, and its region holds a cell that weighs otherwise
+  held-anew : (fact : Fact) → IsRegion dims fact.region → (code : ℕ) → spreads_anew code ≡ true → has_code dims code fact ≡ true → (not (is_precise dims fact) ≡ true) × (holds_any dims fact.region reweighed ≡ true)
+  held-anew fact named code anew here =
+      let its : code ≡ code_of dims fact.region = grind (arith, nat_tests, here) in
+      let moved = spread-otherwise fact.region named (ap spreads_anew (sym its) ∙ anew) in
+      let spread = parts (covers_any dims reweighed fact) (is_spread_otherwise policy dims edit facts fact.region fact.region) (sym (otherwise policy dims edit facts up fact) ∙ moved) in
+      parts (not (is_precise dims fact)) (holds_any dims fact.region reweighed) spread.0
+
+  pub imprecise-anew : (fact : Fact) → IsRegion dims fact.region → (code : ℕ) → spreads_anew code ≡ true → has_code dims code fact ≡ true → not (is_precise dims fact) ≡ true
+  imprecise-anew fact named code anew here = (held-anew fact named code anew here).0
+
   -- so an imprecise fact there covers a cell that weighs otherwise
   covers-reweighed : (fact : Fact) → IsRegion dims fact.region → (code : ℕ) → spreads_anew code ≡ true → is_indexed_at dims code fact ≡ true → list_any (λ cell. covers dims cell fact) reweighed ≡ true
   covers-reweighed fact named code anew here =
       let at = parts (code_of dims fact.region == code) (not (is_precise dims fact)) here in
-      let its : code ≡ code_of dims fact.region = grind (arith, nat_tests, at.0) in
-      let moved = spread-otherwise fact.region named (ap spreads_anew (sym its) ∙ anew) in
-      let spread = parts (covers_any dims reweighed fact) (is_spread_otherwise policy dims edit facts fact.region fact.region) (sym (otherwise policy dims edit facts up fact) ∙ moved) in
-      let holds = parts (not (is_precise dims fact)) (holds_any dims fact.region reweighed) spread.0 in
-      any-alike (λ cell. covers dims cell fact) (is_among (cells_of dims fact.region)) reweighed (λ cell. and-true (is_among (cells_of dims fact.region) cell) (not (is_precise dims fact)) at.1) ∙ holds.1
+      any-alike (λ cell. covers dims cell fact) (is_among (cells_of dims fact.region)) reweighed (λ cell. and-true (is_among (cells_of dims fact.region) cell) (not (is_precise dims fact)) at.1)
+      ∙ (held-anew fact named code anew at.0).1
 
   module _ (codes : List ℕ) (hold : HoldChanged policy columns dims edit facts codes) where
     abbrev anew : List ℕ
@@ -125,11 +133,7 @@ module _ (policy : Policy) (columns : ℕ) (dims : List Dimension) (edit : Edit)
             → 1 ≤ count_by (is_indexed_at dims code) facts
         either None none held = cc
         either (Some fact) is held =
-            let its : code ≡ code_of dims fact.region = grind (arith, nat_tests, held.1) in
-            let moved = spread-otherwise fact.region held.0.0 (ap spreads_anew (sym its) ∙ anew) in
-            let spread = parts (covers_any dims reweighed fact) (is_spread_otherwise policy dims edit facts fact.region fact.region) (sym (otherwise policy dims edit facts up fact) ∙ moved) in
-            let holds = parts (not (is_precise dims fact)) (holds_any dims fact.region reweighed) spread.0 in
-            held.0.1 (both (has_code dims code fact) (not (is_precise dims fact)) held.1 holds.0)
+            held.0.1 (both (has_code dims code fact) (not (is_precise dims fact)) held.1 (imprecise-anew fact held.0.0 code anew held.1))
 
     held-some : (some : List ℕ) → All (λ code. spreads_anew code ≡ true) some → length some ≤ id_count_at dims facts some
     held-some [] each = omega arith

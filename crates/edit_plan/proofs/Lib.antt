@@ -9,6 +9,7 @@ pub mod FactsLeft
 pub mod FlatLists
 pub mod GroupsNow
 pub mod HandedOut
+pub mod OtherCount
 pub mod OtherPairs
 pub mod OwnPair
 pub mod RefreshedIds

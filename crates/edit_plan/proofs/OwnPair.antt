@@ -17,7 +17,7 @@ use Rattle.fact_records.specs.Shape.{width_of_all}
 use Rattle.fact_records.specs.Valid.{AreValid}
 use Rattle.cube_state.specs.declared.edit_moves.Moves.{Moves}
 use Rattle.cube_state.specs.declared.changed_groups.Regrouped.{Regrouped}
-use Rattle.cube_state.specs.Moves.{AreMoves}
+use Rattle.cube_state.specs.Moves.{AreMoves, region_code}
 use Rattle.cube_state.specs.Regrouped.{IsRegrouped}
 use Rattle.edit_plan.specs.Refreshing.{group_now, is_same_spread, own_pair}
 use Rattle.cube_state.specs.State.{StateValue, policy_in}
@@ -80,6 +80,14 @@ module _ {P : Type 0} (weigh : P → CellStat → ℕ) (state : StateValue P) (v
         ∙ ap (λ o. is_same_spread o spread)
         (before_is ∙ ap (λ c. option_map (λ (g : Group). g.spread) (group_at policy columns state.dims state.facts c)) at ∙ spread-found policy columns state.dims state.facts trees (regions weigh state valid moves are) (edited_id moves.edit) took found)
         ∙ sym (ap (λ o. option_map_or (λ f. is_same_spread (Some (spread_at policy state.dims state.facts f.region)) spread) o false) found)
+
+  module _ (gave : Fact) (gives : moves.given ≡ Some gave) where
+    code_is : moves.given_code ≡ Some (code_of state.dims gave.region)
+    code_is = are.given_at ∙ ap (region_code state.dims) gives
+
+    -- the code that is known of the fact that is given is that of its region
+    pub given-at : (code : ℕ) → moves.given_code ≡ Some code → code ≡ code_of state.dims gave.region
+    given-at code known = let here : Some code ≡ Some (code_of state.dims gave.region) = sym known ∙ code_is in cc
 
   module _ (regrouped : Regrouped) (is : IsRegrouped policy columns state.dims moves.edit state.facts regrouped) where
     module _ (trees : All IsTree state.dims) (gave : Fact) (code : ℕ) (spread : Option Allocation) (lay : Bool) (gives : moves.given ≡ Some gave) (at : code ≡ code_of state.dims gave.region)

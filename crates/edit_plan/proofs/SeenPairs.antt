@@ -5,12 +5,10 @@ use Rattle.std.specs.List.Sorted.{IsNonDecreasingBy, IsPermutation}
 use Rattle.std.specs.Option.{option_map_or, option_to_list}
 use Rattle.cube_model.specs.declared.edit.Fact.{Fact}
 use Rattle.cube_model.specs.declared.statistic.CellStat.{CellStat}
-use Rattle.cube_model.specs.Ascending.{ascends_from}
 use Rattle.cube_model.specs.Difference.{refreshed}
 use Rattle.cube_model.specs.Facts.{after}
 use Rattle.cube_model.specs.Tree.{IsTree}
 use Rattle.region_algebra.specs.Space.{IsRegion}
-use Rattle.region_index.specs.Content.{AreAscending}
 use Rattle.fact_groups.specs.Edits.{edited_id}
 use Rattle.fact_records.specs.Shape.{width_of_all}
 use Rattle.fact_records.specs.Valid.{AreValid}
@@ -20,10 +18,11 @@ use Rattle.edit_plan.specs.Bound.{covering_pairs}
 use Rattle.cube_state.specs.Moves.{AreMoves}
 use Rattle.edit_plan.specs.Refreshing.{AreOfFacts, id_count_at, others_at, own_pair}
 use Rattle.cube_state.specs.Regrouped.{IsRegrouped}
-use Rattle.cube_state.specs.Regrouped.{spread_anew}
+use Rattle.cube_state.specs.Regrouped.{other_count, spread_anew}
 use Rattle.cube_state.specs.State.{StateValue, policy_in}
 use Rattle.cube_state.proofs.Accepting.{AreValid-after, allowed}
 use Rattle.edit_plan.proofs.HandedOut.{few-anew, handed-out}
+use Rattle.edit_plan.proofs.OtherCount.{other_count-few, others-counted}
 use Rattle.fact_indexes.proofs.ValidFacts.{valid-regions}
 use Rattle.edit_plan.proofs.RefreshedPairs.{ascends-anew, codes-sorted, ids-sorted, refreshed-counted}
 
@@ -62,18 +61,29 @@ module _ {P : Type 0} (weigh : P → CellStat → ℕ) (state : StateValue P) (v
           handed-out (policy_in weigh state) (width_of_all state.shape.measures) state.dims moves.edit state.facts valid.ascending trees regions later-regions is.codes is.hold,
         )
 
-    -- so many ids are refreshed
-    pub count-seen : (id : ℕ) (codes : List ℕ) (count : ℕ) (own : Option (ℕ × ℕ)) → id ≡ edited_id moves.edit → codes ≡ regrouped.spread_anew → count ≡ length (others_at state.dims state.facts id codes)
-        → own ≡ own_pair (policy_in weigh state) state.dims moves.edit state.facts
-        → count + option_map_or (λ pair. 1) own 0 ≡ length (refreshed (policy_in weigh state) state.dims state.facts later)
-    count-seen id codes count own id_is codes_are count_is own_is =
-        ap (λ n. n + option_map_or (λ pair. 1) own 0) (count_is ∙ ap (λ i. length (others_at state.dims state.facts i codes)) id_is ∙ ap (λ cs. length (others_at state.dims state.facts (edited_id moves.edit) cs)) (codes_are ∙ is.anew))
-        ∙ ap (λ o. length (others_at state.dims state.facts (edited_id moves.edit) (spread_anew (policy_in weigh state) (width_of_all state.shape.measures) state.dims moves.edit state.facts is.codes)) + option_map_or (λ pair. 1) o 0) own_is
-        ∙ refreshed-counted (policy_in weigh state) state.dims moves.edit state.facts valid.ascending (width_of_all state.shape.measures) is.codes is.hold trees regions later-regions
+    -- the other facts there are few
+    pub few-seen : regrouped.others ≤ length state.facts
+    few-seen =
+        omega (
+          arith,
+          is.others,
+          ap (other_count state.dims moves.edit state.facts) is.anew,
+          other_count-few state.dims moves.edit state.facts (spread_anew (policy_in weigh state) (width_of_all state.shape.measures) state.dims moves.edit state.facts is.codes)
+              (ascends-anew (policy_in weigh state) state.dims moves.edit state.facts valid.ascending (width_of_all state.shape.measures) is.codes is.hold),
+        )
 
-    -- the codes ascend
-    pub anew-ascend : (codes : List ℕ) → codes ≡ regrouped.spread_anew → AreAscending codes
-    anew-ascend codes codes_are = ap (λ cs. ascends_from (λ (c : ℕ). c) 0 cs) (codes_are ∙ is.anew) ∙ ascends-anew (policy_in weigh state) state.dims moves.edit state.facts valid.ascending (width_of_all state.shape.measures) is.codes is.hold
+    -- and with the edited one they are those that are refreshed
+    pub count-seen : (own : Option (ℕ × ℕ)) → own ≡ own_pair (policy_in weigh state) state.dims moves.edit state.facts
+        → regrouped.others + option_map_or (λ pair. 1) own 0 ≡ length (refreshed (policy_in weigh state) state.dims state.facts later)
+    count-seen own own_is =
+        omega (
+          arith,
+          is.others,
+          ap (other_count state.dims moves.edit state.facts) is.anew,
+          others-counted (policy_in weigh state) (width_of_all state.shape.measures) state.dims moves.edit state.facts valid.ascending trees regions later-regions is.codes,
+          ap {B = ℕ} (λ (o : Option (ℕ × ℕ)). option_map_or (λ pair. 1) o 0) own_is,
+          refreshed-counted (policy_in weigh state) state.dims moves.edit state.facts valid.ascending (width_of_all state.shape.measures) is.codes is.hold trees regions later-regions,
+        )
 
     module _ (id : ℕ) (codes : List ℕ) (others pairs sorted : List (ℕ × ℕ)) (own : Option (ℕ × ℕ)) (id_is : id ≡ edited_id moves.edit) (codes_are : codes ≡ regrouped.spread_anew)
         (others_are : others ≡ others_at state.dims state.facts id codes)

@@ -51,6 +51,6 @@ module _ {P : Type 0} (weigh : P → CellStat → ℕ) (state : StateValue P) (m
   pub codes-within : between ≤ before + step_bound weigh state moves.edit
   codes-within = omega (arith, probed, ap (probes_over state.dims) are.reweighs, probes-few (policy_in weigh state) state.dims moves.edit state.facts trees)
 
-  -- and once the ids are counted or handed out
+  -- and once the ids are handed out
   pub plan-within : (now : ℕ) → now ≤ between + (2 * covering_pairs (policy_in weigh state) state.dims moves.edit state.facts + 2) → now ≤ before + step_bound weigh state moves.edit
   plan-within now handed = omega (arith, handed, probed, ap (probes_over state.dims) are.reweighs, probes-few (policy_in weigh state) state.dims moves.edit state.facts trees)

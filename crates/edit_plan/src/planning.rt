@@ -168,7 +168,7 @@ fn tell_refreshed<P: WeightPolicy + Drop, L: Ledger>(
     ensures steps { steps.new ≤ steps.old + 2 * covering_pairs (policy_in P.weigh state.now) state.now.dims moves.now.edit state.now.facts }
 {
     match detail {
-        Detail::Number => Ok((count_refreshed(state, moves, regrouped, steps), None)),
+        Detail::Number => Ok((count_refreshed(state, moves, regrouped), None)),
         Detail::Lists => {
             let lists = list_changes(alloc, state, moves, regrouped, steps)?;
             Ok((lists.refreshed.as_slice().len() as u64, Some(lists)))

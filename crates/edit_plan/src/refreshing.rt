@@ -1,20 +1,19 @@
 //! Which facts an edit refreshes.
 ghost use Rattle.std.specs.Prelude.{◌≡◌, ◌++◌, ◌+◌, ◌*◌, ◌≤◌, IfOk, OnOk, Some, false, length, map};
 ghost use Rattle.std.specs.List.Sorted.{IsNonDecreasingBy, IsPermutation};
-ghost use Rattle.std.specs.Option.{option_copied, option_map_or};
+ghost use Rattle.std.specs.Option.{option_copied, option_map, option_map_or};
 ghost use Rattle.cube_model.specs.Difference.{refreshed};
 ghost use Rattle.cube_model.specs.Facts.{after};
 ghost use Rattle.fact_groups.specs.Edits.{taken};
-ghost use Rattle.fact_groups.specs.Groups.{spread_at};
+ghost use Rattle.fact_groups.specs.Groups.{group_at, spread_at};
 ghost use Rattle.fact_records.specs.Shape.{width_of_all};
 ghost use Rattle.cube_state.specs.Moves.{AreMoves};
 ghost use Rattle.cube_state.specs.Regrouped.{IsRegrouped};
 ghost use Rattle.cube_state.specs.State.{policy_in};
 ghost use Rattle.edit_plan.specs.Bound.{covering_pairs};
-ghost use Rattle.edit_plan.specs.Refreshing.{AreOfFacts, id_count_at, is_same_spread, others_at, others_with, own_pair};
+ghost use Rattle.edit_plan.specs.Refreshing.{AscendByCode, group_now, AreOfFacts, id_count_at, is_same_spread, others_at, others_with, own_pair};
 
 use crate::spread::{is_same_spread, spread_now};
-use alloc_rows::Alloc;
 use cell_weight::WeightPolicy;
 use cube_base::Memory;
 use cube_state::{Moves, Regrouped, State, edited_id};
@@ -85,21 +84,32 @@ pub fn own_pair<P: WeightPolicy + Drop>(
 {
     let _ = state.facts();
     let given = moves.given?;
-    let code = state.code(given.region);
-    if lay_as(state, moves, spread_now(state, regrouped, code)) {
+    let code = moves.given_code?;
+    if lay_as(state, moves, regrouped, code) {
         return None;
     }
     Some((given.id, code))
 }
 
-/// Whether an edit has an old fact, and that was spread so.
-fn lay_as<P: WeightPolicy + Drop>(state: &State<P>, moves: &Moves, spread: Option<&Alloc>) -> bool
-    requires { AreMoves (policy_in P.weigh state.now) state.now.shape state.now.dims state.now.facts moves.now }
-    ensures { result ≡ option_map_or (λ f. is_same_spread (Some (spread_at (policy_in P.weigh state.now) state.now.dims state.now.facts f.region)) (option_copied spread.entry)) (taken moves.now.edit state.now.facts) false }
+/// Whether an edit has an old fact, and that was spread as the facts of a code are after it.
+fn lay_as<P: WeightPolicy + Drop>(
+    state: &State<P>,
+    moves: &Moves,
+    regrouped: &Regrouped,
+    code: u64,
+) -> bool
+    requires moves { AreMoves (policy_in P.weigh state.now) state.now.shape state.now.dims state.now.facts moves.now }
+    requires groups { AscendByCode regrouped.now.groups }
+    ensures { result ≡ option_map_or (λ f. is_same_spread (Some (spread_at (policy_in P.weigh state.now) state.now.dims state.now.facts f.region))
+        (option_map (λ g. g.spread) (group_now regrouped.now.groups (group_at (policy_in P.weigh state.now) (width_of_all state.now.shape.measures) state.now.dims state.now.facts) code)))
+        (taken moves.now.edit state.now.facts) false }
 {
     let _ = state.facts();
     match moves.taken {
-        Some(taken) => is_same_spread(state.spread_at(state.code(taken.region)), spread),
+        Some(taken) => is_same_spread(
+            state.spread_at(state.code(taken.region)),
+            spread_now(state, regrouped, code),
+        ),
         None => false,
     }
 }

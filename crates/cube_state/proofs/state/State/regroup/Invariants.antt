@@ -6,4 +6,4 @@ use Rattle.cube_state.proofs.Drafted.{IsDraft}
 use Rattle.cube_state.proofs.state.State.regroup.Given as goal
 
 abbrev pub invariant-loop-code : goal.invariant-loop-code
-invariant-loop-code g l = IsDraft (policy_in g.P.WeightPolicy.weigh l.self) (width_of_all l.self.shape.measures) l.self.dims l.moves.edit l.self.facts (take l.code-index l.codes) l.draft.groups l.draft.spread_anew l.draft.before l.draft.after
+invariant-loop-code g l = IsDraft (policy_in g.P.WeightPolicy.weigh l.self) (width_of_all l.self.shape.measures) l.self.dims l.moves.edit l.self.facts (take l.code-index l.codes) l.draft.groups l.draft.spread_anew l.draft.others l.draft.before l.draft.after
