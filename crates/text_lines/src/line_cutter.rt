@@ -102,7 +102,9 @@ fn keep_front(bytes: &mut Vec<u8>, start: usize)
     requires { start ≤ length bytes.old.items }
     ensures { bytes.new.items ≡ front (drop start bytes.old.items) }
 {
-    bytes.drain(..start);
+    let left = bytes.len() - start;
+    bytes.copy_within(start.., 0);
+    bytes.truncate(left);
     bytes.truncate(MOST_KEPT);
 }
 
