@@ -3,8 +3,8 @@
 
 The import of a file of a million precise facts into a store without facts, and the export of these, with their seconds of a processor and
 their memory; beside them the same file through the `csv` crate of the kit alone (`csv_alone`, which is proved and built first), read, and
-read and written; one transaction of the same rows through the `sqlite` crate of the kit alone (`sqlite_alone`, which is built so too), and
-one by stock SQLite from Python. The stores are made in FOLDER, the current one where none is named.
+read and written; and one transaction of the same rows by stock SQLite from Python. The stores are made in FOLDER, the current one where none
+is named.
 """
 import sys
 import tempfile
@@ -14,7 +14,7 @@ from pathlib import Path
 sys.dont_write_bytecode = True
 
 import stores
-from store_speed import CITIES, FACTS, built_alone, content, made_by_sqlite, schema, timed
+from store_speed import CITIES, FACTS, built_alone, made_by_sqlite, schema, timed
 
 RUNS = 3
 
@@ -28,8 +28,7 @@ def main():
     place = sys.argv[2] if len(sys.argv) > 2 else "."
     file = facts_file()
     with tempfile.TemporaryDirectory(dir=place) as folder, tempfile.TemporaryDirectory() as project:
-        alone = built_alone("csv_alone", "anyhow csv", [], b"", f"{project}/csv")
-        rows_alone = built_alone("sqlite_alone", "anyhow sqlite", [f"{folder}/tried.cube", "1", "whole"], b"", f"{project}/sqlite")
+        alone = built_alone("csv_alone", "anyhow csv", [], b"", project)
         for k in range(RUNS):
             path = f"{folder}/{k}.cube"
             stores.must(stores.call(program, ["init", path], schema())[:2], (b"ok\t0\n", 0), "init")
@@ -45,11 +44,6 @@ def main():
                 seconds, clock, memory, said, status = timed(words, file, alone)
                 stores.must((said, status), (f"{FACTS + 1}\n".encode(), 0), "csv_alone")
                 print(f"{what}: {seconds:.2f} s of a processor, {clock:.2f} s on the clock, {memory:.0f} MB")
-            rows = f"{folder}/{k}.rows"
-            seconds, clock, memory, said, status = timed([rows, str(FACTS), "whole"], b"", rows_alone)
-            stores.must((said, status), (f"{FACTS}\n".encode(), 0), "sqlite_alone")
-            stores.must(content(rows), content(path), "rows of sqlite_alone")
-            print(f"the rows through the sqlite crate alone: {seconds:.2f} s of a processor, {clock:.2f} s on the clock, {memory:.0f} MB")
             start, used = time.time(), time.process_time()
             made_by_sqlite(f"{folder}/{k}.python")
             print(f"one transaction by stock SQLite from Python: {time.process_time() - used:.2f} s of a processor, {time.time() - start:.2f} s on the clock")
