@@ -1,36 +1,38 @@
 //! A map from numbers in which keys can have a place before they have a value.
-ghost use Rattle.std.specs.Prelude.{◌≡◌, ◌∷◌, ◌++◌, [], ◌<◌, ◌+◌, ◌==◌, ℕ, true, false, length, map, filter, take, slice_get, is_some, nat_eq, option_and_then, option_to_list, All, IfSome, IfOk, Some, IsOk, OnOk, OnErr};
+ghost use Rattle.std.specs.Prelude.{◌≡◌, ◌∷◌, ◌++◌, [], ◌<◌, ◌≤◌, ◌+◌, ◌==◌, ℕ, true, false, length, map, filter, take, slice_get, is_some, nat_eq, option_and_then, option_to_list, All, IfSome, IfOk, Some, IsOk, OnOk, OnErr};
 ghost use Rattle.std.specs.List.{IsDistinct};
 ghost use Rattle.std.specs.Map.{keys_of, lookup};
 ghost use Rattle.std.specs.Borrow.{sem};
+ghost use Rattle.std.specs.Vec.{vec_capacity, vec_len};
 ghost use Rattle.std.specs.Option.{option_copied, option_copied_mut, option_map};
+ghost use Rattle.staged_map.specs.Hints.{AreNoted};
 ghost use Rattle.staged_map.specs.Lends.{lends_value};
-ghost use Rattle.staged_map.specs.declared.staged.TheConstants.{HINTS};
 ghost use Rattle.staged_map.specs.Staged.{AreKeys, AreOfDifferentKeys, PutsAll, Removes, Reserves, ReservesSome, Sets, has_place, have_places, held, held_of, held_copied, key_of_place, place_of, staged_entry, value_at};
 
+use crate::hints::{Hints, place_in};
 use cube_base::{Ids, Memory};
 use indexmap::IndexMap;
 use std::alloc::{AllocError, Global};
 use std::marker::Model;
-
-/// How many places are noted that were found last.
-const HINTS: usize = 8;
 
 /// A finite map from u64 in which a key may have a place before it has a value: an entry of the map beneath that holds
 /// None. Contracts see the places with their values.
 #[derive(Drop)]
 pub struct Staged<V> {
     places: IndexMap<u64, Option<V>>,
-    /// For some numbers of keys the place that was found or made last, where such a key is looked for first. There need be none.
-    hints: [usize; HINTS],
+    /// Where a key is looked for first.
+    hints: Hints,
 }
 
 impl<V> Model for Staged<V> {
     ghost use Rattle.staged_map.specs.Staged.{Places};
+    ghost use Rattle.staged_map.specs.Hints.{AreNoted};
 
     ghost Value = { Places V };
 
     ghost view = { λ s. s.places.entries };
+
+    ghost invariant = { λ s. AreNoted s.hints s.places.entries };
 }
 
 impl<V: Drop> Staged<V> {
@@ -40,23 +42,38 @@ impl<V: Drop> Staged<V> {
     {
         Staged {
             places: IndexMap::new(alloc),
-            hints: [0; HINTS],
+            hints: Hints::new(alloc),
         }
     }
 
-    /// The number of a key's place. It is searched for by hash only where no hint tells it.
+    /// The number of a key's place. It is searched for by hash only where its slot has another key's place.
     fn find(&self, key: u64) -> Option<usize>
         ensures found { is_some result ≡ has_place self.now key }
         ensures place { IfSome result (λ i. slice_get self.now i ≡ place_of self.now key) }
     {
-        let hint = self.hints[slot(key)];
+        let mark = self.hints.noted(key).unwrap_or(1);
+        if mark == 0 {
+            return None;
+        }
+        let hint = place_in(mark);
         match self.places.get_index(hint) {
             Some((hinted, _)) if *hinted == key => Some(hint),
             _ => self.search(key),
         }
     }
 
-    /// The same by hash.
+    /// The same, and notes the place.
+    fn find_noted(&mut self, key: u64) -> Option<usize>
+        ensures same { self.new ≡ self.old }
+        ensures found { is_some result ≡ has_place self.old key }
+        ensures place { IfSome result (λ i. slice_get self.old i ≡ place_of self.old key) }
+    {
+        let i = self.find(key)?;
+        self.hints.note(key, i);
+        Some(i)
+    }
+
+    /// The same by hash, without a note.
     fn search(&self, key: u64) -> Option<usize>
         ensures found { is_some result ≡ has_place self.now key }
         ensures place { IfSome result (λ i. slice_get self.now i ≡ place_of self.now key) }
@@ -78,8 +95,7 @@ impl<V: Drop> Staged<V> {
         ensures* lends { sem 𝓛 (lends_value V.row self.entry key result) }
         ensures value { option_copied_mut result ≡ value_at self.old key }
     {
-        let i = self.find(key)?;
-        self.hints[slot(key)] = i;
+        let i = self.find_noted(key)?;
         self.places.get_index_mut(i)?.as_mut()
     }
 
@@ -111,8 +127,7 @@ impl<V: Drop> Staged<V> {
         ensures had { result ≡ value_at self.old key }
         ensures sets { Sets self.old self.new key value }
     {
-        let i = self.find(key).unwrap();
-        self.hints[slot(key)] = i;
+        let i = self.find_noted(key).unwrap();
         self.set_at(i, value)
     }
 
@@ -131,7 +146,11 @@ impl<V: Drop> Staged<V> {
         ensures had { result ≡ value_at self.old key }
         ensures removes { Removes self.old self.new key }
     {
-        self.places.swap_remove(&key).flatten()
+        let (i, _, removed) = self.places.swap_remove_full(&key)?;
+        if let Some((moved, _)) = self.places.get_index(i) {
+            self.hints.note(*moved, i);
+        }
+        removed
     }
 
     /// Gives each key of the entries its value, or takes its place away where the entry has none. All other keys keep what
@@ -193,11 +212,8 @@ impl<V: Drop> Staged<V> {
         ensures err { OnErr result (self.new ≡ self.old) }
         ensures absent { OnErr result (has_place self.old key ≡ false) }
     {
-        match self.find(key) {
-            Some(i) => {
-                self.hints[slot(key)] = i;
-                Ok(())
-            }
+        match self.find_noted(key) {
+            Some(_) => Ok(()),
             None => self.add_place(key),
         }
     }
@@ -208,9 +224,23 @@ impl<V: Drop> Staged<V> {
         ensures ok { OnOk result (Reserves self.old self.new (key ∷ [])) }
         ensures err { OnErr result (self.new ≡ self.old) }
     {
-        let (i, _) = self.places.insert_full(key, None)?;
-        self.hints[slot(key)] = i;
+        self.widen_hints();
+        self.hints.note(key, self.places.len());
+        self.places.insert_full(key, None)?;
         Ok(())
+    }
+
+    /// Where there are few slots for one place more, makes more and notes each key's place in them. Without memory for them all stays.
+    fn widen_hints(&mut self)
+        ensures { self.new ≡ self.old }
+    {
+        if !self.hints.are_few_for(self.places.len()) {
+            return;
+        }
+        if let Ok(mut hints) = self.hints.wider(*self.places.allocator()) {
+            note_all(&self.places, &mut hints);
+            self.hints = hints;
+        }
     }
 
     /// The keys that have a value, ascending.
@@ -223,16 +253,18 @@ impl<V: Drop> Staged<V> {
     }
 
     /// Moves the values out, each with its key, from the last place to the first. No key has a place afterwards, and the
-    /// room stays. On an error some of them may be gone.
+    /// room stays. On an error all are still there.
     pub fn take_entries(&mut self) -> Result<Vec<(u64, Option<V>)>, Memory>
         ensures each { IfOk result (λ entries. (key : ℕ) → staged_entry entries.items key ≡ option_map Some (value_at self.old key)) }
         ensures distinct { IfOk result (λ entries. AreOfDifferentKeys entries.items) }
         ensures none { OnOk result (self.new ≡ []) }
+        ensures same { OnErr result (self.new ≡ self.old) }
     {
         let count = self.places.len();
         let mut entries = Vec::with_capacity(*self.places.allocator(), count)?;
         while let Some((key, value)) = self.places.pop() {
-            push_held(&mut entries, key, value)?;
+            self.hints.forget(key);
+            push_held(&mut entries, key, value);
         }
         Ok(entries)
     }
@@ -257,23 +289,24 @@ impl<V: Drop> Staged<V> {
     }
 }
 
-/// Which hint is a key's.
-fn slot(key: u64) -> usize
-    ensures { result < HINTS }
+/// Notes the place of each key.
+fn note_all<V>(places: &IndexMap<u64, Option<V>>, hints: &mut Hints)
+    ensures { AreNoted hints.new places.now.entries }
 {
-    (key % HINTS as u64) as usize
+    for i in 0..places.len() {
+        let (key, _) = places.get_index(i).unwrap();
+        hints.note(*key, i);
+    }
 }
 
-/// Appends the entry of a place, where it has a value.
-fn push_held<V: Drop>(
-    entries: &mut Vec<(u64, Option<V>)>,
-    key: u64,
-    value: Option<V>,
-) -> Result<(), Memory>
-    ensures { OnOk result (entries.new.items ≡ entries.old.items ++ filter (λ place. is_some place.1) ((key, value) ∷ [])) }
+/// Appends the entry of a place, where it has a value. There is room for it.
+fn push_held<V: Drop>(entries: &mut Vec<(u64, Option<V>)>, key: u64, value: Option<V>)
+    requires room { vec_len entries.old < vec_capacity entries.old }
+    ensures items { entries.new.items ≡ entries.old.items ++ filter (λ place. is_some place.1) ((key, value) ∷ []) }
+    ensures len { vec_len entries.new ≤ vec_len entries.old + 1 }
+    ensures capacity { vec_capacity entries.old ≤ vec_capacity entries.new }
 {
     if value.is_some() {
-        entries.push((key, value))?;
+        let _ = entries.push((key, value));
     }
-    Ok(())
 }

@@ -7,8 +7,12 @@ use Rattle.std.specs.Option.{option_copied_mut, option_flatten}
 use Rattle.indexmap.proofs.CallerLemmas.{keys-with_value_at, updates-with_value_at}
 use Rattle.staged_map.specs.Staged.{key_of_place, value_at}
 use Rattle.staged_map.proofs.Changes.{Sets-at}
+use Rattle.staged_map.proofs.Noting.{AreNoted-keys}
 use Rattle.staged_map.proofs.Places.{key_place-at, slice-place}
 use Rattle.staged_map.proofs.staged.Staged.set_at.Goals as goal
+
+pub invariant_of-self : goal.invariant_of-self
+invariant_of-self g c = AreNoted-keys c.self.inside.hints c.self.inside.places.entries _ (keys-with_value_at c.self.inside.places c.args.i c.replace.new.self) c.self.invariant
 
 pub returns-clause-had : goal.returns-clause-had
 returns-clause-had g c =
