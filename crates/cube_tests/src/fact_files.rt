@@ -1,10 +1,9 @@
 //! Files of facts that are imported into stores, and exported from them.
+use crate::fact_tables::{FactRow, SpreadRow};
 use crate::limits::large_schema;
 use crate::runs::{ALL, Ending, WHOLE, run_kept};
 use crate::store_faults::{Fault, end_so};
-use crate::stored::{
-    CITIES, FACTS, FactRow, SPREADS, SpreadRow, holds_just, is_spread, run_stored, without_facts,
-};
+use crate::stored::{CITIES, FACTS, SPREADS, holds_just, is_spread, run_stored, without_facts};
 use cube_base::{Code, Memory};
 use fact_keeper::{Batch, MemKeeper};
 use std::alloc::{AllocError, Global};

@@ -1,10 +1,11 @@
 //! Dimensions that grow.
 use crate::distributions::QUALITY;
+use crate::fact_tables::SpreadRow;
 use crate::limits::{large_dimensions, large_schema, push_nodes};
 use crate::replies::{ROOT, UNEVEN};
 use crate::runs::{ALL, Case, Ending, REPAIRS, WHOLE, hold, join_texts, run, run_kept};
 use crate::store_faults::{Fault, end_so};
-use crate::stored::{REPAIR_FACTS, REPAIR_SPREADS, SpreadRow, holds_just, keeper_of};
+use crate::stored::{REPAIR_FACTS, REPAIR_SPREADS, holds_just, keeper_of};
 use crate::weights::BY_REPAIRS;
 use cube_base::Memory;
 use fact_keeper::MemKeeper;

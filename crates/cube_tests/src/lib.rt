@@ -4,6 +4,8 @@
 #[cfg(test)]
 mod asked;
 #[cfg(test)]
+mod calls;
+#[cfg(test)]
 mod cubes;
 #[cfg(test)]
 mod distributions;
@@ -15,8 +17,11 @@ mod ends;
 mod examples;
 #[cfg(test)]
 mod fact_files;
+pub mod fact_tables;
 #[cfg(test)]
 mod faults;
+#[cfg(test)]
+mod feeds;
 #[cfg(test)]
 mod fractions;
 #[cfg(test)]
@@ -33,14 +38,16 @@ mod rebuilt;
 mod replies;
 #[cfg(test)]
 mod rounds;
-pub mod runs;
+#[cfg(test)]
+mod runs;
 #[cfg(test)]
 mod schemas;
 #[cfg(test)]
 mod steps;
 #[cfg(test)]
 mod store_faults;
-pub mod stored;
+#[cfg(test)]
+mod stored;
 #[cfg(test)]
 mod stores;
 #[cfg(test)]

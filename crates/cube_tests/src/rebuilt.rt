@@ -1,6 +1,7 @@
 //! Stores whose rows are put right.
+use crate::fact_tables::SpreadRow;
 use crate::runs::{Ending, Outside, WHOLE};
-use crate::stored::{CITIES, Content, FACTS, SPREADS, SpreadRow, holds_just, run_stored};
+use crate::stored::{CITIES, Content, FACTS, SPREADS, holds_just, run_stored};
 use crate::stores::{BatchIds, has_batches};
 use cube_base::Memory;
 use std::alloc::Global;

@@ -51,7 +51,7 @@ pub enum Ending {
 }
 
 /// How a run ends that ends so.
-pub fn ending_of(end: &End) -> Ending {
+fn ending_of(end: &End) -> Ending {
     match end {
         End::Finished { refused } => Ending::Finished { refused: *refused },
         End::Usage => Ending::Usage,
@@ -89,7 +89,7 @@ pub fn ending_of(end: &End) -> Ending {
 }
 
 /// How a run ended, what it wrote, and how many bytes of the input it left.
-pub type Outcome = (End, MemSink, usize);
+type Outcome = (End, MemSink, usize);
 
 /// The same, to be compared.
 #[derive(Drop)]
@@ -126,7 +126,7 @@ pub fn source_of(
 }
 
 /// Runs the words over a source and a keeper.
-pub fn run_from(
+fn run_from(
     alloc: Global,
     words: &[&str],
     source: &mut MemSource,

@@ -1,21 +1,14 @@
-//! Contents of stores, written out as tables.
+//! Contents of stores, and runs over them.
+use crate::fact_tables::{FactRow, SpreadRow, facts_of, rows_of};
 use crate::runs::{Outside, Ran, run_kept};
-use cube_base::{Bytes, Ids, Memory, SharedPairs};
-use fact_keeper::{
-    ColNums, KeptFact, KeptFacts, KeptRows, KeptRowsList, MemKeeper, NodeNums, Stored,
-};
+use cube_base::{Bytes, Ids, Memory};
+use fact_keeper::{KeptFact, KeptRows, MemKeeper, Stored};
 use std::alloc::Global;
 
 /// Two cities of a state, with the number measure Hours, under the policy of counts. The nodes are All 0, TX 1, Austin 2 and Dallas 3;
 /// the cells Austin 0 and Dallas 1.
 pub const CITIES: &str =
     "cube\t1\npolicy\tcount\nnumber\tHours\ndimension\tPlace\nnode\t0\tAll\nnode\t1\tTX\nnode\t2\tAustin\nnode\t2\tDallas\nend\n";
-
-/// The id, the nodes and the values of a fact.
-pub type FactRow = (u64, &'static [u32], &'static [i64]);
-
-/// The id of a fact, the denominator of its weights, and the cells with their weights.
-pub type SpreadRow = (u64, u64, &'static [(u64, u64)]);
 
 /// Two facts in Austin, one in Dallas, and one in some city of Texas.
 pub const FACTS: [FactRow; 4] = [
@@ -49,44 +42,6 @@ pub const REPAIR_SPREADS: [SpreadRow; 4] = [
     (3, 1, &[(4, 1)]),
     (4, 3, &[(0, 2), (4, 1)]),
 ];
-
-/// The kept fact of a row.
-fn fact_of(alloc: Global, row: &FactRow) -> Result<KeptFact, Memory> {
-    let (id, nodes, cols) = *row;
-    Ok(KeptFact {
-        id,
-        nodes: NodeNums::from(Vec::from_slice(alloc, nodes)?),
-        cols: ColNums::from(Vec::from_slice(alloc, cols)?),
-    })
-}
-
-/// The kept facts of a table.
-pub fn facts_of(alloc: Global, table: &[FactRow]) -> Result<KeptFacts, Memory> {
-    let mut facts = KeptFacts::new(alloc);
-    for row in table {
-        facts.push(fact_of(alloc, row)?)?;
-    }
-    Ok(facts)
-}
-
-/// The kept rows of a row.
-fn spread_of(alloc: Global, row: &SpreadRow) -> Result<KeptRows, Memory> {
-    let (id, den, rows) = *row;
-    Ok(KeptRows {
-        id,
-        den,
-        rows: SharedPairs::from_vec(alloc, Vec::from_slice(alloc, rows)?)?,
-    })
-}
-
-/// The kept rows of a table.
-pub fn rows_of(alloc: Global, table: &[SpreadRow]) -> Result<KeptRowsList, Memory> {
-    let mut list = KeptRowsList::new(alloc);
-    for row in table {
-        list.push(spread_of(alloc, row)?)?;
-    }
-    Ok(list)
-}
 
 /// A keeper of these facts, spread so, over the text of a schema, of which the calls of these numbers fail.
 pub fn keeper_of(

@@ -1,10 +1,11 @@
 //! Stores that are made, worked on and audited.
+use crate::fact_tables::{FactRow, SpreadRow};
 use crate::limits::large_schema;
 use crate::replies::FOUR_REPAIRS;
 use crate::runs::{Ending, REPAIRS, WHOLE, join_texts, run, run_kept, run_over};
 use crate::stored::{
-    CITIES, FACTS, FactRow, REPAIR_FACTS, REPAIR_SPREADS, SPREADS, SpreadRow, holds_just,
-    is_spread, keeper_of, run_stored, without_facts,
+    CITIES, FACTS, REPAIR_FACTS, REPAIR_SPREADS, SPREADS, holds_just, is_spread, keeper_of,
+    run_stored, without_facts,
 };
 use cube_base::{Code, Memory};
 use cube_cli::End;

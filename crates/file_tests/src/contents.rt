@@ -1,6 +1,6 @@
 //! Contents of stores and batches, written out as tables.
 use cube_base::{Bytes, Ids, Memory};
-use cube_tests::stored::{FactRow, SpreadRow, facts_of, rows_of};
+use cube_tests::fact_tables::{FactRow, SpreadRow, facts_of, rows_of};
 use fact_keeper::{Batch, KeptFact, KeptRows, Stored};
 use std::alloc::Global;
 

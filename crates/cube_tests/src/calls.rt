@@ -1,9 +1,9 @@
 //! Each call of the source, the sink and the keeper failing in turn. A script with lines of every kind runs over a
 //! store, leads a feed from it, and another store follows that. A run without a fault over the parts of the input that
 //! are done by then gives how such a run ends, what it writes and what is kept.
+use crate::runs::{Ending, Outside, WHOLE};
+use crate::stored::{KeptRun, are_same, run_stored, without_facts};
 use cube_base::Memory;
-use cube_tests::runs::{Ending, Outside, WHOLE};
-use cube_tests::stored::{KeptRun, are_same, run_stored, without_facts};
 use std::alloc::{AllocError, Global};
 
 /// Places and autos, with a number measure and a distribution, the policy of counts, and a view of states by kinds of autos.

@@ -1,10 +1,10 @@
 //! Feeds: what a leader writes, what a follower makes of one, and where one stops it.
-use cube_base::{Code, Memory};
-use cube_tests::runs::{Ending, REPAIRS, WHOLE, join_texts, run_kept};
-use cube_tests::stored::{
-    CITIES, Content, FactRow, REPAIR_FACTS, REPAIR_SPREADS, SpreadRow, holds_just, keeper_of,
-    run_stored, without_facts,
+use crate::fact_tables::{FactRow, SpreadRow};
+use crate::runs::{Ending, REPAIRS, WHOLE, join_texts, run_kept};
+use crate::stored::{
+    CITIES, Content, REPAIR_FACTS, REPAIR_SPREADS, holds_just, keeper_of, run_stored, without_facts,
 };
+use cube_base::{Code, Memory};
 use fact_keeper::MemKeeper;
 use std::alloc::{AllocError, Global};
 
