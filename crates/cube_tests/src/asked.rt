@@ -1,7 +1,7 @@
 //! Lines that are asked of a store, one a run.
 use crate::runs::{Ending, Outside, WHOLE};
 use crate::store_faults::has_kept;
-use crate::stored::{CITIES, Content, FACTS, SPREADS, run_words};
+use crate::stored::{CITIES, Held, Holding, NOTHING, ROWLESS, content_of, run_words};
 use cube_base::Memory;
 use std::alloc::Global;
 
@@ -9,16 +9,13 @@ use std::alloc::Global;
 const INPUT: &str = "insert\t9\tAustin\t10\n";
 
 /// Four facts in two cities.
-const FULL: Content<'static> = (CITIES, &FACTS, &SPREADS);
-
-/// Facts without their rows.
-const UNSOUND: Content<'static> = (CITIES, &FACTS, &[]);
+const FULL: Holding = (CITIES, Held::Cities, Held::Cities);
 
 /// The words, what the store holds, the number of the keeper's call that fails and that of the write; how the run ends, what is written, how
 /// many batches are kept, and the ids of the facts that the store then has.
 type Asked = (
     &'static [&'static str],
-    Content<'static>,
+    Holding,
     u64,
     u64,
     Ending,
@@ -140,7 +137,7 @@ const LINES: [Asked; 11] = [
 const ENDS: [Asked; 7] = [
     (
         &["ask", "s", "\n"],
-        ("", &[], &[]),
+        NOTHING,
         0,
         0,
         Ending::NoCube,
@@ -150,7 +147,7 @@ const ENDS: [Asked; 7] = [
     ),
     (
         &["ask", "s", "\n"],
-        UNSOUND,
+        ROWLESS,
         0,
         0,
         Ending::BadStore,
@@ -212,7 +209,7 @@ const ENDS: [Asked; 7] = [
 
 /// Whether a line is answered so, and all of the input left.
 fn is_answered(alloc: Global, row: &Asked) -> Result<bool, Memory> {
-    let (words, content, keep_fails, write_fails, end, written, batches, ids) = *row;
+    let (words, holding, keep_fails, write_fails, end, written, batches, ids) = *row;
     let outside = Outside {
         write_fails,
         ..WHOLE
@@ -220,7 +217,7 @@ fn is_answered(alloc: Global, row: &Asked) -> Result<bool, Memory> {
     let kept = run_words(
         alloc,
         words,
-        content,
+        content_of(holding),
         keep_fails,
         INPUT.as_bytes(),
         &outside,

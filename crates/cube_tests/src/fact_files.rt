@@ -46,7 +46,8 @@ const NO_MOOD: &str = "id,Place,Mood\n";
 
 const NO_MIXED: &str = "id,Place,Auto,Repair,Mood\n";
 
-const FILES: [File; 68] = [
+/// Repairs, and headers.
+const FILES: [File; 12] = [
     (
         PARIS,
         b"\xef\xbb\xbfid,Place,Auto,Repair\r\n1,\"Paris, TX\",Camry,100\r\n2,TX,Camry,600\n",
@@ -102,7 +103,10 @@ const FILES: [File; 68] = [
         "imported\t0\t0\n",
         NO_PLACE,
     ),
-    // Each code at a record, and two at once.
+];
+
+/// Each code at a record, and two at once.
+const BAD_RECORDS: [File; 13] = [
     (
         PLACES,
         b"id,Place\n1\n",
@@ -195,7 +199,10 @@ const FILES: [File; 68] = [
         "",
         NO_PLACE,
     ),
-    // Quotes, line ends, empty lines.
+];
+
+/// Quotes, line ends, empty lines.
+const QUOTED_FILES: [File; 13] = [
     (
         MOODS,
         b"id,Place,Mood\n2,\"a \"\"b\"\", c\",80:20\n1,\"\"\"\"\"\",0:100\n",
@@ -287,7 +294,10 @@ const FILES: [File; 68] = [
         "imported\t3\t3\n",
         "id,Place\n1,a\n3,b\n9223372036854775807,All\n",
     ),
-    // Of two measures: the header, records of any length, one wrong field or more.
+];
+
+/// Of two measures: the header, records of any length, one wrong field or more.
+const FILES_OF_TWO_MEASURES: [File; 30] = [
     (MIXED, b"\n\n", Some((0, Code::Header)), "", NO_MIXED),
     (
         MIXED,
@@ -531,6 +541,21 @@ fn are_imported(alloc: Global, rows: &[File]) -> bool {
 #[test]
 fn files_of_facts(rt: HostRuntime) {
     assert!(rt; are_imported(rt.alloc(), &FILES));
+}
+
+#[test]
+fn files_with_bad_records(rt: HostRuntime) {
+    assert!(rt; are_imported(rt.alloc(), &BAD_RECORDS));
+}
+
+#[test]
+fn files_with_quotes(rt: HostRuntime) {
+    assert!(rt; are_imported(rt.alloc(), &QUOTED_FILES));
+}
+
+#[test]
+fn files_of_two_measures(rt: HostRuntime) {
+    assert!(rt; are_imported(rt.alloc(), &FILES_OF_TWO_MEASURES));
 }
 
 /// What a store of cities has once a fifth fact is put in Dallas: the fourth lies half in Austin and half there.

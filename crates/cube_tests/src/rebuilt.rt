@@ -1,12 +1,15 @@
 //! Stores whose rows are put right.
-use crate::fact_tables::SpreadRow;
+use crate::fact_tables::{FactRow, SpreadRow};
 use crate::runs::{Ending, Outside, WHOLE};
-use crate::stored::{CITIES, Content, FACTS, SPREADS, holds_just, run_stored};
+use crate::stored::{
+    CITIES, Content, Held, Holding, NOTHING, ROWLESS, SPREADS, content_of, facts_held, holds_just,
+    run_stored, spreads_held,
+};
 use crate::stores::{BatchIds, has_batches};
 use cube_base::Memory;
 use std::alloc::Global;
 
-/// What the store holds, the number of the keeper's call that fails and that of the write; how the run ends, what is written, the ids
+/// What a store holds, the number of the keeper's call that fails and that of the write; how the run ends, what is written, the ids
 /// of the batches, and the rows that are kept then.
 type Rebuilt = (
     Content<'static>,
@@ -18,177 +21,159 @@ type Rebuilt = (
     &'static [SpreadRow],
 );
 
-const DONE: Ending = Ending::Finished { refused: 0 };
+/// The facts and the rows that a store of the two cities holds; what is written, the ids of the batches, and the rows that are kept then.
+type PutRight = (
+    Held,
+    &'static [SpreadRow],
+    &'static str,
+    &'static [BatchIds],
+    Held,
+);
 
 /// Rows that are right; none; a weight, a denominator and a cell that are others; one fact's that are missing; those of an id without a
 /// fact, alone and before the others; rows in another order; and those of an id twice.
-const REBUILT: [Rebuilt; 9] = [
+const REBUILT: [PutRight; 9] = [
     (
-        (CITIES, &FACTS, &SPREADS),
-        0,
-        0,
-        DONE,
+        Held::Cities,
+        &SPREADS,
         "rebuilt\t4\t5\t0\n",
         &[],
-        &SPREADS,
+        Held::Cities,
     ),
     (
-        (CITIES, &FACTS, &[]),
-        0,
-        0,
-        DONE,
+        Held::Cities,
+        &[],
         "rebuilt\t4\t5\t4\n",
         &[(&[], &[], &[1, 2, 3, 4])],
-        &SPREADS,
+        Held::Cities,
     ),
     (
-        (
-            CITIES,
-            &FACTS,
-            &[
-                (1, 1, &[(0, 1)]),
-                (2, 1, &[(1, 1)]),
-                (3, 1, &[(0, 1)]),
-                (4, 3, &[(0, 1), (1, 2)]),
-            ],
-        ),
-        0,
-        0,
-        DONE,
+        Held::Cities,
+        &[
+            (1, 1, &[(0, 1)]),
+            (2, 1, &[(1, 1)]),
+            (3, 1, &[(0, 1)]),
+            (4, 3, &[(0, 1), (1, 2)]),
+        ],
         "rebuilt\t4\t5\t1\n",
         &[(&[], &[], &[4])],
-        &SPREADS,
+        Held::Cities,
     ),
     (
-        (
-            CITIES,
-            &FACTS,
-            &[
-                (1, 2, &[(0, 1)]),
-                (2, 1, &[(0, 1)]),
-                (3, 1, &[(0, 1)]),
-                (4, 3, &[(0, 2), (1, 1)]),
-            ],
-        ),
-        0,
-        0,
-        DONE,
+        Held::Cities,
+        &[
+            (1, 2, &[(0, 1)]),
+            (2, 1, &[(0, 1)]),
+            (3, 1, &[(0, 1)]),
+            (4, 3, &[(0, 2), (1, 1)]),
+        ],
         "rebuilt\t4\t5\t2\n",
         &[(&[], &[], &[1, 2])],
-        &SPREADS,
+        Held::Cities,
     ),
     (
-        (
-            CITIES,
-            &FACTS,
-            &[
-                (1, 1, &[(0, 1)]),
-                (3, 1, &[(0, 1)]),
-                (4, 3, &[(0, 2), (1, 1)]),
-            ],
-        ),
-        0,
-        0,
-        DONE,
+        Held::Cities,
+        &[
+            (1, 1, &[(0, 1)]),
+            (3, 1, &[(0, 1)]),
+            (4, 3, &[(0, 2), (1, 1)]),
+        ],
         "rebuilt\t4\t5\t1\n",
         &[(&[], &[], &[2])],
-        &SPREADS,
+        Held::Cities,
     ),
     (
-        (
-            CITIES,
-            &FACTS,
-            &[
-                (1, 1, &[(0, 1)]),
-                (2, 1, &[(1, 1)]),
-                (3, 1, &[(0, 1)]),
-                (4, 3, &[(0, 2), (1, 1)]),
-                (9, 1, &[(0, 1)]),
-            ],
-        ),
-        0,
-        0,
-        DONE,
+        Held::Cities,
+        &[
+            (1, 1, &[(0, 1)]),
+            (2, 1, &[(1, 1)]),
+            (3, 1, &[(0, 1)]),
+            (4, 3, &[(0, 2), (1, 1)]),
+            (9, 1, &[(0, 1)]),
+        ],
         "rebuilt\t4\t5\t1\n",
         &[(&[9], &[], &[])],
-        &SPREADS,
+        Held::Cities,
     ),
     (
-        (CITIES, &[], &[(2, 1, &[(0, 1)]), (7, 1, &[])]),
-        0,
-        0,
-        DONE,
+        Held::Nothing,
+        &[(2, 1, &[(0, 1)]), (7, 1, &[])],
         "rebuilt\t0\t0\t2\n",
         &[(&[2, 7], &[], &[])],
-        &[],
+        Held::Nothing,
     ),
     (
-        (
-            CITIES,
-            &FACTS,
-            &[
-                (4, 3, &[(0, 2), (1, 1)]),
-                (1, 1, &[(0, 1)]),
-                (2, 1, &[(1, 1)]),
-                (3, 1, &[(0, 1)]),
-            ],
-        ),
-        0,
-        0,
-        DONE,
+        Held::Cities,
+        &[
+            (4, 3, &[(0, 2), (1, 1)]),
+            (1, 1, &[(0, 1)]),
+            (2, 1, &[(1, 1)]),
+            (3, 1, &[(0, 1)]),
+        ],
         "rebuilt\t4\t5\t4\n",
         &[(&[], &[], &[1, 2, 3, 4])],
-        &SPREADS,
+        Held::Cities,
     ),
     (
-        (
-            CITIES,
-            &FACTS,
-            &[
-                (1, 1, &[(0, 1)]),
-                (2, 1, &[(1, 1)]),
-                (2, 1, &[(1, 1)]),
-                (3, 1, &[(0, 1)]),
-                (4, 3, &[(0, 2), (1, 1)]),
-            ],
-        ),
-        0,
-        0,
-        DONE,
+        Held::Cities,
+        &[
+            (1, 1, &[(0, 1)]),
+            (2, 1, &[(1, 1)]),
+            (2, 1, &[(1, 1)]),
+            (3, 1, &[(0, 1)]),
+            (4, 3, &[(0, 2), (1, 1)]),
+        ],
         "rebuilt\t4\t5\t4\n",
         &[(&[], &[], &[1, 2, 3, 4])],
-        &SPREADS,
+        Held::Cities,
     ),
 ];
 
-/// Facts whose rows are missing.
-const ROWLESS: Content<'static> = (CITIES, &FACTS, &[]);
+/// Facts of which one is bad, whatever the rows.
+const BAD_FACTS: [&[FactRow]; 2] = [&[(0, &[2], &[10])], &[(1, &[4], &[10])]];
 
-/// What is no cube, or bad in its schema or its facts, whatever its rows; and faults at the load, the commit and the write. A reply that
-/// cannot be written leaves the rows right.
-const REFUSED: [Rebuilt; 8] = [
-    (("", &[], &[]), 0, 0, Ending::NoCube, "", &[], &[]),
-    (("x\n", &FACTS, &[]), 0, 0, Ending::BadStore, "", &[], &[]),
+/// The same of a run that ends otherwise.
+type Refused = (
+    Holding,
+    u64,
+    u64,
+    Ending,
+    &'static str,
+    &'static [BatchIds],
+    Held,
+);
+
+/// What is no cube, or bad in its schema; and faults at the load, the commit and the write. A reply that cannot be written leaves the rows
+/// right.
+const REFUSED: [Refused; 6] = [
+    (NOTHING, 0, 0, Ending::NoCube, "", &[], Held::Nothing),
     (
-        (CITIES, &[(0, &[2], &[10])], &[]),
+        ("x\n", Held::Cities, Held::Nothing),
         0,
         0,
         Ending::BadStore,
         "",
         &[],
-        &[],
+        Held::Nothing,
     ),
     (
-        (CITIES, &[(1, &[4], &[10])], &[]),
+        ROWLESS,
+        1,
         0,
-        0,
-        Ending::BadStore,
+        Ending::KeepFault { done: 0 },
         "",
         &[],
-        &[],
+        Held::Nothing,
     ),
-    (ROWLESS, 1, 0, Ending::KeepFault { done: 0 }, "", &[], &[]),
-    (ROWLESS, 2, 0, Ending::KeepFault { done: 0 }, "", &[], &[]),
+    (
+        ROWLESS,
+        2,
+        0,
+        Ending::KeepFault { done: 0 },
+        "",
+        &[],
+        Held::Nothing,
+    ),
     (
         ROWLESS,
         0,
@@ -196,16 +181,16 @@ const REFUSED: [Rebuilt; 8] = [
         Ending::WriteFault { done: 1 },
         "",
         &[(&[], &[], &[1, 2, 3, 4])],
-        &SPREADS,
+        Held::Cities,
     ),
     (
-        (CITIES, &FACTS, &SPREADS),
+        (CITIES, Held::Cities, Held::Cities),
         0,
         1,
         Ending::WriteFault { done: 0 },
         "",
         &[],
-        &SPREADS,
+        Held::Cities,
     ),
 ];
 
@@ -227,9 +212,60 @@ fn is_rebuilt(alloc: Global, row: &Rebuilt) -> Result<bool, Memory> {
     Ok(is_right)
 }
 
-fn are_rebuilt(alloc: Global, rows: &[Rebuilt]) -> bool {
+/// Whether the rows of a store are put right so.
+fn is_put_right(alloc: Global, row: &PutRight) -> Result<bool, Memory> {
+    let (facts, before, written, batches, after) = *row;
+    let content = (CITIES, facts_held(facts), before);
+    let end = Ending::Finished { refused: 0 };
+    let rows = spreads_held(after);
+    is_rebuilt(alloc, &(content, 0, 0, end, written, batches, rows))
+}
+
+fn are_put_right(alloc: Global, rows: &[PutRight]) -> bool {
     for row in rows {
-        if is_rebuilt(alloc, row) != Ok(true) {
+        if is_put_right(alloc, row) != Ok(true) {
+            return false;
+        }
+    }
+    true
+}
+
+/// Whether it ends otherwise so.
+fn is_refused(alloc: Global, row: &Refused) -> Result<bool, Memory> {
+    let (holding, keep_fails, write_fails, end, written, batches, after) = *row;
+    let (content, rows) = (content_of(holding), spreads_held(after));
+    is_rebuilt(
+        alloc,
+        &(
+            content,
+            keep_fails,
+            write_fails,
+            end,
+            written,
+            batches,
+            rows,
+        ),
+    )
+}
+
+fn are_refused(alloc: Global, rows: &[Refused]) -> bool {
+    for row in rows {
+        if is_refused(alloc, row) != Ok(true) {
+            return false;
+        }
+    }
+    true
+}
+
+/// Whether a store of such facts stays as it is.
+fn are_bad(alloc: Global, facts: &'static [FactRow]) -> Result<bool, Memory> {
+    let content = (CITIES, facts, spreads_held(Held::Nothing));
+    is_rebuilt(alloc, &(content, 0, 0, Ending::BadStore, "", &[], &[]))
+}
+
+fn are_all_bad(alloc: Global, lists: &[&'static [FactRow]]) -> bool {
+    for facts in lists {
+        if are_bad(alloc, facts) != Ok(true) {
             return false;
         }
     }
@@ -238,10 +274,15 @@ fn are_rebuilt(alloc: Global, rows: &[Rebuilt]) -> bool {
 
 #[test]
 fn rows_are_put_right(rt: HostRuntime) {
-    assert!(rt; are_rebuilt(rt.alloc(), &REBUILT));
+    assert!(rt; are_put_right(rt.alloc(), &REBUILT));
 }
 
 #[test]
 fn rebuilding_is_refused(rt: HostRuntime) {
-    assert!(rt; are_rebuilt(rt.alloc(), &REFUSED));
+    assert!(rt; are_refused(rt.alloc(), &REFUSED));
+}
+
+#[test]
+fn bad_facts_stay(rt: HostRuntime) {
+    assert!(rt; are_all_bad(rt.alloc(), &BAD_FACTS));
 }

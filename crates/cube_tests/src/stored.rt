@@ -60,6 +60,50 @@ pub fn keeper_of(
     Ok(MemKeeper::new(alloc, content, fails))
 }
 
+/// Which of these lists a store holds. A table names it by a word: the prover unfolds each list that a table holds, wherever it stands.
+#[derive(Clone, Copy)]
+pub enum Held {
+    Nothing,
+    Cities,
+    Repairs,
+}
+
+/// The facts that a word names.
+pub fn facts_held(held: Held) -> &'static [FactRow] {
+    match held {
+        Held::Nothing => &[],
+        Held::Cities => &FACTS,
+        Held::Repairs => &REPAIR_FACTS,
+    }
+}
+
+static CITY_SPREADS: [SpreadRow; 4] = SPREADS;
+
+static STATE_SPREADS: [SpreadRow; 4] = REPAIR_SPREADS;
+
+/// How the facts that a word names are spread.
+pub fn spreads_held(held: Held) -> &'static [SpreadRow] {
+    match held {
+        Held::Nothing => &[],
+        Held::Cities => &CITY_SPREADS,
+        Held::Repairs => &STATE_SPREADS,
+    }
+}
+
+/// The text of a schema, with the words of its facts and of their rows.
+pub type Holding = (&'static str, Held, Held);
+
+/// Nothing, and the facts in the two cities without their rows.
+pub const NOTHING: Holding = ("", Held::Nothing, Held::Nothing);
+
+pub const ROWLESS: Holding = (CITIES, Held::Cities, Held::Nothing);
+
+/// What stands so in a store.
+pub fn content_of(holding: Holding) -> Content<'static> {
+    let (schema, facts, spreads) = holding;
+    (schema, facts_held(facts), spreads_held(spreads))
+}
+
 /// The text of a schema, with facts and rows that are kept over it.
 pub type Content<'a> = (&'a str, &'a [FactRow], &'a [SpreadRow]);
 
