@@ -3,9 +3,9 @@ use Rattle.std.proofs.Common.{◌≡◌, ℕ, ◌+◌, ◌<◌, ◌≤◌, Bool,
 use Rattle.std.specs.Prelude.{◌&&◌, ◌||◌, ◌==◌, if◌then◌else◌, nat_lt, IfSome, Option, Some, None, is_some, unwrap_or}
 use Rattle.std.specs.Cmp.{nat_eq_equiv}
 use Rattle.std.specs.List.{IsDistinct, list_any}
-use Rattle.std.specs.Option.{MatchOption, option_flatten, option_map_or, option_to_list}
+use Rattle.std.specs.Option.{option_flatten, option_map_or}
 use Rattle.std.proofs.lemmas.Bool.Decides.{nat_tests}
-use Rattle.std.proofs.lemmas.List.{map-append, take_more}
+use Rattle.std.proofs.lemmas.List.{map-append}
 use Rattle.std.proofs.lemmas.List.Elements.{filter_more}
 use Rattle.std.proofs.lemmas.List.Folds.{list_any-append}
 use Rattle.std.proofs.lemmas.Map.Keys.{IsDistinct-from_apart}
@@ -26,7 +26,7 @@ among-filter p ids id = any-filter_same (λ m. m == id) p (p id) (λ m same. let
 pub among-append : (xs ys : List ℕ) (id : ℕ) → is_among (xs ++ ys) id ≡ (is_among xs id || is_among ys id)
 among-append xs ys id = list_any-append (λ m. m == id) xs ys
 
-among-with_id : (new : ℕ) (ids : List ℕ) (id : ℕ) → is_among (with_id new ids) id ≡ ((new == id) || is_among ids id)
+pub among-with_id : (new : ℕ) (ids : List ℕ) (id : ℕ) → is_among (with_id new ids) id ≡ ((new == id) || is_among ids id)
 among-with_id new ids id =
     among-append (filter (λ i. nat_lt i new) ids) (new ∷ filter (λ i. nat_lt new i) ids) id
     ∙ rw (among-filter (λ i. nat_lt i new) ids id, among-filter (λ i. nat_lt new i) ids id) (grind (arith, nat_tests))
@@ -53,7 +53,7 @@ cases_lt i j = either (nat_lt i j) refl
     either false is = inr (grind (arith, nat_tests, is))
 
 -- the smaller numbers, then the new one, then the greater ones
-ascends-parts : (least new : ℕ) (ids : List ℕ) → ascends_from (λ i. i) least ids ≡ true → least ≤ new → ascends_from (λ i. i) least (with_id new ids) ≡ true
+pub ascends-parts : (least new : ℕ) (ids : List ℕ) → ascends_from (λ i. i) least ids ≡ true → least ≤ new → ascends_from (λ i. i) least (with_id new ids) ≡ true
 ascends-parts least new [] ascends from = ascends_cons (λ i. i) least new [] (record { from = from; others = refl })
 ascends-parts least new (i ∷ ids) ascends from = either (cases_lt i new) (ascends-parts (i + 1) new ids first.others)
   where
@@ -299,19 +299,6 @@ pub kept-all : (dropped ids : List ℕ) → (length dropped == 0) ≡ true → i
 kept-all [] [] none = refl
 kept-all [] (id ∷ ids) none = ap (λ rest. id ∷ rest) (kept-all [] ids none)
 kept-all (id ∷ dropped) ids none = absurd (grind (arith, nat_tests, none))
-
--- the slice of a number that there may be
-pub as-list : (number : Option ℕ) (slice : List ℕ) → MatchOption number (slice ≡ []) (λ n. slice ≡ n ∷ []) → slice ≡ option_to_list number
-as-list None slice is = is
-as-list (Some n) slice is = is
-
--- entries of the first codes, with one more
-pub entries-next : (content : Content) (codes : List ℕ) (i : ℕ) (entries more : Entries (List ℕ)) (made : Option (List ℕ)) (puts drops : List Pair) → i < length codes
-    → entries ≡ map (changed_entry content puts drops) (take i codes) → (get_or codes i 0, made) ≡ changed_entry content puts drops (get_or codes i 0) → more ≡ entries ++ (get_or codes i 0, made) ∷ []
-    → more ≡ map (changed_entry content puts drops) (take (i + 1) codes)
-entries-next content codes i entries more made puts drops within before here is =
-    is ∙ ap (λ front. front ++ (get_or codes i 0, made) ∷ []) before ∙ ap (λ entry. map (changed_entry content puts drops) (take i codes) ++ entry ∷ []) here
-    ∙ sym (ap (map (changed_entry content puts drops)) (take_more codes i 0 within) ∙ map-append (changed_entry content puts drops) (take i codes) (get_or codes i 0 ∷ []))
 
 -- what was staged before places were made
 pub IsStagedFor-made : (inside old new : Content) (codes given reserved : List ℕ) (puts drops : List Pair) (stage : Staging) → inside ≡ old → given ≡ codes → reserved ≡ codes → stage ≡ staging old given puts drops

@@ -8,6 +8,7 @@ pub mod Indexing
 pub mod Lengths
 pub mod Noting
 pub mod NodesInLine
+pub mod OneId
 pub mod PatternCodes
 pub mod PatternNumbers
 pub mod PatternWalk

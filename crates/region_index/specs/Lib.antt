@@ -5,5 +5,6 @@ pub mod Examples
 pub mod Indexed
 pub mod Over
 pub mod Patterns
+pub mod Short
 pub mod Touching
 pub mod Walk

@@ -1,9 +1,12 @@
 //! Changes of the facts' regions: which codes they name, and what they make of the ids at one of them.
 ghost use Rattle.std.specs.Prelude.{◌≡◌, ◌∷◌, [], ◌++◌, ◌||◌, ◌==◌, ℕ, IfOk, OnOk, filter, if◌then◌else◌, map, not, ◌&&◌};
 ghost use Rattle.std.specs.List.{flat_map, list_any};
+ghost use Rattle.std.specs.Option.{option_to_list};
 ghost use Rattle.cube_model.specs.Cells.{is_among};
+ghost use Rattle.region_index.specs.Changes.{with_id};
 ghost use Rattle.region_index.specs.Content.{AreAscending, holds_ids, ids_at};
 
+use arrayvec::ArrayVec;
 use cube_base::{Ids, Memory};
 use staged_map::Staged;
 use std::alloc::{AllocError, Global};
@@ -46,6 +49,32 @@ pub fn changed_codes(
     ensures named { IfOk result (λ codes. (code : ℕ) → is_among codes.items code ≡ list_any (λ pair. pair.0 == code) (puts.now ++ drops.now)) }
 {
     Ok(sort_distinct(codes_in(alloc, puts, drops)?))
+}
+
+/// The codes that these changes name, ascending, each once.
+pub fn codes_of_two(put: Option<(u64, u64)>, dropped: Option<(u64, u64)>) -> ArrayVec<u64, 2>
+    ensures ascending { AreAscending result.items }
+    ensures named { (code : ℕ) → is_among result.items code ≡ list_any (λ pair. pair.0 == code) (option_to_list put ++ option_to_list dropped) }
+{
+    let mut codes = ArrayVec::new();
+    match (put, dropped) {
+        (Some((code, _)), Some((other, _))) => push_both(&mut codes, code, other),
+        (Some((code, _)), None) | (None, Some((code, _))) => codes.push(code),
+        (None, None) => {}
+    }
+    codes
+}
+
+/// Puts two numbers into an empty list, ascending, each once.
+fn push_both(codes: &mut ArrayVec<u64, 2>, code: u64, other: u64)
+    requires { codes.old.items ≡ [] }
+    ensures ascending { AreAscending codes.new.items }
+    ensures both { (c : ℕ) → is_among codes.new.items c ≡ ((code == c) || (other == c)) }
+{
+    codes.push(code.min(other));
+    if code != other {
+        codes.push(code.max(other));
+    }
 }
 
 /// The ids of pairs by their code, in the order of the pairs.
@@ -151,4 +180,79 @@ pub fn change_ids(
     ensures members { IfOk result (λ changed. (id : ℕ) → is_among changed.items id ≡ (is_among put.now id || (is_among ids.now id && not (is_among dropped.now id)))) }
 {
     Ok(sort_distinct(append_ids(ids_without(alloc, ids, dropped)?, put)?))
+}
+
+/// Takes an id out of ascending ones, if it is among them. It takes no memory.
+fn take_out(ids: &mut Vec<u64>, id: Option<u64>)
+    requires { AreAscending ids.old.items }
+    ensures ascending { AreAscending ids.new.items }
+    ensures members { (other : ℕ) → is_among ids.new.items other ≡ (is_among ids.old.items other && not (is_among (option_to_list id) other)) }
+{
+    if let Some(id) = id {
+        take_out_one(ids, id);
+    }
+}
+
+/// The same of an id.
+fn take_out_one(ids: &mut Vec<u64>, id: u64)
+    requires { AreAscending ids.old.items }
+    ensures { ids.new.items ≡ filter (λ other. not (other == id)) ids.old.items }
+{
+    match ids.as_slice().binary_search(&id) {
+        Ok(at) => {
+            let _ = ids.remove(at);
+        }
+        Err(_) => {}
+    }
+}
+
+/// Puts an id among ascending ones, if it is not there.
+fn put_in(ids: &mut Vec<u64>, id: Option<u64>) -> Result<(), Memory>
+    requires { AreAscending ids.old.items }
+    ensures ascending { OnOk result (AreAscending ids.new.items) }
+    ensures members { OnOk result ((other : ℕ) → is_among ids.new.items other ≡ (is_among (option_to_list id) other || is_among ids.old.items other)) }
+{
+    match id {
+        Some(id) => put_in_one(ids, id),
+        None => Ok(()),
+    }
+}
+
+/// The same of an id.
+fn put_in_one(ids: &mut Vec<u64>, id: u64) -> Result<(), Memory>
+    requires { AreAscending ids.old.items }
+    ensures { OnOk result (ids.new.items ≡ with_id id ids.old.items) }
+{
+    match ids.as_slice().binary_search(&id) {
+        Err(at) => {
+            ids.insert(at, id)?;
+            Ok(())
+        }
+        Ok(_) => Ok(()),
+    }
+}
+
+/// Equal ids, with room for one more.
+fn copy_with_room(alloc: Global, ids: &[u64]) -> Result<Vec<u64>, Memory>
+    ensures { IfOk result (λ copy. copy.items ≡ ids.now) }
+{
+    let copy = Vec::with_capacity(alloc, ids.len().saturating_add(1))?;
+    append_ids(copy, ids)
+}
+
+/// Ascending ids without one of them, and with one that is put.
+pub fn change_one(
+    alloc: Global,
+    ids: &[u64],
+    put: Option<u64>,
+    dropped: Option<u64>,
+) -> Result<Vec<u64>, Memory>
+    requires { AreAscending ids.now }
+    ensures ascending { IfOk result (λ changed. AreAscending changed.items) }
+    ensures members { IfOk result (λ changed. (id : ℕ) → is_among changed.items id ≡ (is_among (option_to_list put) id || (is_among ids.now id && not (is_among (option_to_list dropped) id)))) }
+{
+    let mut changed = copy_with_room(alloc, ids)?;
+    take_out(&mut changed, dropped);
+    put_in(&mut changed, put)?;
+    Ok(changed)
 }

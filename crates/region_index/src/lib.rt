@@ -7,6 +7,7 @@ mod climb;
 mod laws;
 mod patterns;
 mod region_index;
+mod short;
 mod steps;
 mod touching;
 mod walk;

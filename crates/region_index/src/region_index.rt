@@ -9,12 +9,13 @@ ghost use Rattle.region_index.specs.Patterns.{HasPatterns, IsListed};
 
 use crate::Steps;
 use crate::changes::{
-    ascending_copy, at_code, at_codes, by_code, change_ids, changed_codes, copy_pairs,
-    sort_distinct,
+    ascending_copy, at_code, at_codes, by_code, change_ids, change_one, changed_codes,
+    codes_of_two, copy_pairs, sort_distinct,
 };
 use crate::patterns::DepthPatterns;
+use crate::short::Short;
 use crate::walk::Walk;
-use cube_base::{Ids, Memory, Pairs};
+use cube_base::{Ids, Memory};
 use region_algebra::Space;
 use staged_map::Staged;
 use std::alloc::Global;
@@ -25,19 +26,20 @@ use std::sync::ledger::Ledger;
 /// that they name. Contracts see both.
 #[derive(Drop)]
 pub struct RegionStage {
-    puts: Pairs,
-    drops: Pairs,
+    puts: Short<(u64, u64)>,
+    drops: Short<(u64, u64)>,
     entries: Vec<(u64, Option<Ids>)>,
 }
 
 impl Model for RegionStage {
     ghost use Rattle.region_index.specs.Changes.{IsStaging, Staging};
+    ghost use Rattle.region_index.specs.Short.{items_of};
 
     ghost Value = { Staging };
 
-    ghost view = { λ s. record { puts = s.puts; drops = s.drops; entries = s.entries.items } };
+    ghost view = { λ s. record { puts = items_of s.puts; drops = items_of s.drops; entries = s.entries.items } };
 
-    ghost invariant = { λ s. IsStaging (record { puts = s.puts; drops = s.drops; entries = s.entries.items }) };
+    ghost invariant = { λ s. IsStaging (record { puts = items_of s.puts; drops = items_of s.drops; entries = s.entries.items }) };
 }
 
 /// The ids of the imprecise facts by the code of their region. No list without ids is kept: a code whose last id goes
@@ -191,10 +193,89 @@ impl RegionIndex {
         if puts.is_empty() && drops.is_empty() {
             return Ok(nothing(self.alloc));
         }
+        if puts.len() <= 1 && drops.len() <= 1 {
+            return self.stage_few(only(puts), only(drops));
+        }
         let codes = changed_codes(self.alloc, puts, drops)?;
         let stage = self.stage_at_codes(&codes, puts, drops)?;
         self.ids.reserve(&codes)?;
         Ok(stage)
+    }
+
+    /// The same where at most one id is put and at most one dropped, as by an edit: no list of codes or of changes is made.
+    fn stage_few(
+        &mut self,
+        put: Option<(u64, u64)>,
+        dropped: Option<(u64, u64)>,
+    ) -> Result<RegionStage, Memory>
+        ensures changes { IfOk result (λ stage. (stage.puts ≡ option_to_list put) × (stage.drops ≡ option_to_list dropped)) }
+        ensures staged { IfOk result (IsStagedFor self.new) }
+        ensures content { IsUnchanged self.old self.new }
+    {
+        let codes = codes_of_two(put, dropped);
+        let stage = self.few_at_codes(codes.as_slice(), put, dropped)?;
+        self.ids.reserve(codes.as_slice())?;
+        Ok(stage)
+    }
+
+    /// These changes, with the ids that they make at the codes, which are those that they name.
+    fn few_at_codes(
+        &self,
+        codes: &[u64],
+        put: Option<(u64, u64)>,
+        dropped: Option<(u64, u64)>,
+    ) -> Result<RegionStage, Memory>
+        requires { (code : ℕ) → is_among codes.now code ≡ names (option_to_list put ++ option_to_list dropped) code }
+        ensures { IfOk result (λ stage. stage ≡ staging self.now codes.now (option_to_list put) (option_to_list dropped)) }
+    {
+        Ok(RegionStage {
+            puts: Short::One(put),
+            drops: Short::One(dropped),
+            entries: self.few_entries(codes, put, dropped)?,
+        })
+    }
+
+    /// The ids that these changes make at the codes.
+    fn few_entries(
+        &self,
+        codes: &[u64],
+        put: Option<(u64, u64)>,
+        dropped: Option<(u64, u64)>,
+    ) -> Result<Vec<(u64, Option<Ids>)>, Memory>
+        ensures { IfOk result (λ entries. entries.items ≡ map (changed_entry self.now (option_to_list put) (option_to_list dropped)) codes.now) }
+    {
+        let mut entries = Vec::with_capacity(self.alloc, codes.len())?;
+        for code in codes {
+            entries.push(self.entry_of_few(*code, put, dropped)?)?;
+        }
+        Ok(entries)
+    }
+
+    /// A code with the ids that these changes make there.
+    fn entry_of_few(
+        &self,
+        code: u64,
+        put: Option<(u64, u64)>,
+        dropped: Option<(u64, u64)>,
+    ) -> Result<(u64, Option<Ids>), Memory>
+        ensures { IfOk result (λ entry. entry ≡ changed_entry self.now (option_to_list put) (option_to_list dropped) code) }
+    {
+        let ids = self.changed_by_one(code, id_at(put, code), id_at(dropped, code))?;
+        Ok((code, some_ids(ids)))
+    }
+
+    /// The ids at a code without one of them, and with one that is put, ascending.
+    fn changed_by_one(
+        &self,
+        code: u64,
+        put: Option<u64>,
+        dropped: Option<u64>,
+    ) -> Result<Vec<u64>, Memory>
+        ensures ascending { IfOk result (λ ids. AreAscending ids.items) }
+        ensures members { IfOk result (λ ids. (id : ℕ) → is_among ids.items id ≡ (is_among (option_to_list put) id || (is_among (ids_at self.now code) id && not (is_among (option_to_list dropped) id)))) }
+        ensures before { AreAscending (ids_at self.now code) }
+    {
+        change_one(self.alloc, self.ids(code), put, dropped)
     }
 
     /// The changes, with the ids that they make at the codes, which are those that they name.
@@ -208,8 +289,8 @@ impl RegionIndex {
         ensures { IfOk result (λ stage. stage ≡ staging self.now codes.now puts.now drops.now) }
     {
         Ok(RegionStage {
-            puts: Pairs::from(copy_pairs(self.alloc, puts)?),
-            drops: Pairs::from(copy_pairs(self.alloc, drops)?),
+            puts: Short::Many(copy_pairs(self.alloc, puts)?),
+            drops: Short::Many(copy_pairs(self.alloc, drops)?),
             entries: self.entries(codes, puts, drops)?,
         })
     }
@@ -223,32 +304,9 @@ impl RegionIndex {
     ) -> Result<Vec<(u64, Option<Ids>)>, Memory>
         ensures { IfOk result (λ entries. entries.items ≡ map (changed_entry self.now puts.now drops.now) codes.now) }
     {
-        if puts.len() <= 1 && drops.len() <= 1 {
-            return self.entries_of_one(codes, puts, drops);
-        }
         let put = by_code(self.alloc, puts)?;
         let dropped = by_code(self.alloc, drops)?;
         self.entries_by(codes, &put, &dropped)
-    }
-
-    /// The same where at most one id is put and at most one dropped, as by an edit: no map of them is made.
-    fn entries_of_one(
-        &self,
-        codes: &[u64],
-        puts: &[(u64, u64)],
-        drops: &[(u64, u64)],
-    ) -> Result<Vec<(u64, Option<Ids>)>, Memory>
-        requires puts { length puts.now ≤ 1 }
-        requires drops { length drops.now ≤ 1 }
-        ensures { IfOk result (λ entries. entries.items ≡ map (changed_entry self.now puts.now drops.now) codes.now) }
-    {
-        let mut entries = Vec::new(self.alloc);
-        for code in codes {
-            let (put, dropped) = (only_id(puts, *code), only_id(drops, *code));
-            let ids = self.changed_at(*code, put.as_slice(), dropped.as_slice())?;
-            entries.push((*code, some_ids(ids)))?;
-        }
-        Ok(entries)
     }
 
     /// The same where the changes are given by their codes.
@@ -306,13 +364,20 @@ impl RegionIndex {
     }
 }
 
-/// The id of the one pair that there may be, where it is of a code.
-fn only_id(pairs: &[(u64, u64)], code: u64) -> Option<u64>
+/// The one pair that there may be.
+fn only(pairs: &[(u64, u64)]) -> Option<(u64, u64)>
     requires { length pairs.now ≤ 1 }
-    ensures { option_to_list result ≡ map (λ pair. pair.1) (filter (λ pair. pair.0 == code) pairs.now) }
+    ensures { option_to_list result ≡ pairs.now }
 {
-    match pairs.first() {
-        Some((at, id)) if *at == code => Some(*id),
+    pairs.first().copied()
+}
+
+/// The id of the pair that there may be, where it is of a code.
+fn id_at(pair: Option<(u64, u64)>, code: u64) -> Option<u64>
+    ensures { option_to_list result ≡ map (λ pair. pair.1) (filter (λ pair. pair.0 == code) (option_to_list pair)) }
+{
+    match pair {
+        Some((at, id)) if at == code => Some(id),
         _ => None,
     }
 }
@@ -322,8 +387,8 @@ fn nothing(alloc: Global) -> RegionStage
     ensures { result ≡ record { puts = []; drops = []; entries = [] } }
 {
     RegionStage {
-        puts: Pairs::new(alloc),
-        drops: Pairs::new(alloc),
+        puts: Short::One(None),
+        drops: Short::One(None),
         entries: Vec::new(alloc),
     }
 }
