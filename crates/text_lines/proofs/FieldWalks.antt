@@ -6,7 +6,7 @@ use Rattle.std.proofs.lemmas.Bool.Decides.{nat_tests}
 use Rattle.std.proofs.lemmas.List.{drop-drop, get_or-drop, length-drop}
 use Rattle.std.proofs.lemmas.List.Sums.{prefix_len_stops}
 use Rattle.std.proofs.lemmas.Str.{IsCharBoundary-after_ascii, IsCharBoundary-before_ascii, IsCharBoundary-end}
-use Rattle.text_lines.specs.FieldsLeft.{fields_from}
+use Rattle.text_lines.specs.FieldsLeft.{IsMarkedFrom, fields_from, marks_from}
 use Rattle.std.specs.List.{onto_first, prefix_len}
 use Rattle.text_lines.specs.Text.{fields_of}
 
@@ -36,11 +36,8 @@ is_tab : (b : ℕ) → not (b == 9) ≡ false → b ≡ 9
 is_tab b is = grind (arith, nat_tests)
 
 -- a field from the place i to the place end, in the whole line
-module _ (line bytes : List ℕ) (next : Option ℕ) (i end : ℕ) (boundary : IfSome next (IsCharBoundary line)) (first : next ≡ Some i) (same : bytes ≡ line)
+module _ (line bytes : List ℕ) (i end : ℕ) (start : IsCharBoundary line i) (same : bytes ≡ line)
     (place : end ≡ i + field_len (drop i bytes)) (inside : end ≤ length bytes) where
-  start : IsCharBoundary line i
-  start = subst (λ next. IfSome next (IsCharBoundary line)) first boundary
-
   ends : end ≡ i + field_len (drop i line)
   ends = subst (λ line. end ≡ i + field_len (drop i line)) same place
 
@@ -59,11 +56,13 @@ module _ (line bytes : List ℕ) (next : Option ℕ) (i end : ℕ) (boundary : I
         | inl more ↦ IsCharBoundary-before_ascii line end more (omega (arith, tab more))
       ]
 
-  pub next-boundary : IsUtf8 line → IfSome (cond (ltb end (length line)) (Some (end + 1)) None) (IsCharBoundary line)
-  next-boundary utf8 = by (ltb end (length line)) refl
+  pub next-marked : IsUtf8 line → (marks : ℕ) → marks ≡ marks_from line (i + field_len (drop i line) + 1) → IfSome (cond (ltb end (length line)) (Some (end + 1)) None) (IsMarkedFrom line marks)
+  next-marked utf8 marks are = by (ltb end (length line)) refl
     where
-      by : (more : Bool) → ltb end (length line) ≡ more → IfSome (cond more (Some (end + 1)) None) (IsCharBoundary line)
-      by true is = let more : end < length line = grind (arith, nat_tests) in IsCharBoundary-after_ascii line end utf8 more (omega (arith, tab more))
+      by : (more : Bool) → ltb end (length line) ≡ more → IfSome (cond more (Some (end + 1)) None) (IsMarkedFrom line marks)
+      by true is =
+          let more : end < length line = grind (arith, nat_tests) in
+          record { boundary = IsCharBoundary-after_ascii line end utf8 more (omega (arith, tab more)); marked = are ∙ ap (λ k. marks_from line (k + 1)) (sym ends) }
       by false is = tt
 
   pub fields_from-first : fields_of (drop i line) ≡ slice_range line i end ∷ fields_from (cond (ltb end (length line)) (Some (end + 1)) None) line

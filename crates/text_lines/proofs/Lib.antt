@@ -3,6 +3,7 @@ pub mod Cuts
 pub mod Cuttings
 pub mod Digits
 pub mod Ended
+pub mod FieldMarks
 pub mod FieldWalks
 pub mod Fronts
 pub mod LineTexts

@@ -1,17 +1,18 @@
 -- What the marks of a block say of its bytes, and what blocks say of all bytes.
-use Rattle.std.proofs.Common.{◌≡◌, ◌≢◌, ℕ, zero, suc, ◌+◌, ◌-◌, ◌*◌, ◌/◌, ◌%◌, ◌^◌, ◌≤◌, Bool, true, false, not, ◌&&◌, ◌||◌, cond, eqb, ltb, List, [], ◌∷◌, ◌++◌, map, length, replicate, take, drop, refl, ap, ap₂, sym, ◌∙◌, arith}
+use Rattle.std.proofs.Common.{◌≡◌, ◌≢◌, ℕ, zero, suc, ◌+◌, ◌-◌, ◌*◌, ◌/◌, ◌%◌, ◌^◌, ◌<◌, ◌≤◌, Bool, true, false, not, ◌&&◌, ◌||◌, cond, eqb, ltb, List, [], ◌∷◌, ◌++◌, map, length, replicate, take, drop, refl, ap, ap₂, sym, ◌∙◌, arith}
 use Rattle.std.specs.List.{list_all, count_by, prefix_len}
-use Rattle.std.proofs.Math.Nat.{div-one, div-div-eq-div-mul, pow-succ'}
+use Rattle.std.proofs.Math.Nat.{div-one, div-div-eq-div-mul, mod-eq_of_lt, pow-succ'}
 use Rattle.std.proofs.lemmas.Bool.{and_parts, cond-true, cond-false, eq-eqb, ne_eqb}
 use Rattle.std.proofs.lemmas.Bool.Decides.{nat_tests}
-use Rattle.std.proofs.lemmas.List.{length-append, length-replicate, drop-drop, drop-map, length-drop, length-map, take-append-drop, take-take, take_all}
+use Rattle.std.proofs.lemmas.List.{length-append, length-replicate, drop-drop, drop-map, length-drop, length-map, length-take-le, map-append, take-append-drop, take-take, take_all}
 use Rattle.std.proofs.lemmas.List.Folds.{list_all-append, prefix_len-append}
 use Rattle.std.proofs.lemmas.List.Sums.{prefix_len-le-length, sum_by-append}
 use Rattle.std.proofs.Math.Seq.{take-add}
-use Rattle.std.proofs.lemmas.Simd.{chunk-drop, leading_from_mask_l, length-chunk, mask_l-mod, ones-mask_l, trailing_mask_l}
+use Rattle.std.proofs.lemmas.Simd.{chunk-drop, leading_from_mask_l, length-chunk, mask_l-lt, mask_l-mod, ones-mask_l, trailing_mask_l}
 use lib.Bits.{bit_and, bit_or}
 use lib.Count.{count_trailing_zeros}
 use lib.Lanes.{mask_l, top, chunk}
+use lib.Pow.{pow_mono}
 use Rattle.std.specs.Int.RustNames.{count_ones}
 use Rattle.text_lines.specs.LineText.{is_plain}
 
@@ -21,7 +22,7 @@ mask_l-rest true n = omega arith
 mask_l-rest false n = omega arith
 
 -- a shift leaves the marks of the bytes behind
-mask_l-drop : (ms : List Bool) (i : ℕ) → mask_l ms / 2 ^ i ≡ mask_l (drop i ms)
+pub mask_l-drop : (ms : List Bool) (i : ℕ) → mask_l ms / 2 ^ i ≡ mask_l (drop i ms)
 mask_l-drop ms zero = div-one (mask_l ms)
 mask_l-drop [] (suc i) = omega arith
 mask_l-drop (m ∷ ms) (suc i) =
@@ -74,36 +75,60 @@ plain-from_lanes v lanes short is =
     ∙ list_all-from_marks is_plain v
 
 -- the marks of the last block that are left by a shift are those of the bytes from a place on
-mask_l-behind : (p : ℕ → Bool) (xs : List ℕ) (last k at : ℕ) → length xs ≤ last + 16 → last + k ≡ at
+pub mask_l-behind : (p : ℕ → Bool) (xs : List ℕ) (last k at : ℕ) → length xs ≤ last + 16 → last + k ≡ at
     → mask_l (map p (chunk last 16 xs)) / 2 ^ k ≡ mask_l (map p (drop at xs))
 mask_l-behind p xs last k at rest place =
     mask_l-drop (map p (chunk last 16 xs)) k ∙ ap mask_l (drop-map p k (chunk last 16 xs))
     ∙ ap (λ l. mask_l (map p (drop k l))) (take_all 16 (drop last xs) (omega (arith, length-drop last xs)))
     ∙ ap (λ l. mask_l (map p l)) (drop-drop k last xs ∙ ap (λ n. drop n xs) place)
 
--- so they count these
-pub count_by-behind : (p : ℕ → Bool) (xs : List ℕ) (last k at : ℕ) → length xs ≤ last + 16 → last + k ≡ at
-    → count_ones (mask_l (map p (chunk last 16 xs)) / 2 ^ k) ≡ count_by p (drop at xs)
-count_by-behind p xs last k at rest place = ap count_ones (mask_l-behind p xs last k at rest place) ∙ ones-mask_l p (drop at xs)
+-- the marks of at most 64 bytes are below 2^64
+pub marks_fit : (p : ℕ → Bool) (xs : List ℕ) → length xs ≤ 64 → mask_l (map p xs) < 2 ^ 64
+marks_fit p xs few = omega (arith, mask_l-lt (map p xs), ap (λ n. 2 ^ n) (length-map xs p), pow_mono few)
 
--- and tell where the first is
-pub place-unmarked : (p : ℕ → Bool) (xs : List ℕ) (last k at : ℕ) → length xs ≤ last + 16 → last + k ≡ at → at ≤ length xs
-    → mask_l (map p (chunk last 16 xs)) / 2 ^ k ≡ 0 → length xs ≡ at + prefix_len (λ x. not (p x)) (drop at xs)
-place-unmarked p xs last k at rest place within none =
-    omega (arith, leading_from_mask_l p (drop at xs) (sym (mask_l-behind p xs last k at rest place) ∙ none), length-drop at xs)
+-- the marks of two parts, one behind the other
+one_more : (b : Bool) (m n e : ℕ) → cond b 1 0 + 2 * (m + n * e) ≡ cond b 1 0 + 2 * m + n * (2 * e)
+one_more b m n e = omega arith
 
-pub place-marked : (p : ℕ → Bool) (xs : List ℕ) (last k at : ℕ) → length xs ≤ last + 16 → last + k ≡ at → (mask_l (map p (chunk last 16 xs)) / 2 ^ k ≢ 0)
-    → count_trailing_zeros 64 (mask_l (map p (chunk last 16 xs)) / 2 ^ k) ≡ prefix_len (λ x. not (p x)) (drop at xs)
-place-marked p xs last k at rest place some =
-    let marks = mask_l-behind p xs last k at rest place in
-    ap (count_trailing_zeros 64) marks ∙ trailing_mask_l p 64 (drop at xs) (omega (arith, length-drop at xs)) (omega (arith, marks, some))
+mask_l-append : (ms ns : List Bool) → mask_l (ms ++ ns) ≡ mask_l ms + mask_l ns * 2 ^ length ms
+mask_l-append [] ns = omega arith
+mask_l-append (m ∷ ms) ns =
+    ap (λ k. cond m 1 0 + 2 * k) (mask_l-append ms ns) ∙ one_more m (mask_l ms) (mask_l ns) (2 ^ length ms)
+    ∙ ap (λ e. cond m 1 0 + 2 * mask_l ms + mask_l ns * e) (sym (pow-succ' 2 (length ms)))
+
+mask_l-parts : (p : ℕ → Bool) (xs ys : List ℕ) (at : ℕ) → length xs ≡ at → mask_l (map p xs) + mask_l (map p ys) * 2 ^ at ≡ mask_l (map p (xs ++ ys))
+mask_l-parts p xs ys at long =
+    ap (λ k. mask_l (map p xs) + mask_l (map p ys) * 2 ^ k) (sym long ∙ sym (length-map xs p))
+    ∙ sym (ap mask_l (map-append p xs ys) ∙ mask_l-append (map p xs) (map p ys))
+
+-- the marks of few bytes fit a word, those of the second part too
+pub parts_fit : (p : ℕ → Bool) (xs ys : List ℕ) (at : ℕ) → length xs ≡ at → length (xs ++ ys) ≤ 64
+    → mask_l (map p xs) + mask_l (map p ys) * 2 ^ at % 2 ^ 64 ≡ mask_l (map p (xs ++ ys))
+parts_fit p xs ys at long few =
+    let whole = mask_l-parts p xs ys at long in
+    ap (λ k. mask_l (map p xs) + k) (mod-eq_of_lt (omega (arith, whole, marks_fit p (xs ++ ys) few))) ∙ whole
+
+-- the block at a place behind the bytes before it, and what is left behind them
+pub marks-next : (p : ℕ → Bool) (xs : List ℕ) (at : ℕ) → at + 16 ≤ length xs → length xs ≤ 64
+    → mask_l (map p (take at xs)) + mask_l (map p (chunk at 16 xs)) * 2 ^ at % 2 ^ 64 ≡ mask_l (map p (take (at + 16) xs))
+marks-next p xs at room few =
+    let parts = take-add at 16 xs in
+    parts_fit p (take at xs) (chunk at 16 xs) at (length-take-le at xs (omega arith)) (omega (arith, ap length parts, length-take-le (at + 16) xs room))
+    ∙ ap (λ l. mask_l (map p l)) (sym parts)
+
+pub marks-last : (p : ℕ → Bool) (xs : List ℕ) (at : ℕ) → at ≤ length xs → length xs ≤ 64
+    → mask_l (map p (take at xs)) + mask_l (map p (drop at xs)) * 2 ^ at % 2 ^ 64 ≡ mask_l (map p xs)
+marks-last p xs at within few =
+    let parts = take-append-drop at xs in
+    parts_fit p (take at xs) (drop at xs) at (length-take-le at xs within) (omega (arith, ap length parts))
+    ∙ ap (λ l. mask_l (map p l)) parts
 
 -- where all bytes come before the first that has a mark, none has one
 no_mark : (m : Bool) (n l k : ℕ) → n ≤ l → cond (not m) (1 + n) 0 ≡ 1 + l → (n ≡ l → k ≡ 0) → cond m 1 0 + 2 * k ≡ 0
 no_mark true n l k within all rest = absurd (omega (arith, all))
 no_mark false n l k within all rest = omega (arith, rest (omega (arith, all)))
 
-no_marks : (p : ℕ → Bool) (xs : List ℕ) → prefix_len (λ x. not (p x)) xs ≡ length xs → mask_l (map p xs) ≡ 0
+pub no_marks : (p : ℕ → Bool) (xs : List ℕ) → prefix_len (λ x. not (p x)) xs ≡ length xs → mask_l (map p xs) ≡ 0
 no_marks p [] all = refl
 no_marks p (x ∷ xs) all = no_mark (p x) _ (length xs) _ (prefix_len-le-length (λ y. not (p y)) xs) (omega (arith, all)) (no_marks p xs)
 

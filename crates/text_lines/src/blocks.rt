@@ -9,6 +9,9 @@ use std::simd::prelude::*;
 /// The bytes of a block.
 const BLOCK: usize = 16;
 
+/// The most bytes that are marked at once.
+pub(crate) const MARKED: usize = 64;
+
 /// How many of the bytes have this value.
 pub(crate) fn count_of(bytes: &[u8], byte: u8) -> usize
     ensures count { result ≡ count_by (λ b. b == byte) bytes.now }
@@ -57,9 +60,7 @@ fn place_behind(bytes: &[u8], from: usize, byte: u8) -> usize
     ensures place { result ≡ from + prefix_len (λ b. not (b == byte)) (drop from bytes.now) }
     ensures within { result ≤ length bytes.now }
 {
-    let last = bytes.len() - BLOCK;
-    // The marks of the bytes before the place are shifted out.
-    let marks = marks_of(bytes, last, byte) >> (from - last);
+    let marks = marks_behind(bytes, from, byte);
     if marks == 0 {
         return bytes.len();
     }
@@ -73,10 +74,37 @@ fn count_behind(bytes: &[u8], at: usize, byte: u8) -> usize
     requires behind { length bytes.now ≤ at + 16 }
     ensures { result ≡ count_by (λ b. b == byte) (drop at bytes.now) }
 {
+    marks_behind(bytes, at, byte).count_ones() as usize
+}
+
+/// A bit for each of at most 64 bytes, the first lowest: set where the byte has this value.
+pub(crate) fn marks_in(bytes: &[u8], byte: u8) -> u64
+    requires { length bytes.now ≤ 64 }
+    ensures { result ≡ mask_l (map (λ b. b == byte) bytes.now) }
+{
+    if bytes.len() < BLOCK {
+        return marks_behind(&fill_block(bytes), BLOCK - bytes.len(), byte);
+    }
+    let last = bytes.len() - BLOCK;
+    let mut marks = 0;
+    let mut at = 0;
+    while at < last {
+        marks += marks_of(bytes, at, byte) << at;
+        at += BLOCK;
+    }
+    marks + (marks_behind(bytes, at, byte) << at)
+}
+
+/// The marks of the bytes from a place on, the first lowest. All of them lie in the last block.
+fn marks_behind(bytes: &[u8], at: usize, byte: u8) -> u64
+    requires within { at ≤ length bytes.now }
+    requires block { 16 ≤ length bytes.now }
+    requires behind { length bytes.now ≤ at + 16 }
+    ensures { result ≡ mask_l (map (λ b. b == byte) (drop at bytes.now)) }
+{
     let last = bytes.len() - BLOCK;
     // The marks of the bytes before the place are shifted out.
-    let marks = marks_of(bytes, last, byte) >> (at - last);
-    marks.count_ones() as usize
+    marks_of(bytes, last, byte) >> (at - last)
 }
 
 /// A bit for each byte of the block at a place, the first lowest: set where the byte has this value.
