@@ -9,6 +9,8 @@ use Rattle.std.proofs.lemmas.Grind.{common_steps}
 use Rattle.std.proofs.lemmas.Int.Digits.{digits_value_more}
 use Rattle.std.proofs.lemmas.List.{take_all}
 use Rattle.std.proofs.lemmas.List.Folds.{list_all_at, list_all_more}
+use Rattle.std.proofs.lemmas.Nat.{pow-add}
+use Rattle.std.proofs.Math.Nat.{pow-le-pow_right}
 use Rattle.std.proofs.lemmas.Str.Parse.{digits_value-take-le}
 use Rattle.text_lines.specs.Text.{is_digit}
 
@@ -68,6 +70,36 @@ module _ (bytes : List ℕ) (i value : ℕ) (below : i < length bytes) (read : H
           → None ≡ (if list_all is_digit bytes && nat_lt (digits_value 10 bytes) (2 ^ 64) then Some (digits_value 10 bytes) else None)
       either true digit = all_or_none (list_all is_digit bytes) (nat_lt (digits_value 10 bytes) (2 ^ 64)) (digits_value 10 bytes) (too_large digit)
       either false other = rw (list_all_at is_digit bytes i 0 below other) refl
+
+-- fewer than 20 digits always fit
+pub record HasReadFew (bytes : List ℕ) (i value : ℕ) : Type 0 where
+  pub read : HasRead (take i bytes) value
+  pub small : value < 10 ^ i
+
+module _ (bytes : List ℕ) (i value : ℕ) (below : i < length bytes) (few : length bytes ≤ 19) (before : HasReadFew bytes i value) where
+  -- the value with the next digit
+  pub small-more : is_digit (get_or bytes i 0) ≡ true → value * 10 + (get_or bytes i 0 - 48) < 10 ^ (i + 1)
+  small-more digit =
+      let one_more : 10 ^ (i + 1) ≡ 10 * 10 ^ i = pow-add 10 i 1 ∙ omega arith in
+      let low : get_or bytes i 0 - 48 < 10 = grind (arith, nat_tests) in
+      omega (arith, before.small, one_more, low)
+
+  pub fits-more : is_digit (get_or bytes i 0) ≡ true → value * 10 + (get_or bytes i 0 - 48) < 2 ^ 64
+  fits-more digit =
+      let within : i + 1 ≤ 19 = omega (arith, below, few) in
+      let most : 10 ^ (i + 1) ≤ 10 ^ 19 = pow-le-pow_right (lit≤ tt) within in
+      omega (arith, small-more digit, most)
+
+  pub HasReadFew-next : is_digit (get_or bytes i 0) ≡ true → HasReadFew bytes (i + 1) (value * 10 + (get_or bytes i 0 - 48))
+  HasReadFew-next digit =
+      let more = fits-more digit in
+      record {
+        read = HasRead-next bytes i value below before.read (value * 10 + (get_or bytes i 0 - 48)) (grind (arith, nat_tests, digit, more));
+        small = small-more digit;
+      }
+
+  pub refused-few : is_digit (get_or bytes i 0) ≡ false → None ≡ (if list_all is_digit bytes && nat_lt (digits_value 10 bytes) (2 ^ 64) then Some (digits_value 10 bytes) else None)
+  refused-few other = refused-all bytes i value below before.read (rw other refl)
 
 -- all bytes were read
 pub HasRead-all : (bytes : List ℕ) (value n : ℕ) → length bytes ≤ n → HasRead (take n bytes) value

@@ -1,6 +1,6 @@
 -- What the marks of a line's first bytes say of its fields.
-use Rattle.std.proofs.Common.{◌≡◌, ◌≢◌, ℕ, suc, ◌+◌, ◌-◌, ◌/◌, ◌^◌, ◌<◌, ◌≤◌, Bool, not, eqb, List, length, map, take, drop, inl, inr, sym, ap, ◌∙◌, arith}
-use Rattle.std.specs.List.{count_by, prefix_len}
+use Rattle.std.proofs.Common.{◌≡◌, ◌≢◌, ℕ, ◌+◌, ◌-◌, ◌/◌, ◌^◌, ◌≤◌, Bool, not, eqb, List, length, map, take, drop, inl, inr, sym, ap, ◌∙◌, arith}
+use Rattle.std.specs.List.{count_by}
 use Rattle.std.specs.Int.RustNames.{count_ones}
 use Rattle.std.proofs.lemmas.Bool.{cases_lt, cond-false, cond-true, eq-eqb, ne_eqb}
 use Rattle.std.proofs.lemmas.List.{drop-drop, drop-map, drop-take, drop_all, length-drop, length-take, take-append-drop, take_all}

@@ -1,5 +1,5 @@
 //! Whole numbers in fields.
-ghost use Rattle.std.specs.Prelude.{◌≡◌, ◌+◌, ◌-◌, ◌*◌, ◌^◌, ◌&&◌, nat_lt, if◌then◌else◌, Some, None};
+ghost use Rattle.std.specs.Prelude.{◌≡◌, ◌+◌, ◌-◌, ◌*◌, ◌^◌, ◌&&◌, ◌≤◌, length, nat_lt, if◌then◌else◌, Some, None};
 ghost use Rattle.std.specs.List.{list_all};
 ghost use Rattle.std.specs.Str.Parse.{digits_value};
 ghost use Rattle.text_lines.specs.Text.{is_digit, number_in};
@@ -16,14 +16,36 @@ pub fn number_in(bytes: &[u8], least: u64, most: u64) -> Option<u64>
     (least <= value && value <= most).then_some(value)
 }
 
+/// The most digits whose value surely fits.
+const FEW: usize = 19;
+
 /// The value of digits: None exactly where there is another byte or the value does not fit.
 fn digits_value(bytes: &[u8]) -> Option<u64>
     ensures { result ≡ (if list_all is_digit bytes.now && nat_lt (digits_value 10 bytes.now) (2 ^ 64)
         then Some (digits_value 10 bytes.now) else None) }
 {
+    if bytes.len() <= FEW {
+        return few_digits_value(bytes);
+    }
     let mut value = 0u64;
     for byte in bytes {
         value = with_digit(value, *byte)?;
+    }
+    Some(value)
+}
+
+/// The same of so few bytes that the value of digits fits.
+fn few_digits_value(bytes: &[u8]) -> Option<u64>
+    requires { length bytes.now ≤ 19 }
+    ensures { result ≡ (if list_all is_digit bytes.now && nat_lt (digits_value 10 bytes.now) (2 ^ 64)
+        then Some (digits_value 10 bytes.now) else None) }
+{
+    let mut value = 0u64;
+    for byte in bytes {
+        if !byte.is_ascii_digit() {
+            return None;
+        }
+        value = value * 10 + u64::from(*byte - b'0');
     }
     Some(value)
 }

@@ -1,5 +1,5 @@
 -- The marks of a block stand behind those of the bytes before it.
-use Rattle.std.proofs.Common.{◌≡◌, ◌+◌, ◌-◌, ◌*◌, ◌%◌, ◌^◌, ◌≤◌, eqb, length, map, take, drop, ap, ap₂, sym, ◌∙◌, arith}
+use Rattle.std.proofs.Common.{◌+◌, ◌-◌, ◌*◌, ◌%◌, ◌^◌, ◌≤◌, eqb, length, map, take, drop, ap, ap₂, ◌∙◌, arith}
 use Rattle.std.proofs.lemmas.List.{length-take-le}
 use lib.Lanes.{mask_l}
 use Rattle.text_lines.proofs.Marks.{drop-filled, marks-last, marks-next, marks_fit}

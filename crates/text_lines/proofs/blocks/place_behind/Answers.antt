@@ -1,5 +1,5 @@
 -- The first mark is that of the first byte of the value.
-use Rattle.std.proofs.Common.{◌≡◌, ◌+◌, ◌<◌, eqb, not, drop, length, map, ap, ◌∙◌, sym, arith}
+use Rattle.std.proofs.Common.{◌≡◌, ◌+◌, ◌<◌, eqb, not, drop, map, ap, ◌∙◌, sym, arith}
 use Rattle.std.proofs.lemmas.List.{length-drop}
 use Rattle.std.proofs.lemmas.List.Sums.{prefix_len-le-length}
 use Rattle.std.proofs.lemmas.Bool.Decides.{nat_tests}

@@ -1,10 +1,7 @@
 -- The first mark is that of the TAB, and a line that is marked whole has no other.
-use Rattle.std.proofs.Common.{◌+◌, ◌≢◌, ap, drop, sym, ◌∙◌, arith}
+use Rattle.std.proofs.Common.{◌+◌, ap, sym, ◌∙◌, arith}
 use Rattle.std.proofs.lemmas.Bool.Decides.{nat_tests}
-use Rattle.std.proofs.lemmas.List.{length-drop}
-use Rattle.std.proofs.lemmas.List.Sums.{prefix_len-le-length}
 use lib.Count.{count_trailing_zeros}
-use Rattle.text_lines.specs.FieldsLeft.{marks_from}
 use Rattle.text_lines.proofs.FieldMarks.{field_len-marked, field_len-unmarked, len_le}
 use Rattle.text_lines.proofs.fields.end_from.Goals as goal
 

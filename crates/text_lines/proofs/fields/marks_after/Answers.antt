@@ -1,5 +1,5 @@
 -- The marks behind the first are those behind the field that it ends.
-use Rattle.std.proofs.Common.{◌≢◌, ◌+◌, ◌/◌, ◌^◌, drop, ap, ap₂, sym, ◌∙◌, arith}
+use Rattle.std.proofs.Common.{◌≢◌, ◌/◌, ◌^◌, drop, ap, ap₂, sym, ◌∙◌, arith}
 use Rattle.std.proofs.lemmas.Bool.Decides.{nat_tests}
 use lib.Count.{count_trailing_zeros}
 use Rattle.text_lines.specs.FieldsLeft.{marks_from}
