@@ -31,10 +31,10 @@ kind-other true false differ = refl
 kind-other false true differ = refl
 
 module _ (put : Bool) where
-  facts-append : (changes more : List ViewChange) → facts_of_kind put (changes ++ more) ≡ facts_of_kind put changes ++ facts_of_kind put more
+  pub facts-append : (changes more : List ViewChange) → facts_of_kind put (changes ++ more) ≡ facts_of_kind put changes ++ facts_of_kind put more
   facts-append changes more = ap (flat_map change_facts) (filter-append (puts_as put) changes more) ∙ flat_map-append change_facts (filter (puts_as put) changes) (filter (puts_as put) more)
 
-  facts-one : (change : ViewChange) → facts_of_kind put (change ∷ []) ≡ (if puts_as put change then change_facts change else [])
+  pub facts-one : (change : ViewChange) → facts_of_kind put (change ∷ []) ≡ (if puts_as put change then change_facts change else [])
   facts-one change = by (puts_as put change)
     where
       by : (b : Bool) → flat_map change_facts (if b then change ∷ [] else []) ≡ (if b then change_facts change else [])

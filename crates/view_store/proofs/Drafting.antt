@@ -259,7 +259,7 @@ module _ (dims : List Dimension) (depths : List ℕ) (columns : ℕ) (entries : 
       All-weaker (λ (row : ℕ × ℕ). IsCodeOver dims depths row.0 code) (λ row. is_among (cells_of dims (region_at dims code)) row.0 ≡ true) (λ row over. over.only code holds.in_view ∙ same) rows holds.each in
       weight-all (cells_of dims (region_at dims code)) rows there ∙ is.whole
 
-  weight-elsewhere : (k : ℕ) → is_in_view dims depths k ≡ true → (k == code) ≡ false → weight_in dims share rows k ≡ 0
+  pub weight-elsewhere : (k : ℕ) → is_in_view dims depths k ≡ true → (k == code) ≡ false → weight_in dims share rows k ≡ 0
   weight-elsewhere k in_view other =
       weight-no (cells_of dims (region_at dims k)) rows
       (All-weaker (λ (row : ℕ × ℕ). IsCodeOver dims depths row.0 code) (λ row. is_among (cells_of dims (region_at dims k)) row.0 ≡ false) (λ row over. over.only k in_view ∙ other) rows holds.each)

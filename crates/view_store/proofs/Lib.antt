@@ -12,6 +12,7 @@ pub mod TakingAway
 pub mod Keeping
 pub mod Merges
 pub mod Staging
+pub mod Alone
 pub mod Making
 pub mod Listing
 pub mod Viewing

@@ -129,7 +129,7 @@ module _ (dims : List Dimension) (depths : List ℕ) (columns : ℕ) (entries : 
               let there : draft_at columns entries rests code ≡ held_at columns rests code = draft-held columns entries rests code (without.codes code ∙ ap is_some is) in
               subst (IsDifference old (shares columns dims (facts_taken_away changes) code)) (sym there) (subst (λ part. IsDifference old part (held_at columns rests code)) its difference)
 
-      are-left_over : AreLeftOver dims changes (record { columns = columns; depths = depths; entries = entries }) rests
+      pub are-left_over : AreLeftOver dims changes (record { columns = columns; depths = depths; entries = entries }) rests
       are-left_over = record {
         left = rest-is;
         keys = λ code there. keys code (sym (without.codes code) ∙ there);

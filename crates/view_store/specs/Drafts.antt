@@ -1,5 +1,5 @@
 -- Drafts: terms by region code, made from entries by shares.
-use Rattle.std.specs.Prelude.{◌≡◌, ℕ, ◌+◌, ◌*◌, ◌<◌, ◌≤◌, Bool, true, false, List, [], IfSome, length, filter, nat_abs, not, ◌||◌, ◌==◌, ◌+ℤ◌, is_some, unwrap_or, take, Option, Some, None, if◌then◌else◌}
+use Rattle.std.specs.Prelude.{◌≡◌, ℕ, ◌+◌, ◌*◌, ◌<◌, ◌≤◌, Bool, true, false, List, [], ◌∷◌, All, IfSome, length, filter, nat_abs, not, ◌||◌, ◌==◌, ◌+ℤ◌, is_some, unwrap_or, take, Option, Some, None, if◌then◌else◌}
 use Rattle.std.specs.List.{flat_map, sum_by}
 use Rattle.std.specs.Map.{keys_of}
 use Rattle.std.specs.Option.{option_map}
@@ -14,6 +14,7 @@ use Rattle.staged_map.specs.Staged.{Entries, Places, staged_entry, value_at}
 use Rattle.view_store.specs.declared.change.Share.{Share}
 use Rattle.view_store.specs.declared.change.ViewChange.{ViewChange}
 use Rattle.view_store.specs.Changes.{IsMadeAnew, IsWithinWide, change_facts, facts_put, facts_taken_away, shares}
+use Rattle.view_store.specs.Cuts.{HoldsCells}
 use Rattle.view_store.specs.Views.{IsOver, ViewMap, entry_at, held_at, is_in_view, region_at}
 
 -- the draft at a code: where there is none yet, it is the entry
@@ -65,6 +66,15 @@ AddsSpread dims share rows code old new = AddsUnits old new share.den (weight_in
 -- and the share of a change
 abbrev pub AddsChange : List Dimension → ViewChange → ℕ → TermList → TermList → Type 0
 AddsChange dims change code old new = AddsSpread dims (share_of change) change.rows code old new
+
+-- the code of a region of the product of the cuts, and of all these regions it is the one that holds each cell of the changes' regions
+pub record HoldsChanges (dims : List Dimension) (depths : List ℕ) (changes : List ViewChange) (code : ℕ) : Type 0 where
+  pub in_view : is_in_view dims depths code ≡ true
+  pub each : All (λ change. HoldsCells dims depths change.region code) changes
+
+-- drafts of which there is one
+abbrev pub one_draft : ℕ → TermList → Places TermList
+one_draft code list = (code, Some list) ∷ []
 
 -- a code has got a draft: these terms, with what a row of this weight brings
 pub record BeginsDraft (columns : ℕ) (terms : TermList) (unit : Share) (code weight : ℕ) (old new : Places TermList) : Type 0 where

@@ -6,11 +6,12 @@ ghost use Rattle.std.specs.Option.{option_copied};
 ghost use Rattle.cube_model.specs.Limits.{MAX_COLS};
 ghost use Rattle.group_sum.specs.Merge.{FitsDifference, HasDifference, IsDifference};
 ghost use Rattle.group_sum.specs.Terms.{AddsUnits, AreTerms, FitsUnits};
+ghost use Rattle.region_algebra.specs.Space.{IsRegion};
 ghost use Rattle.staged_map.specs.Staged.{AreOfDifferentKeys, Reserves, Sets, key_of_place, value_at};
 ghost use Rattle.view_store.specs.Changes.{AreWhole, FitsView, IsChange, IsMadeFor, facts_taken_away};
-ghost use Rattle.view_store.specs.Cuts.{HoldsRows};
+ghost use Rattle.view_store.specs.Cuts.{HoldsCells, HoldsRows};
 ghost use Rattle.view_store.specs.Views.{AreEntries, held_at, is_in_view, IsOver, no_terms};
-ghost use Rattle.view_store.specs.Drafts.{AddsChange, AddsRow, AddsSpread, AreKept, AreLeftOver, AreOver, AreRemade, AreWithout, BeginsDraft, CanTake, CanTakeAt, FitsChange, FitsShares, FitsSpread, IsSpread, HasShares, KeepsToView, LeavesAt, draft_at, facts_of_kind, kept, kept_entry};
+ghost use Rattle.view_store.specs.Drafts.{AddsChange, AddsRow, AddsSpread, AreKept, AreLeftOver, AreOver, AreRemade, AreWithout, BeginsDraft, CanTake, CanTakeAt, FitsChange, FitsShares, FitsSpread, IsSpread, HasShares, HoldsChanges, KeepsToView, LeavesAt, draft_at, facts_of_kind, kept, kept_entry, one_draft};
 
 use crate::{Cuts, Share, ViewChange};
 use cube_base::Memory;
@@ -437,7 +438,108 @@ fn remake_entries(
     Ok(drafts)
 }
 
-/// The entries that changes make of those of a view, each once. Their drafts stand in the room of a map, which is left empty.
+/// Whether the region of a code, in the product of the cuts, holds all cells of the regions of changes. False may be said of a region
+/// that lies above the cuts.
+fn holds_all(cuts: &Cuts, changes: &[ViewChange], code: u64) -> bool
+    requires { All (λ change. IsRegion cuts.now.dims change.region) changes.now }
+    ensures { result ≡ true → All (λ change. HoldsCells cuts.now.dims cuts.now.depths change.region code) changes.now }
+{
+    for change in changes {
+        let Some(over) = cuts.over_region(change.region) else {
+            return false;
+        };
+        if over != code {
+            return false;
+        }
+    }
+    true
+}
+
+/// The code of the one region of the product of the cuts that holds all cells of the regions of changes, where there is one.
+fn one_code(cuts: &Cuts, changes: &[ViewChange]) -> Option<u64>
+    requires { All (λ change. IsRegion cuts.now.dims change.region) changes.now }
+    ensures { IfSome result (HoldsChanges cuts.now.dims cuts.now.depths changes.now) }
+{
+    let (first, others) = changes.split_first()?;
+    let code = cuts.over_region(first.region)?;
+    if holds_all(cuts, others, code) {
+        Some(code)
+    } else {
+        None
+    }
+}
+
+/// Adds to terms what the changes that put, or those that take away, bring as a whole: one region holds them all.
+fn raise_by_all(
+    cuts: &Cuts,
+    code: u64,
+    terms: &mut Terms,
+    changes: &[ViewChange],
+    put: bool,
+) -> Result<(), Memory>
+    requires changes { All (IsChange cuts.now.dims terms.old.columns) changes.now }
+    requires holds { HoldsChanges cuts.now.dims cuts.now.depths changes.now code }
+    requires terms { AreTerms terms.old }
+    requires within { FitsShares terms.old.columns cuts.now.dims put changes.now code terms.old }
+    ensures shares { OnOk result (HasShares terms.old.columns cuts.now.dims (facts_of_kind put changes.now) code terms.old terms.new) }
+    ensures over { OnOk result (IsOver terms.old.columns terms.new) }
+{
+    for change in changes {
+        if change.put == put {
+            raise(terms, &change.share(), change.den)?;
+        }
+    }
+    Ok(())
+}
+
+/// What is left of an entry without the shares that changes take away: its region holds them all.
+fn rest_of(
+    alloc: Global,
+    cuts: &Cuts,
+    columns: u32,
+    entries: &Staged<Terms>,
+    code: u64,
+    changes: &[ViewChange],
+) -> Result<Terms, Memory>
+    requires entries { AreEntries columns entries.now }
+    requires changes { FitsView cuts.now.dims changes.now (record { columns = columns; depths = cuts.now.depths; entries = entries.now }) }
+    requires holds { HoldsChanges cuts.now.dims cuts.now.depths changes.now code }
+    ensures { IfOk result (λ rest. AreLeftOver cuts.now.dims changes.now (record { columns = columns; depths = cuts.now.depths; entries = entries.now }) (one_draft code rest)) }
+{
+    let mut part = Terms::empty(alloc, columns);
+    raise_by_all(cuts, code, &mut part, changes, false)?;
+    let entry = entries.get(code);
+    if part.len() == 0 {
+        return copy_or_none(alloc, columns, entry, cuts.room());
+    }
+    take_away(alloc, columns, entry, &part)
+}
+
+/// The entry that changes make of that of a region which holds them all, alone.
+fn make_one(
+    alloc: Global,
+    cuts: &Cuts,
+    columns: u32,
+    entries: &Staged<Terms>,
+    code: u64,
+    changes: &[ViewChange],
+) -> Result<Vec<(u64, Option<Terms>)>, Memory>
+    requires entries { AreEntries columns entries.now }
+    requires changes { FitsView cuts.now.dims changes.now (record { columns = columns; depths = cuts.now.depths; entries = entries.now }) }
+    requires holds { HoldsChanges cuts.now.dims cuts.now.depths changes.now code }
+    ensures made { IfOk result (λ made. IsMadeFor cuts.now.dims changes.now (record { columns = columns; depths = cuts.now.depths; entries = entries.now }) made.items) }
+    ensures distinct { IfOk result (λ made. AreOfDifferentKeys made.items) }
+    ensures whole { IfOk result (λ made. AreWhole columns made.items) }
+{
+    let mut terms = rest_of(alloc, cuts, columns, entries, code, changes)?;
+    raise_by_all(cuts, code, &mut terms, changes, true)?;
+    let mut made = Vec::with_capacity(alloc, 1)?;
+    made.push((code, entry_of(terms)))?;
+    Ok(made)
+}
+
+/// The entries that changes make of those of a view, each once. Their drafts stand in the room of a map, which is left empty; where one
+/// region holds all changes, its entry is made alone.
 pub fn make_entries(
     alloc: Global,
     cuts: &Cuts,
@@ -452,6 +554,9 @@ pub fn make_entries(
     ensures distinct { IfOk result (λ made. AreOfDifferentKeys made.items) }
     ensures whole { IfOk result (λ made. AreWhole columns made.items) }
 {
+    if let Some(code) = one_code(cuts, changes) {
+        return make_one(alloc, cuts, columns, entries, code, changes);
+    }
     let drafts = replace(room, Staged::new(alloc));
     let mut drafts = remake_entries(alloc, cuts, columns, entries, drafts, changes)?;
     let made = entries_of(&mut drafts)?;

@@ -1,6 +1,13 @@
 -- What is staged is kept of the drafts.
+use Rattle.std.proofs.lemmas.List.Elements.{All-weaker}
+use Rattle.region_algebra.specs.Space.{IsRegion}
+use Rattle.view_store.specs.declared.change.ViewChange.{ViewChange}
+use Rattle.view_store.specs.Changes.{IsChange}
 use Rattle.view_store.proofs.Making.{made-for, whole-made}
 use Rattle.view_store.proofs.drafts.make_entries.Goals as goal
+
+pub one_code-requires : goal.one_code-requires
+one_code-requires c = All-weaker (IsChange c.args.cuts.now.dims c.args.columns) (λ (change : ViewChange). IsRegion c.args.cuts.now.dims change.region) (λ change is. is.region) c.args.changes.now c.requires.changes.changes_fit
 
 pub returns : goal.returns
 returns c =
