@@ -18,7 +18,7 @@ use fact_records::{read_fact, read_id};
 use region_algebra::{Grow, Space};
 use schema_text::Schema;
 use std::alloc::Global;
-use text_lines::{FieldWalk, Fields, clean_text, field_count, is_long, is_skipped, without_cr};
+use text_lines::{FieldWalk, Fields, clean_text, is_long, is_skipped, without_cr};
 
 /// What a line of a script says over a schema. A line that without its final CR is empty or begins with `#` says
 /// nothing. Else the first of these that holds refuses it: `Long`, it has more than 4,096 bytes; `Text`, it is not
@@ -35,37 +35,29 @@ pub fn read_line(alloc: Global, schema: &Schema, line: &[u8]) -> Result<Line, Li
     ensures refused { IfErr result (IsLineFaultOf schema.now line.now) }
     ensures within { IfOk result (IsLineOf schema.now) }
 {
-    read_over(alloc, schema, line)
-}
-
-/// What is read of a line.
-fn read_over(alloc: Global, schema: &Schema, line: &[u8]) -> Result<Line, LineFault>
-    ensures line { IsReadOf (line_of schema.now line.now) result }
-    ensures within { IfOk result (IsLineOf schema.now) }
-{
     if is_skipped(line) {
         return Ok(Line::Nothing);
     }
     if is_long(line) {
         return Err(LineFault::Code(Code::Long));
     }
-    match clean_text(without_cr(line)) {
-        Some(text) => read_text(alloc, schema, text),
-        None => Err(LineFault::Code(Code::Text)),
-    }
-}
-
-/// What is read of a line that is neither skipped nor long.
-fn read_text(alloc: Global, schema: &Schema, text: &str) -> Result<Line, LineFault>
-    ensures line { IsReadOf (command_line schema.now (fields_of text.now) (word_spelled (field_at (fields_of text.now) 0))) result }
-    ensures within { IfOk result (IsLineOf schema.now) }
-{
+    let Some(text) = clean_text(without_cr(line)) else {
+        return Err(LineFault::Code(Code::Text));
+    };
     let mut fields = FieldWalk::new(text);
+    let count = fields.len();
     let Some(word) = word_spelled(fields.next_field()) else {
         return Err(LineFault::Code(Code::Command));
     };
-    if field_count(text.as_bytes()) != count_of(schema, word) {
+    if count != count_of(schema, word) {
         return Err(LineFault::Code(Code::Fields));
+    }
+    // At once, since a fact is large, and each call that hands it on moves it.
+    if let ScriptWord::OfFact(word) = word {
+        return match read_fact(schema.space(), schema.shape(), &mut fields) {
+            Ok(fact) => Ok(word.line(fact)),
+            Err(code) => Err(LineFault::Code(code)),
+        };
     }
     read_fields(alloc, schema, word, &mut fields)
 }

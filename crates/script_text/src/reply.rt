@@ -1,5 +1,7 @@
 //! Replies over a schema, whose cells they name.
-ghost use Rattle.std.specs.Prelude.{◌≡◌, ◌++◌, IfOk, OnOk, OnErr};
+ghost use Rattle.std.specs.Prelude.{◌≡◌, ◌++◌, List, IfOk, OnOk, OnErr};
+ghost use Rattle.cube_model.specs.Tree.{Dimension};
+ghost use Rattle.script_text.specs.declared.reply.Reply.TheVariants.{Refused};
 ghost use Rattle.script_text.specs.Reply.{NamesCells, NamesPlaces, fields_of_answer, fields_of_reply, reply_text, word_of_reply};
 ghost use Rattle.script_text.specs.ReplySteps.{Keeps, fields_text};
 
@@ -71,12 +73,53 @@ pub fn append_reply(text: &mut Vec<u8>, schema: &Schema, reply: &Reply) -> Resul
     ensures ok { OnOk result (text.new.items ≡ text.old.items ++ reply_text schema.now.dims reply.now) }
     ensures err { OnErr result (text.new.items ≡ text.old.items) }
 {
+    // At once: a refusal is one text, and a long script may be refused line by line.
+    if let Reply::Refused(code) = reply {
+        text.extend_from_slice(refusal_text(*code).as_bytes())?;
+        return Ok(());
+    }
     let len = text.len();
     let appended = append_line(text, schema.space(), reply);
     if appended.is_err() {
         text.truncate(len);
     }
     appended
+}
+
+/// The text of a refusal.
+fn refusal_text(code: Code) -> &'static str
+    ensures { (dims : List Dimension) → result.now ≡ reply_text dims (Refused code) }
+{
+    match code {
+        Code::Long => "error\tlong\n",
+        Code::Text => "error\ttext\n",
+        Code::Command => "error\tcommand\n",
+        Code::Fields => "error\tfields\n",
+        Code::Id => "error\tid\n",
+        Code::Node => "error\tnode\n",
+        Code::Measure => "error\tmeasure\n",
+        Code::Value => "error\tvalue\n",
+        Code::Parts => "error\tparts\n",
+        Code::Exists => "error\texists\n",
+        Code::Missing => "error\tmissing\n",
+        Code::Region => "error\tregion\n",
+        Code::Facts => "error\tfacts\n",
+        Code::Rows => "error\trows\n",
+        Code::Undefined => "error\tundefined\n",
+        Code::Many => "error\tmany\n",
+        Code::Wide => "error\twide\n",
+        Code::Name => "error\tname\n",
+        Code::Order => "error\torder\n",
+        Code::Policy => "error\tpolicy\n",
+        Code::Number => "error\tnumber\n",
+        Code::Depth => "error\tdepth\n",
+        Code::Limit => "error\tlimit\n",
+        Code::Cells => "error\tcells\n",
+        Code::Nodes => "error\tnodes\n",
+        Code::Cut => "error\tcut\n",
+        Code::Tail => "error\ttail\n",
+        Code::Header => "error\theader\n",
+    }
 }
 
 /// The text of a reply over a schema.

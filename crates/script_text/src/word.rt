@@ -119,6 +119,9 @@ pub enum MeasureTableWord {
     Pools,
 }
 
+/// The word before a new fact.
+const INSERT: ScriptWord = ScriptWord::OfFact(FactWord::Insert);
+
 /// All words.
 const WORDS: [ScriptWord; 22] = [
     ScriptWord::OfFact(FactWord::Insert),
@@ -181,6 +184,10 @@ impl ScriptWord {
 pub fn word_spelled(field: &str) -> Option<ScriptWord>
     ensures { result ≡ word_spelled field.now }
 {
+    // At once, since most lines of a long script begin with it.
+    if field == INSERT.spelling() {
+        return Some(INSERT);
+    }
     word_among(&WORDS, field)
 }
 
