@@ -17,7 +17,7 @@ use Rattle.script_run.specs.declared.streaming.StreamStop.TheVariants.{Broke, Re
 use Rattle.script_run.specs.Kept.{Commits, HasKept, IsBehind, KeptAt, batches, is_keep}
 use Rattle.script_run.specs.Progress.{BreaksOff, Done, HasDone, Working}
 use Rattle.script_run.specs.Run.{Outcome, State, run}
-use Rattle.script_run.specs.Seen.{KeepFailed, KeeperSeen, NoKeepFault, NoReadFault, NoWriteFault, ReadFailed, SeenAll, SinkSeen, SourceSeen, Told, seen_since}
+use Rattle.script_run.specs.Seen.{KeepFailed, KeeperSeen, NoKeepFault, NoReadFault, NoWriteFault, ReadFailed, SeenAll, SinkSeen, Told, seen_since}
 use Rattle.script_run.specs.Written.{Answered}
 
 -- What a call does that does these lines after those that are done: the cube at work, the sink and the keeper before it

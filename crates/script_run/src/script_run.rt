@@ -17,12 +17,12 @@ ghost use Rattle.script_run.specs.Stop.{IsReadyFor, IsStopOf};
 
 use crate::break_off::BreakOff;
 use crate::outbox::Outbox;
-use crate::script::{LineStop, do_read, is_edit, is_refusal, read};
-use cube_base::{Code, Memory, Sink};
+use crate::script::{LineStop, do_read, is_edit, is_refusal};
+use cube_base::{Code, Sink};
 use cube_core::Cube;
 use fact_keeper::Keeper;
 use schema_text::PolicyWord;
-use script_text::{Line, Reply};
+use script_text::{Line, LineFault, Reply, read_line};
 use std::alloc::Global;
 use std::marker::Model;
 
@@ -95,15 +95,12 @@ impl ScriptRun {
         ensures behind { IfErr result (IsBehind self.old.done (length self.old.gathered)) }
         ensures stays_open { StaysOpen (Q.tells keeper.old) (Q.tells keeper.new) }
     {
-        let Ok(read) = self.read(line) else {
-            return Err(self.give_up(out, 0));
+        let read = match read_line(self.alloc, self.cube.schema(), line) {
+            Ok(said) => Ok(said),
+            // At once, since the calls below have large locals, which are cleared when they begin.
+            Err(LineFault::Code(code)) => return self.refuse(code, out),
+            Err(LineFault::Memory) => return Err(self.give_up(out, 0)),
         };
-        // At once, since the calls below have large locals, which are cleared when they begin.
-        if let Err(code) = &read {
-            let refused = self.refuse(*code, out);
-            drop(read);
-            return refused;
-        }
         if let Err(off) = self.make_ready(&read, out) {
             drop(read);
             return Err(off);
@@ -145,14 +142,6 @@ impl ScriptRun {
             return self.send(out);
         }
         Ok(())
-    }
-
-    // Reads a line. The only error is running out of memory.
-    fn read(&self, line: &[u8]) -> Result<Result<Line, Code>, Memory>
-        ensures read { IfOk result (λ read. line_of self.now.cube.schema line.now ≡ read) }
-        ensures within { IfOk result (λ read. IfOk read (IsLineOf self.now.cube.schema)) }
-    {
-        read(self.alloc, self.cube.schema(), line)
     }
 
     // Does a line that was read, and answers it.
@@ -217,9 +206,7 @@ impl ScriptRun {
         ensures behind { IfErr result (IsBehind self.old.done (length self.old.gathered)) }
     {
         let reply = Some(Reply::Refused(code));
-        let answered = self.answer(&reply, out);
-        drop(reply);
-        answered
+        self.answer(&reply, out)
     }
 
     // Does a line that was read on the cube, and gives its reply.

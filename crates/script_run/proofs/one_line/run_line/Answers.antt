@@ -1,5 +1,5 @@
 -- No line was done before.
-use Rattle.std.proofs.Common.{◌≡◌, ◌∷◌, [], refl, subst, arith, true, ap}
+use Rattle.std.proofs.Common.{◌∷◌, [], refl, subst, arith, true, ap}
 use Rattle.schema_text.specs.Schema.{weigh_of}
 use Rattle.schema_text.specs.declared.word.PolicyWord.{PolicyWord}
 use Rattle.script_run.specs.Kept.{HasKept}

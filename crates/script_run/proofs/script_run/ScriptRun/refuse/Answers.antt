@@ -18,31 +18,31 @@ pub returns-clause-done : goal.returns-clause-done
 returns-clause-done g c = λ schema first lines start line done is_read.
     let weigh = weigh_of c.args.self.now.cube.policy in
     let taken = (g.K.Sink.tells c.args.out.now).taken in
-    on_ok_both c.answer-answered.result
-    (λ more answered. line_done {P = PolicyWord} weigh schema first lines line start taken _ c.args.self.now c.args.self.now c.answer-answered.new.self (Err c.args.code) (Some (Refused c.args.code)) done is_read refl refl more answered)
-    (c.answer-answered.ensures.gathered (run weigh schema first lines).replies start done.gathered) c.answer-answered.ensures.answered
+    on_ok_both c.answer.result
+    (λ more answered. line_done {P = PolicyWord} weigh schema first lines line start taken _ c.args.self.now c.args.self.now c.answer.new.self (Err c.args.code) (Some (Refused c.args.code)) done is_read refl refl more answered)
+    (c.answer.ensures.gathered (run weigh schema first lines).replies start done.gathered) c.answer.ensures.answered
 
 pub returns-clause-broken : goal.returns-clause-broken
 returns-clause-broken g c = λ schema first lines start line done is_read.
     let weigh = weigh_of c.args.self.now.cube.policy in
     let taken = (g.K.Sink.tells c.args.out.now).taken in
-    let sink = sink_seen g.K.Sink.tells c.args.out.now c.answer-answered.new.out in
+    let sink = sink_seen g.K.Sink.tells c.args.out.now c.answer.new.out in
     let all = replies_here {P = PolicyWord} weigh schema first lines line start taken c.args.self.now (Err c.args.code) c.args.self.now.cube (Some (Refused c.args.code)) done is_read refl refl in
-    subst (λ replies. IfErr c.answer-answered.result (BreaksOff replies (seen_since sink start))) (sym all)
-    (c.answer-answered.ensures.broken (run weigh schema first lines).replies start done.gathered (count_done weigh schema first lines start taken _ done))
+    subst (λ replies. IfErr c.answer.result (BreaksOff replies (seen_since sink start))) (sym all)
+    (c.answer.ensures.broken (run weigh schema first lines).replies start done.gathered (count_done weigh schema first lines start taken _ done))
 
 pub returns-clause-kept : goal.returns-clause-kept
 returns-clause-kept g c = λ schema first lines start line before now done is_read kept.
     let weigh = weigh_of c.args.self.now.cube.policy in
-    on_ok_weaker c.answer-answered.result
-    (λ (le : length c.answer-answered.new.self.gathered ≤ length c.args.self.now.gathered + 1). line_kept {P = PolicyWord} weigh schema first lines line start _ before c.args.self.now (Err c.args.code) now now c.answer-answered.new.self.gathered (record { none = λ is. absurd (cc is) }) done is_read kept (commits_none now now refl) le)
-    c.answer-answered.ensures.one_more
+    on_ok_weaker c.answer.result
+    (λ (le : length c.answer.new.self.gathered ≤ length c.args.self.now.gathered + 1). line_kept {P = PolicyWord} weigh schema first lines line start _ before c.args.self.now (Err c.args.code) now now c.answer.new.self.gathered (record { none = λ is. absurd (cc is) }) done is_read kept (commits_none now now refl) le)
+    c.answer.ensures.one_more
 
 pub returns-clause-stopped : goal.returns-clause-stopped
 returns-clause-stopped g c = λ schema first lines start line before now done is_read kept.
     let weigh = weigh_of c.args.self.now.cube.policy in
-    IfErr-weaker c.answer-answered.result (IsGatheredStop (c.args.self.now.done + 1) (length c.args.self.now.gathered + 1)) _
-    (λ off here. line_stopped {P = PolicyWord} weigh schema first lines line start _ before c.args.self.now (Err c.args.code) now now off (record { none = λ is. absurd (cc is) }) done is_read kept (commits_none now now refl) here) c.answer-answered.ensures.stop
+    IfErr-weaker c.answer.result (IsGatheredStop (c.args.self.now.done + 1) (length c.args.self.now.gathered + 1)) _
+    (λ off here. line_stopped {P = PolicyWord} weigh schema first lines line start _ before c.args.self.now (Err c.args.code) now now off (record { none = λ is. absurd (cc is) }) done is_read kept (commits_none now now refl) here) c.answer.ensures.stop
 
 pub returns-clause-no_keep : goal.returns-clause-no_keep
-returns-clause-no_keep g c = IfErr-weaker c.answer-answered.result _ _ (λ off stop. stop.no_keep) c.answer-answered.ensures.stop
+returns-clause-no_keep g c = IfErr-weaker c.answer.result _ _ (λ off stop. stop.no_keep) c.answer.ensures.stop
