@@ -35,6 +35,8 @@ mod lines;
 #[cfg(test)]
 mod rebuilt;
 #[cfg(test)]
+mod refused_stores;
+#[cfg(test)]
 mod replies;
 #[cfg(test)]
 mod rounds;
