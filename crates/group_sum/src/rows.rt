@@ -12,6 +12,9 @@ use cube_base::{Cols, Memory};
 use std::alloc::Global;
 use std::marker::Model;
 
+/// For so many terms more a copy has room.
+const SPARE: usize = 2;
+
 /// Terms in any order, with room for a number of numerators each, that of the count included. Contracts see the number
 /// of columns and the list of terms.
 #[derive(Debug, Drop)]
@@ -57,14 +60,15 @@ impl Rows {
         })
     }
 
-    /// Equal terms.
+    /// Equal terms, with room for some more: what copies terms most often adds one.
     pub fn duplicate(&self, alloc: Global) -> Result<Self, Memory>
         ensures { IfOk result (λ rows. rows ≡ self.now) }
     {
+        let columns = self.columns as usize;
         Ok(Rows {
             columns: self.columns,
-            dens: Vec::from_slice(alloc, &self.dens)?,
-            nums: Vec::from_slice(alloc, &self.nums)?,
+            dens: copy_with_room(alloc, &self.dens, SPARE)?,
+            nums: copy_with_room(alloc, &self.nums, columns.saturating_mul(SPARE))?,
         })
     }
 
@@ -240,6 +244,15 @@ impl Rows {
         clear(&mut self.nums[from..from + columns]);
         Ok(())
     }
+}
+
+// The same items, with room for so many more.
+fn copy_with_room<T: Copy>(alloc: Global, items: &[T], more: usize) -> Result<Vec<T>, Memory>
+    ensures { IfOk result (λ list. list.items ≡ items.now) }
+{
+    let mut list = Vec::with_capacity(alloc, items.len().saturating_add(more))?;
+    list.extend_from_slice(items)?;
+    Ok(list)
 }
 
 // Makes each numerator 0.
