@@ -145,8 +145,14 @@ def is_text(field):
 
 
 def on_one_line(text):
-    """The text with what cannot be printed, as a line end, spelled out."""
-    return "".join(letter if letter.isprintable() else letter.encode("unicode_escape").decode() for letter in text)
+    """The text with what cannot be printed, as a line end or a byte that is no text, spelled out."""
+    return "".join(map(printable, text))
+
+
+def printable(letter):
+    if letter.isprintable():
+        return letter
+    return f"\\x{ord(letter) - 0xDC00:02x}" if "\udc80" <= letter <= "\udcff" else letter.encode("unicode_escape").decode()
 
 
 def shown(text):
