@@ -18,6 +18,7 @@ sys.dont_write_bytecode = True
 import plain_drill
 import plain_model
 import plain_model_rows
+from calls import want_words
 
 SECONDS = 60  # that the program may take for an input
 USAGE_EACH = 50  # one case of so many has words that are no command
@@ -425,6 +426,7 @@ def compare_cases(program, cases, seed):
 
 
 def main():
+    want_words(3, __doc__)
     program, cases, seed = sys.argv[1], int(sys.argv[2]), int(sys.argv[3])
     done = compare_examples(program) and compare_drills(program) and compare_cases(program, cases, seed)
     return 0 if done else 1

@@ -11,6 +11,7 @@ import time
 sys.dont_write_bytecode = True
 
 import plain_model
+from calls import want_words
 
 
 def mixed(n):
@@ -163,6 +164,7 @@ def row(program, runs, policy, what, facts, with_edits):
 
 
 def main():
+    want_words(2, __doc__)
     program, runs, large = sys.argv[1], int(sys.argv[2]), sys.argv[3:] == ["large"]
     print("| policy  | facts   | number | rows    | inserts s | change ms | withdraw, insert ms | MiB    | B a fact | B a row |")
     print("|---------|---------|-------:|--------:|----------:|----------:|--------------------:|-------:|---------:|--------:|")

@@ -7,6 +7,8 @@ import sys
 import tempfile
 import time
 
+from calls import want_words
+
 
 def line(*fields):
     return "\t".join(str(field) for field in fields) + "\n"
@@ -226,4 +228,5 @@ def main(runs, *programs):
 
 
 if __name__ == "__main__":
+    want_words(2, __doc__)
     main(*sys.argv[1:])

@@ -15,6 +15,7 @@ sys.dont_write_bytecode = True
 
 import differential
 import plain_model
+from calls import want_words
 
 MOST_WORLDS = 2_000
 
@@ -91,6 +92,7 @@ def adds_up(schema, facts, region, sums):
 
 
 def main():
+    want_words(2, __doc__)
     cases, seed = int(sys.argv[1]), sys.argv[2]
     done, number = 0, 0
     while done < cases:

@@ -26,6 +26,7 @@ import plain_model
 import plain_program
 import plain_store
 import stores
+from calls import want_words
 from plain_feed import Store, text_of
 from stores import Wrong, must
 
@@ -410,6 +411,7 @@ def compare_case(program, folder, seed, number, seen):
 
 
 def main():
+    want_words(3, __doc__)
     program, cases, seed = sys.argv[1], int(sys.argv[2]), int(sys.argv[3])
     seen = Counter()
     with tempfile.TemporaryDirectory() as folder:

@@ -14,6 +14,7 @@ from pathlib import Path
 sys.dont_write_bytecode = True
 
 import stores
+from calls import want_words
 from store_speed import CITIES, FACTS, built_alone, made_by_sqlite, schema, timed
 
 RUNS = 3
@@ -24,6 +25,7 @@ def facts_file():
 
 
 def main():
+    want_words(1, __doc__)
     program = sys.argv[1]
     place = sys.argv[2] if len(sys.argv) > 2 else "."
     file = facts_file()

@@ -19,6 +19,7 @@ sys.dont_write_bytecode = True
 
 import differential
 import plain_model
+from calls import want_words
 from stores import Wrong, call, must
 
 differential.NAMES += [b"Paris, TX", b'the "Hub"', b'"', b'""', b",", b"a,b,c", b"'", b"a\\b", b" x", "Île, São".encode()]
@@ -144,6 +145,7 @@ def compare_case(program, folder, seed, number, came):
 
 
 def main():
+    want_words(3, __doc__)
     program, cases, seed = sys.argv[1], int(sys.argv[2]), int(sys.argv[3])
     came = Counter()
     with tempfile.TemporaryDirectory() as folder:

@@ -14,6 +14,7 @@ sys.dont_write_bytecode = True
 
 import store_speed
 import stores
+from calls import want_words
 
 RUNS = 3
 
@@ -38,6 +39,7 @@ def done_once(program, path, folder, lines, replies):
 
 
 def main():
+    want_words(1, __doc__)
     program = sys.argv[1]
     with tempfile.TemporaryDirectory(dir=sys.argv[2] if len(sys.argv) > 2 else ".") as folder:
         path = f"{folder}/million.cube"

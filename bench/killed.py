@@ -22,6 +22,7 @@ sys.dont_write_bytecode = True
 import feeds
 import plain_model
 import stores
+from calls import want_words
 
 LINES = 4000
 FOLLOWED = 1000  # lines behind which a follower's feed ends: it is followed anew after each kill
@@ -137,6 +138,7 @@ FOLLOWERS_EACH = 20  # of one leader
 
 
 def main():
+    want_words(3, __doc__)
     program, runs, seed, follow = sys.argv[1], int(sys.argv[2]), int(sys.argv[3]), sys.argv[4:] == ["follow"]
     random = Random(f"killed {seed}")
     ends = []

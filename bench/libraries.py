@@ -7,6 +7,9 @@ import sys
 import time
 from fractions import Fraction
 
+from calls import want_words
+
+want_words(2, __doc__)
 PROGRAM, RUNS = sys.argv[1], int(sys.argv[2])
 
 

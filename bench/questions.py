@@ -17,6 +17,7 @@ import time
 
 sys.dont_write_bytecode = True
 
+from calls import want_words
 from engine import Bench, Tree, line, mixed, peak_of, run, schema
 
 WHOLE = ("All", "All", "All")
@@ -215,4 +216,5 @@ def main(program, runs=3, word=None):
 
 
 if __name__ == "__main__":
+    want_words(1, __doc__)
     sys.exit(main(*sys.argv[1:]))

@@ -13,6 +13,7 @@ sys.dont_write_bytecode = True
 
 import plain_feed
 import plain_model
+from calls import want_words
 
 STOPPED = 9
 TOLD = re.compile(rb"cube: out of memory after line (\d+)\n")
@@ -104,4 +105,5 @@ def main(program, library, *inputs):
             refuse_each(runs, name)
 
 
+want_words(2, __doc__)
 main(*sys.argv[1:])

@@ -20,6 +20,7 @@ sys.dont_write_bytecode = True
 import differential
 import plain_model
 import plain_table_rows
+from calls import want_words
 from stores import Wrong, call, must
 
 SQLITE = shutil.which("sqlite3")
@@ -159,6 +160,7 @@ def compare_worked(program, folder):
 
 
 def main():
+    want_words(3, __doc__)
     program, cases, seed = sys.argv[1], int(sys.argv[2]), int(sys.argv[3])
     if SQLITE is None:
         print("SQLite's shell is not there: nothing was added up")

@@ -14,6 +14,7 @@ import time
 sys.dont_write_bytecode = True
 
 import stores
+from calls import want_words
 from edits import mixed, most_kilobytes, schema
 
 SIZES = [1_000, 10_000, 100_000, 1_000_000]
@@ -68,6 +69,7 @@ def row(program, folder, facts):
 
 
 def main():
+    want_words(1, __doc__)
     program = sys.argv[1]
     print("| facts     | inserts s |      MB | import s  |      MB | check s   |      MB |")
     print("|----------:|----------:|--------:|----------:|--------:|----------:|--------:|")

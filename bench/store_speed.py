@@ -24,6 +24,7 @@ from pathlib import Path
 sys.dont_write_bytecode = True
 
 import stores
+from calls import want_words
 
 FACTS = 1_000_000
 EDITS = 10_000
@@ -170,6 +171,7 @@ def against_alone(program, alone, folder, script):
 
 
 def main():
+    want_words(1, __doc__)
     program = sys.argv[1]
     place = sys.argv[2] if len(sys.argv) > 2 else "."
     with tempfile.TemporaryDirectory(dir=place) as folder, tempfile.TemporaryDirectory() as project:

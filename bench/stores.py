@@ -29,6 +29,7 @@ import differential
 import plain_model
 import plain_store
 import plain_table_rows
+from calls import want_words
 from plain_store import TABLES, numbers, packed
 
 SECONDS = 60
@@ -637,6 +638,7 @@ def compare_full(program, folder):
 
 
 def main():
+    want_words(3, __doc__)
     program, cases, seed = sys.argv[1], int(sys.argv[2]), int(sys.argv[3])
     with tempfile.TemporaryDirectory() as folder:
         try:

@@ -22,6 +22,7 @@ import differential
 import feeds
 import plain_feed
 import plain_model
+from calls import want_words
 
 SCHEMA = b"cube\t1\npolicy\tuniform\ndimension\tPlace\nnode\t0\tTX\nnode\t1\tAustin\nnode\t1\tDallas\nend\n"
 TURNS = 1000
@@ -202,6 +203,7 @@ def compare_feed_cuttings(program, cases, seed):
 
 
 def main():
+    want_words(3, __doc__)
     program, cases, seed = sys.argv[1], int(sys.argv[2]), int(sys.argv[3])
     if not session(program):
         print("a line was not answered before the next")

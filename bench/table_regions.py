@@ -15,6 +15,7 @@ sys.dont_write_bytecode = True
 
 import differential
 import plain_model
+from calls import want_words
 
 MOST_REGIONS = 250  # of a cube; larger ones are passed over
 ASKED = 12  # tables of a cube
@@ -117,6 +118,7 @@ def is_right(number, cube, asked):
 
 
 def main():
+    want_words(2, __doc__)
     cases, seed = int(sys.argv[1]), int(sys.argv[2])
     cubes = tables = listed = 0
     for number in range(cases):

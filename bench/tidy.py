@@ -26,6 +26,7 @@ import differential
 import facts
 import files
 import plain_model
+from calls import want_words
 from stores import Wrong, call, must
 
 
@@ -151,6 +152,7 @@ def compare_case(program, folder, seed, number, came):
 
 
 def main():
+    want_words(3, __doc__)
     program, cases, seed = sys.argv[1], int(sys.argv[2]), int(sys.argv[3])
     came, number, done = Counter(), 0, 0
     while done < cases:
