@@ -348,12 +348,18 @@ def main():
         sys.exit(USAGE)
     sys.stdin.reconfigure(encoding="utf-8")
     sys.stdout.reconfigure(encoding="utf-8")
+    path, *words = sys.argv[1:]
+    read = path
     try:
-        schema = read_schema(schema_text(sys.argv[1]).split("\n"))
-        words = sys.argv[2:]
+        schema = read_schema(schema_text(path).split("\n"))
+        read = "the reply"
         sys.stdout.write(chart(schema, read_reply(sys.stdin.readline(), schema, words), words))
-    except (Fault, Misuse, OSError, UnicodeDecodeError) as fault:
+    except (Fault, Misuse) as fault:
         sys.exit(f"chart.py: {fault}")
+    except OSError as fault:
+        sys.exit(f"chart.py: {read}: {fault.strerror}")
+    except UnicodeDecodeError:
+        sys.exit(f"chart.py: {read}: it is not UTF-8")
 
 
 if __name__ == "__main__":
