@@ -117,8 +117,9 @@ fn ids_by_patterns<L: Ledger>(
     let mut steps = Steps::<L>::new(blank);
     let region = space.region(nodes).ok_or("no region")?;
     let cell = space.cell_code(region).ok_or("no cell")?;
-    let codes = index.held_codes_by_pattern(space, patterns, cell, &mut steps)?;
-    ids_at(alloc, index, codes.as_slice())
+    let mut codes = Vec::new(alloc);
+    index.held_codes_by_pattern(space, patterns, cell, &mut codes, &mut steps)?;
+    ids_at(alloc, index, &codes)
 }
 
 /// Whether the ids over a cell are these.

@@ -7,14 +7,13 @@ use Rattle.std.proofs.lemmas.Map.Keys.{IsDistinct-head, IsDistinct-tail}
 use Rattle.cube_model.specs.Cells.{all_cells, is_among, is_inside, places_from}
 use Rattle.cube_model.specs.Tree.{Dimension}
 use Rattle.region_algebra.specs.Space.{all_regions, region_total}
-use Rattle.region_index.specs.Content.{AreAscending, Content, held_codes, holds_ids}
+use Rattle.region_index.specs.Content.{Content, held_codes, holds_ids}
 use Rattle.region_index.specs.Over.{codes_over}
 use Rattle.region_index.specs.Patterns.{HasPatterns, codes_of_pattern, codes_of_patterns, pattern_of}
-use Rattle.region_index.specs.Walk.{Probes, codes_of_leaves}
-use Rattle.cube_model.proofs.Ascending.{same_members}
-use Rattle.region_index.proofs.Changing.{among-filter}
+use Rattle.region_index.specs.Walk.{Probes, codes_behind, codes_of_leaves}
+use Rattle.region_index.proofs.Changing.{among-append, among-filter}
 use Rattle.region_index.proofs.Places.{among-places}
-use Rattle.region_index.proofs.Walking.{AreAscending-held, any-flat_map, codes_over-leaves}
+use Rattle.region_index.proofs.Walking.{any-flat_map, codes_over-leaves}
 
 -- items that pass one of two tests, where none passes both
 length-apart : {X : Type 0} (p q : X → Bool) (k : ℕ) (xs : List X) → ((x : X) → (p x && q x) ≡ false) → length (places_from (λ x. p x || q x) k xs) ≡ length (places_from p k xs) + length (places_from q k xs)
@@ -105,6 +104,14 @@ any-and : (b : Bool) (at : ℕ) (keys : List ℕ) → list_any (λ key. b && at 
 any-and b at [] = grind arith
 any-and b at (key ∷ keys) = grind (arith, nat_tests, any-and b at keys)
 
+-- what is there after probes was there before, or ids are held at it
+among-probed : (content inside : Content) (codes before found : List ℕ) (m n : ℕ) → inside ≡ content → Probes inside codes before found m n
+    → (code : ℕ) → is_among found code ≡ (is_among before code || is_among (held_codes content codes) code)
+among-probed content inside codes before found m n same probes code =
+    ap (λ xs. is_among xs code) probes.found
+    ∙ among-append before (held_codes inside codes) code
+    ∙ ap (λ held. is_among before code || is_among (held_codes held codes) code) same
+
 module _ (content : Content) (dims : List Dimension) (leaves listed : List ℕ) (has : HasPatterns dims content (Some listed)) where
   -- where ids are held, a code is one of those of the patterns where it is one over the leaves
   among-patterns : (code : ℕ) (region : Option (List ℕ)) → slice_get (all_regions dims) code ≡ region
@@ -128,14 +135,20 @@ module _ (content : Content) (dims : List Dimension) (leaves listed : List ℕ) 
       known : (held inside is_known : Bool) → (held ≡ true → is_known ≡ true) → (held && (inside && is_known)) ≡ (held && inside)
       known held inside is_known follows = grind (arith, follows)
 
-  -- so what was found, ascending, is the codes over the cell at which ids are held
-  pub held_codes-found : (inside : Content) (cell : ℕ) (found codes : List ℕ) (m n : ℕ) → inside ≡ content → slice_get (all_cells dims) cell ≡ Some leaves
-      → Probes inside (codes_of_patterns dims leaves listed) [] found m n → AreAscending codes → ((code : ℕ) → is_among codes code ≡ is_among found code) → codes ≡ held_codes content (codes_over dims cell)
-  held_codes-found inside cell found codes m n same at probes ascending members =
-      same_members 0 0 codes (held_codes content (codes_over dims cell)) ascending (AreAscending-held content dims cell) (λ code.
-      members code
-      ∙ ap (λ xs. is_among xs code) (probes.found ∙ ap (λ held. held_codes held (codes_of_patterns dims leaves listed)) same)
-      ∙ among-filter (holds_ids content) (codes_of_patterns dims leaves listed) code
+  -- so by the patterns the codes over the cell are found at which ids are held
+  pub found-by_pattern : (inside : Content) (cell : ℕ) (before found : List ℕ) (m n : ℕ) → inside ≡ content → slice_get (all_cells dims) cell ≡ Some leaves
+      → Probes inside (codes_of_patterns dims leaves listed) before found m n → (code : ℕ) → is_among found code ≡ (is_among before code || is_among (held_codes content (codes_over dims cell)) code)
+  found-by_pattern inside cell before found m n same at probes code =
+      among-probed content inside (codes_of_patterns dims leaves listed) before found m n same probes code
+      ∙ ap (λ b. is_among before code || b)
+      (among-filter (holds_ids content) (codes_of_patterns dims leaves listed) code
       ∙ among-patterns code (slice_get (all_regions dims) code) refl
       ∙ ap (λ xs. holds_ids content code && is_among xs code) (over-leaves dims cell leaves at)
       ∙ sym (among-filter (holds_ids content) (codes_over dims cell) code))
+
+-- and so they are by the whole walk
+pub found-by_walk : (content inside : Content) (dims : List Dimension) (cell : ℕ) (leaves before found : List ℕ) (m n : ℕ) → inside ≡ content → slice_get (all_cells dims) cell ≡ Some leaves
+    → Probes inside (codes_behind dims leaves 0) before found m n → (code : ℕ) → is_among found code ≡ (is_among before code || is_among (held_codes content (codes_over dims cell)) code)
+found-by_walk content inside dims cell leaves before found m n same at probes code =
+    among-probed content inside (codes_behind dims leaves 0) before found m n same probes code
+    ∙ ap (λ codes. is_among before code || is_among (held_codes content codes) code) (codes_over-leaves dims cell leaves at)

@@ -9,19 +9,19 @@ use Rattle.region_index.specs.Walk.{Probes}
 use Rattle.region_index.proofs.Walking.{Probes-append, Probes-none, Probes-of}
 
 -- the regions of these patterns were probed, in no more steps than the patterns
-pub record AreProbed (content : Content) (dims : List Dimension) (leaves : List ℕ) (patterns found : List ℕ) (before after : ℕ) : Type 0 where
-  pub probes : Probes content (codes_of_patterns dims leaves patterns) [] found before after
+pub record AreProbed (content : Content) (dims : List Dimension) (leaves : List ℕ) (patterns first found : List ℕ) (before after : ℕ) : Type 0 where
+  pub probes : Probes content (codes_of_patterns dims leaves patterns) first found before after
   pub most : after ≤ before + length patterns
 
-module _ (content : Content) (dims : List Dimension) (leaves patterns : List ℕ) where
+module _ (content : Content) (dims : List Dimension) (leaves patterns first : List ℕ) where
   -- nothing is probed before the first
-  pub AreProbed-none : (found : List ℕ) (steps : ℕ) → found ≡ [] → AreProbed content dims leaves (take 0 patterns) found steps steps
-  AreProbed-none found steps none = rw none (record { probes = Probes-none content [] [] steps refl; most = omega arith })
+  pub AreProbed-none : (steps : ℕ) → AreProbed content dims leaves (take 0 patterns) first first steps steps
+  AreProbed-none steps = record { probes = Probes-none content [] first steps refl; most = omega arith }
 
   -- and all are at the end
-  pub AreProbed-all : (k : ℕ) (found : List ℕ) (before after : ℕ) → length patterns ≤ k → AreProbed content dims leaves (take k patterns) found before after → AreProbed content dims leaves patterns found before after
+  pub AreProbed-all : (k : ℕ) (found : List ℕ) (before after : ℕ) → length patterns ≤ k → AreProbed content dims leaves (take k patterns) first found before after → AreProbed content dims leaves patterns first found before after
   AreProbed-all k found before after end probed =
-      subst (λ all. AreProbed content dims leaves all found before after) (take_all k patterns end) probed
+      subst (λ all. AreProbed content dims leaves all first found before after) (take_all k patterns end) probed
 
   -- a part takes no more than all
   codes-part : (k : ℕ) → length (codes_of_patterns dims leaves (take k patterns)) ≤ length (codes_of_patterns dims leaves patterns)
@@ -33,7 +33,7 @@ module _ (content : Content) (dims : List Dimension) (leaves patterns : List ℕ
   patterns-part k = omega (arith, ap length (take-append-drop k patterns), length-append (take k patterns) (drop k patterns))
 
   module _ (i pattern : ℕ) (next : take (i + 1) patterns ≡ take i patterns ++ pattern ∷ []) (found : List ℕ) (before now : ℕ)
-      (probed : AreProbed content dims leaves (take i patterns) found before now) where
+      (probed : AreProbed content dims leaves (take i patterns) first found before now) where
     codes : codes_of_patterns dims leaves (take (i + 1) patterns) ≡ codes_of_patterns dims leaves (take i patterns) ++ codes_of_pattern dims leaves pattern
     codes =
         ap (codes_of_patterns dims leaves) next
@@ -45,9 +45,9 @@ module _ (content : Content) (dims : List Dimension) (leaves patterns : List ℕ
 
     -- one pattern more
     pub AreProbed-next : (more : List ℕ) (after : ℕ) → Probes content (codes_of_pattern dims leaves pattern) found more now after → after ≤ now + 1
-        → AreProbed content dims leaves (take (i + 1) patterns) more before after
+        → AreProbed content dims leaves (take (i + 1) patterns) first more before after
     AreProbed-next more after probes most = record {
-      probes = Probes-of content _ _ [] more before after (sym codes) (Probes-append content _ _ [] found more before now after probed.probes probes);
+      probes = Probes-of content _ _ first more before after (sym codes) (Probes-append content _ _ first found more before now after probed.probes probes);
       most = omega (arith, probed.most, most, count-next);
     }
 

@@ -1,6 +1,6 @@
 -- The codes of the regions over a cell, dimension by dimension, and what probes of them do.
 use Rattle.std.proofs.Common.{◌≡◌, ℕ, ◌+◌, ◌*◌, ◌<◌, ◌≤◌, Bool, true, false, List, [], ◌∷◌, ◌++◌, length, map, drop, get_or, refl, sym, ap, subst, ◌∙◌, append_assoc, length-append, arith}
-use Rattle.std.specs.Prelude.{if◌then◌else◌, nat_lt, All, IfSome, OnErr, Option, Some, None, Result, Ok, Err, slice_get, ◌||◌, ◌==◌}
+use Rattle.std.specs.Prelude.{if◌then◌else◌, nat_lt, All, IfSome, OnErr, OnOk, Option, Some, None, Result, Ok, Err, slice_get, ◌||◌, ◌==◌}
 use Rattle.std.specs.List.{flat_map, list_any}
 use Rattle.std.specs.Option.{option_map_or}
 use Rattle.std.proofs.Math.Nat.{mul-le-mul_left}
@@ -230,6 +230,11 @@ module _ (dims : List Dimension) (leaves : List ℕ) (d code : ℕ) (way : IsOnT
 pub on_err : {T E P : Type 0} (r : Result T E) → P → OnErr r P
 on_err (Ok x) holds = tt
 on_err (Err e) holds = holds
+
+-- whether probes ran out of memory or not, they were no more than the codes
+pub steps-either : {T E : Type 0} (r : Result T E) (content : Content) (codes a b : List ℕ) (m n : ℕ) → OnOk r (Probes content codes a b m n) → OnErr r (n ≤ m + length codes) → n ≤ m + length codes
+steps-either (Ok x) content codes a b m n probes most = omega (arith, probes.steps)
+steps-either (Err e) content codes a b m n probes most = most
 
 -- the walk's start
 pub way-start : (dims : List Dimension) (leaves : List ℕ) → IsRegion dims leaves → All IsTree dims → space_fault dims ≡ None → IsOnTheWay dims leaves 0 0

@@ -144,7 +144,7 @@ pub fn ascending_copy(alloc: Global, ids: &[u64]) -> Result<Vec<u64>, Memory>
 }
 
 /// Whether an id is among ascending ones. It takes no memory.
-pub fn is_in(ids: &[u64], id: u64) -> bool
+fn is_in(ids: &[u64], id: u64) -> bool
     requires { AreAscending ids.now }
     ensures { result ≡ is_among ids.now id }
 {

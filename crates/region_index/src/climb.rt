@@ -1,5 +1,5 @@
 //! A climb from the leaves of a cell to the nodes of given depths, and the walk over regions that it makes.
-ghost use Rattle.std.specs.Prelude.{◌≡◌, ◌+◌, ◌<◌, ◌≤◌, ◌∷◌, [], IfNone, IfOk, IfSome, OnErr, OnOk, drop, length, option_to_list};
+ghost use Rattle.std.specs.Prelude.{◌≡◌, ◌+◌, ◌<◌, ◌≤◌, ◌∷◌, [], IfNone, IfSome, OnErr, OnOk, drop, length, option_to_list};
 ghost use Rattle.cube_model.specs.Limits.{MAX_DEPTH};
 ghost use Rattle.cube_model.specs.Tree.{place_of};
 ghost use Rattle.std.specs.Option.{option_map_or};
@@ -10,28 +10,26 @@ use crate::Steps;
 use crate::walk::{Walk, with_node};
 use cube_base::Memory;
 use dim_tree::Dim;
-use std::alloc::Global;
 use std::sync::ledger::Ledger;
 
 impl Walk<'_> {
-    /// The codes at which ids are held of the regions over the leaves that have one of these patterns. A step is a probe of
-    /// such a region.
+    /// Finds the codes at which ids are held of the regions over the leaves that have one of these patterns. A step is a
+    /// probe of such a region.
     pub fn of_patterns<L: Ledger>(
         &self,
-        alloc: Global,
         patterns: &[u64],
+        found: &mut Vec<u64>,
         steps: &mut Steps<L>,
-    ) -> Result<Vec<u64>, Memory>
+    ) -> Result<(), Memory>
         requires { IsOnTheWay self.now.space.now self.now.leaves 0 0 }
-        ensures ok { IfOk result (λ found. Probes self.now.ids.now (codes_of_patterns self.now.space.now self.now.leaves patterns.now) [] found.items steps.old steps.new) }
+        ensures ok { OnOk result (Probes self.now.ids.now (codes_of_patterns self.now.space.now self.now.leaves patterns.now) found.old.items found.new.items steps.old steps.new) }
         ensures err { OnErr result (steps.new ≤ steps.old + length (codes_of_patterns self.now.space.now self.now.leaves patterns.now)) }
         ensures most { steps.new ≤ steps.old + length patterns.now }
     {
-        let mut found = Vec::new(alloc);
         for pattern in patterns {
-            self.of_pattern(*pattern, &mut found, steps)?;
+            self.of_pattern(*pattern, found, steps)?;
         }
-        Ok(found)
+        Ok(())
     }
 
     /// Probes the region of a pattern over the leaves, where there is one.

@@ -12,7 +12,7 @@ mod steps;
 mod touching;
 mod walk;
 
-pub use changes::{is_in, sort_distinct};
+pub use changes::sort_distinct;
 pub use laws::{
     an_index_follows_its_facts, codes_held_over_a_cell_are_those_of_the_facts,
     ids_over_a_cell_are_those_of_the_facts, known_patterns_are_those_of_an_index,

@@ -1,11 +1,11 @@
 //! The index of the imprecise facts.
-ghost use Rattle.std.specs.Prelude.{◌≡◌, ◌==◌, ◌+◌, ◌<◌, ◌≤◌, ◌||◌, ◌&&◌, ◌++◌, ℕ, List, [], IfOk, IfSome, OnErr, Some, filter, length, map, not};
+ghost use Rattle.std.specs.Prelude.{◌≡◌, ◌==◌, ◌+◌, ◌<◌, ◌≤◌, ◌||◌, ◌&&◌, ◌++◌, ℕ, List, [], IfOk, IfSome, OnErr, OnOk, Some, filter, length, map, not};
 ghost use Rattle.std.specs.Option.{option_to_list};
 ghost use Rattle.cube_model.specs.Cells.{all_cells, is_among};
 ghost use Rattle.region_index.specs.Content.{AreAscending, AreIdsAt, held_codes, ids_at};
 ghost use Rattle.region_index.specs.Changes.{Applies, AreByCode, HavePlacesForIds, IsStagedFor, IsUnchanged, Pair, changed_entry, names, some_ids, staging};
 ghost use Rattle.region_index.specs.Over.{codes_over};
-ghost use Rattle.region_index.specs.Patterns.{HasPatterns, IsListed};
+ghost use Rattle.region_index.specs.Patterns.{HasPatterns};
 
 use crate::Steps;
 use crate::changes::{
@@ -122,42 +122,20 @@ impl RegionIndex {
         Ok(Ids::from(found))
     }
 
-    /// What `held_codes_over` answers, found by way of the patterns that are known, unless that are all. A step is a probe
-    /// of the region over the cell of such a pattern, where there is one.
+    /// Adds the codes that `held_codes_over` answers to those of a list, in any order. Where not all patterns are known, they
+    /// are found by way of the known ones. A step is a probe of the region over the cell of such a pattern, where there is one.
     pub fn held_codes_by_pattern<L: Ledger>(
         &self,
         space: &Space,
         patterns: &DepthPatterns,
         cell: u64,
+        found: &mut Vec<u64>,
         steps: &mut Steps<L>,
-    ) -> Result<Ids, Memory>
+    ) -> Result<(), Memory>
         requires cell { cell < length (all_cells space.now) }
         requires patterns { HasPatterns space.now self.now patterns.now }
-        ensures codes { IfOk result (λ codes. codes ≡ held_codes self.now (codes_over space.now cell)) }
-        ensures ascending { IfOk result AreAscending }
+        ensures codes { OnOk result ((code : ℕ) → is_among found.new.items code ≡ (is_among found.old.items code || is_among (held_codes self.now (codes_over space.now cell)) code)) }
         ensures patterns { IfSome patterns.now (λ listed. steps.new ≤ steps.old + length listed) }
-        ensures regions { steps.new ≤ steps.old + length (codes_over space.now cell) }
-    {
-        match patterns.listed() {
-            Some(listed) => self.held_codes_of(space, listed, cell, steps),
-            None => self.held_codes_over(space, cell, steps),
-        }
-    }
-
-    /// The same where the patterns are listed.
-    fn held_codes_of<L: Ledger>(
-        &self,
-        space: &Space,
-        listed: &[u64],
-        cell: u64,
-        steps: &mut Steps<L>,
-    ) -> Result<Ids, Memory>
-        requires cell { cell < length (all_cells space.now) }
-        requires patterns { HasPatterns space.now self.now (Some listed.now) }
-        requires once { IsListed listed.now }
-        ensures codes { IfOk result (λ codes. codes ≡ held_codes self.now (codes_over space.now cell)) }
-        ensures ascending { IfOk result AreAscending }
-        ensures patterns { steps.new ≤ steps.old + length listed.now }
         ensures regions { steps.new ≤ steps.old + length (codes_over space.now cell) }
     {
         let _ = space.dims();
@@ -166,8 +144,10 @@ impl RegionIndex {
             space,
             leaves: space.cell_at(cell),
         };
-        let found = walk.of_patterns(self.alloc, listed, steps)?;
-        Ok(Ids::from(sort_distinct(found)))
+        match patterns.listed() {
+            Some(listed) => walk.of_patterns(listed, found, steps),
+            None => walk.over(0, 0, found, steps),
+        }
     }
 
     /// The ids at a code, ascending, none where none is held. It takes no memory.
