@@ -157,6 +157,16 @@ module _ (dim : Dimension) (tree : IsTree dim) where
             grind (arith, nat_tests, own, apart)
         none y false is = grind (arith, is)
 
+    under-own : is_under dim x x ≡ true
+    under-own = under-self x i within placed (parent dim x) refl
+
+  -- a parent lies less deep
+  pub depth-parent : (x p : ℕ) → p < length dim → parent dim x ≡ Some p → p < x → depth_of dim p < depth_of dim x
+  depth-parent x p within is below =
+      let differs : (x == p) ≡ false = grind (arith, nat_tests, below) in
+      let under : is_under dim x p ≡ true = is_under-parent dim x p p (are_numbers dim tree).distinct is ∙ grind (arith, differs, under-own p within) in
+      depth-less x p differs under
+
 -- a depth that was read is the node's
 pub depth-read : (dim : Dimension) (node depth : ℕ) → option_map (λ e. e.depth) (entry_of dim node) ≡ Some depth → depth_of dim node ≡ depth
 depth-read dim node depth is = read (entry_of dim node) is

@@ -12,6 +12,7 @@ pub mod OneId
 pub mod PatternCodes
 pub mod PatternNumbers
 pub mod PatternWalk
+pub mod PlaceTable
 pub mod Places
 pub mod RegionsInLine
 pub mod Walking

@@ -134,6 +134,33 @@ module _ (dims : List Dimension) (leaves : List ℕ) (d code : ℕ) (way : IsOnT
       let there = dim-at dims d d-within in
       sym (codes_behind-here dims leaves way.named d code there.0 leaf there.1 has)
 
+-- The walk at a dimension, and a place there.
+module _ (dims : List Dimension) (leaves : List ℕ) (d code : ℕ) (way : IsOnTheWay dims leaves d code) (dim : Dimension) (is : slice_get dims d ≡ Some dim) (place : ℕ) (within : place < length dim) where
+  -- the digits of the dimension and of those behind it
+  room : (code + 1) * (length dim * region_total (drop (d + 1) dims)) ≤ region_total dims
+  room = rw (drop-at dims d dim is) at way.fits
+
+  behind-some : 1 ≤ region_total (drop (d + 1) dims)
+  behind-some = region_total-some (drop (d + 1) dims) (All-drop IsTree (d + 1) dims way.trees)
+
+  pub place-small : (code + 1) * length dim < SPACE_LIMIT
+  place-small =
+      let more : (code + 1) * length dim * 1 ≤ (code + 1) * length dim * region_total (drop (d + 1) dims) = mul-le-mul_left ((code + 1) * length dim) behind-some in
+      omega (arith, more, room, way.limit)
+
+  pub way-place : IsOnTheWay dims leaves (d + 1) (code * length dim + place)
+  way-place = record {
+    named = way.named;
+    trees = way.trees;
+    few = way.few;
+    limit = way.limit;
+    within = omega (arith, slice_get_within dims d dim is);
+    fits =
+        let below : code * length dim + place + 1 ≤ (code + 1) * length dim = grind (arith, within) in
+        let more : (code * length dim + place + 1) * region_total (drop (d + 1) dims) ≤ (code + 1) * length dim * region_total (drop (d + 1) dims) = mul-le (code * length dim + place + 1) (region_total (drop (d + 1) dims)) ((code + 1) * length dim) (region_total (drop (d + 1) dims)) below (omega arith) in
+        omega (arith, more, room);
+  }
+
 -- The walk at a node of a dimension.
 module _ (dims : List Dimension) (leaves : List ℕ) (d code : ℕ) (way : IsOnTheWay dims leaves d code) (dim : Dimension) (is : slice_get dims d ≡ Some dim) (node : ℕ) (inside : IfSome (slice_get dims d) (λ dim. node < length dim)) where
   -- the node's place, as a digit
@@ -154,30 +181,11 @@ module _ (dims : List Dimension) (leaves : List ℕ) (d code : ℕ) (way : IsOnT
   digit-within : digit < length dim
   digit-within = (place_of-number dim node digit placed).0
 
-  -- the digits of the dimension and of those behind it
-  room : (code + 1) * (length dim * region_total (drop (d + 1) dims)) ≤ region_total dims
-  room = rw (drop-at dims d dim is) at way.fits
-
-  behind-some : 1 ≤ region_total (drop (d + 1) dims)
-  behind-some = region_total-some (drop (d + 1) dims) (All-drop IsTree (d + 1) dims way.trees)
-
   pub code-small : (code + 1) * length dim < SPACE_LIMIT
-  code-small =
-      let more : (code + 1) * length dim * 1 ≤ (code + 1) * length dim * region_total (drop (d + 1) dims) = mul-le-mul_left ((code + 1) * length dim) behind-some in
-      omega (arith, more, room, way.limit)
+  code-small = place-small dims leaves d code way dim is digit digit-within
 
   pub way-next : IsOnTheWay dims leaves (d + 1) (code * length dim + digit)
-  way-next = record {
-    named = way.named;
-    trees = way.trees;
-    few = way.few;
-    limit = way.limit;
-    within = omega (arith, slice_get_within dims d dim is);
-    fits =
-        let below : code * length dim + digit + 1 ≤ (code + 1) * length dim = grind (arith, digit-within) in
-        let more : (code * length dim + digit + 1) * region_total (drop (d + 1) dims) ≤ (code + 1) * length dim * region_total (drop (d + 1) dims) = mul-le (code * length dim + digit + 1) (region_total (drop (d + 1) dims)) ((code + 1) * length dim) (region_total (drop (d + 1) dims)) below (omega arith) in
-        omega (arith, more, room);
-  }
+  way-next = way-place dims leaves d code way dim is digit digit-within
 
   -- the regions that count the node are those of the nodes above it, and then those behind its place
   split : (p : Option ℕ) → parent dim node ≡ p

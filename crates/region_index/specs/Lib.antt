@@ -5,6 +5,7 @@ pub mod Examples
 pub mod Indexed
 pub mod Over
 pub mod Patterns
+pub mod PlaceTable
 pub mod Short
 pub mod Touching
 pub mod Walk

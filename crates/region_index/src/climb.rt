@@ -1,16 +1,25 @@
 //! A climb from the leaves of a cell to the nodes of given depths, and the walk over regions that it makes.
-ghost use Rattle.std.specs.Prelude.{◌≡◌, ◌+◌, ◌<◌, ◌≤◌, ◌∷◌, [], IfNone, IfSome, OnErr, OnOk, drop, length, option_to_list};
-ghost use Rattle.cube_model.specs.Limits.{MAX_DEPTH};
-ghost use Rattle.cube_model.specs.Tree.{place_of};
-ghost use Rattle.std.specs.Option.{option_map_or};
-ghost use Rattle.region_index.specs.Patterns.{codes_of_pattern, codes_of_patterns, pattern_behind, places_at_depth};
+ghost use Rattle.std.specs.Prelude.{◌≡◌, ◌+◌, ◌<◌, ◌≤◌, OnErr, OnOk, length, option_to_list, slice_index};
+ghost use Rattle.region_index.specs.declared.climb.TheConstants.{NO_PLACE};
+ghost use Rattle.region_index.specs.Patterns.{codes_of_pattern, codes_of_patterns};
+ghost use Rattle.region_index.specs.PlaceTable.{IsRow, IsTable};
 ghost use Rattle.region_index.specs.Walk.{IsOnTheWay, Probes};
 
 use crate::Steps;
-use crate::walk::{Walk, with_node};
+use crate::walk::Walk;
 use cube_base::Memory;
+use cube_model::MAX_DIMS;
 use dim_tree::Dim;
 use std::sync::ledger::Ledger;
+
+/// What stands for a place where there is no node of a depth.
+const NO_PLACE: u32 = u32::MAX;
+
+/// So many depths there are.
+const DEPTHS: usize = 9;
+
+/// For each dimension and each depth, the place of a node.
+type PlaceTable = [[u32; DEPTHS]; MAX_DIMS];
 
 impl Walk<'_> {
     /// Finds the codes at which ids are held of the regions over the leaves that have one of these patterns. A step is a
@@ -26,60 +35,85 @@ impl Walk<'_> {
         ensures err { OnErr result (steps.new ≤ steps.old + length (codes_of_patterns self.now.space.now self.now.leaves patterns.now)) }
         ensures most { steps.new ≤ steps.old + length patterns.now }
     {
+        let table = self.place_table();
         for pattern in patterns {
-            self.of_pattern(*pattern, found, steps)?;
+            self.of_pattern(&table, *pattern, found, steps)?;
         }
         Ok(())
+    }
+
+    /// The places of the nodes that the leaves are under.
+    fn place_table(&self) -> PlaceTable
+        requires { IsOnTheWay self.now.space.now self.now.leaves 0 0 }
+        ensures { IsTable self.now.space.now self.now.leaves (length self.now.space.now) result }
+    {
+        let mut table = [[NO_PLACE; DEPTHS]; MAX_DIMS];
+        for d in 0..self.space.dims() {
+            table[d as usize] = row_of(self.space.dim(d), self.leaves.node(d));
+        }
+        table
     }
 
     /// Probes the region of a pattern over the leaves, where there is one.
     fn of_pattern<L: Ledger>(
         &self,
+        table: &PlaceTable,
         pattern: u64,
         found: &mut Vec<u64>,
         steps: &mut Steps<L>,
     ) -> Result<(), Memory>
-        requires { IsOnTheWay self.now.space.now self.now.leaves 0 0 }
+        requires way { IsOnTheWay self.now.space.now self.now.leaves 0 0 }
+        requires table { IsTable self.now.space.now self.now.leaves (length self.now.space.now) table.now }
         ensures ok { OnOk result (Probes self.now.ids.now (codes_of_pattern self.now.space.now self.now.leaves pattern) found.old.items found.new.items steps.old steps.new) }
         ensures err { OnErr result (steps.new ≤ steps.old + length (codes_of_pattern self.now.space.now self.now.leaves pattern)) }
         ensures most { steps.new ≤ steps.old + 1 }
     {
-        match self.code_at(0, pattern, 0) {
+        match self.code_of(table, pattern) {
             Some(code) => self.probe(code, found, steps),
             None => Ok(()),
         }
     }
 
-    /// The code of the region over the leaves from dimension `d` on, after nodes that make `code`, whose depths from
-    /// there on are those of a pattern. None where there is no such region.
-    fn code_at(&self, d: u32, pattern: u64, code: u64) -> Option<u64>
-        requires { IsOnTheWay self.now.space.now self.now.leaves d code }
-        ensures { option_to_list result ≡ pattern_behind (drop d self.now.space.now) (drop d self.now.leaves) pattern code }
+    /// The code of the region over the leaves that has a pattern. None where there is no such region.
+    fn code_of(&self, table: &PlaceTable, pattern: u64) -> Option<u64>
+        requires way { IsOnTheWay self.now.space.now self.now.leaves 0 0 }
+        requires table { IsTable self.now.space.now self.now.leaves (length self.now.space.now) table.now }
+        ensures { option_to_list result ≡ codes_of_pattern self.now.space.now self.now.leaves pattern }
     {
-        if d == self.space.dims() {
-            if pattern == 0 { Some(code) } else { None }
-        } else {
-            let dim = self.space.dim(d);
-            let node = climb_to_depth(dim, self.leaves.node(d), (pattern % 9) as u8)?;
-            self.code_at(d + 1, pattern / 9, with_node(dim, node, code))
+        let mut rest = pattern;
+        let mut code = 0;
+        for d in 0..self.space.dims() {
+            let size = self.space.dim(d).len();
+            let place = table[d as usize][(rest % 9) as usize];
+            if place == NO_PLACE {
+                return None;
+            }
+            code = code * u64::from(size) + u64::from(place);
+            rest /= 9;
         }
+        if rest == 0 { Some(code) } else { None }
     }
 }
 
-/// The node of a depth that a node is under, itself included, if it does not lie less deep.
-fn climb_to_depth(dim: &Dim, node: u32, depth: u8) -> Option<u32>
+/// At each depth the place of the node there that a node is under.
+fn row_of(dim: &Dim, node: u32) -> [u32; DEPTHS]
     requires { node < length dim.now }
-    ensures found { IfSome result (λ n. places_at_depth dim.now node depth ≡ option_map_or (λ place. place) (place_of dim.now n) 0 ∷ []) }
-    ensures within { IfSome result (λ n. n < length dim.now) }
-    ensures none { IfNone result (places_at_depth dim.now node depth ≡ []) }
+    ensures { IsRow dim.now node (λ depth. NO_PLACE) result }
+{
+    let mut row = [NO_PLACE; DEPTHS];
+    note_places(dim, node, &mut row);
+    row
+}
+
+/// Writes these places over what stands there.
+fn note_places(dim: &Dim, node: u32, row: &mut [u32; DEPTHS])
+    requires { node < length dim.now }
+    ensures { IsRow dim.now node (slice_index row.old) row.new }
 {
     let _ = dim.len();
-    let own = dim.depth(node);
-    if own == depth {
-        Some(node)
-    } else if own < depth {
-        None
-    } else {
-        climb_to_depth(dim, dim.parent(node)?, depth)
+    let parent = dim.parent(node);
+    row[dim.depth(node) as usize] = dim.place(node);
+    if let Some(parent) = parent {
+        note_places(dim, parent, row);
     }
 }

@@ -1,10 +1,7 @@
 -- The code is that of the pattern's region.
-use Rattle.std.proofs.Common.{◌∙◌}
 use Rattle.std.proofs.lemmas.Result.{on_ok_weaker}
-use Rattle.region_index.proofs.PatternCodes.{pattern_behind-start}
 use Rattle.region_index.proofs.Walking.{Probes-of}
 use Rattle.region_index.proofs.walk.Walk.of_pattern.Goals as goal
 
 pub returns-in-Some-clause-ok : goal.returns-in-Some-clause-ok
-returns-in-Some-clause-ok g c =
-    on_ok_weaker _ (Probes-of _ _ _ _ _ _ _ (c.in-Some.ensures ∙ pattern_behind-start c.args.self.now.space.now c.args.self.now.leaves c.args.pattern)) c.probe.ensures.ok
+returns-in-Some-clause-ok g c = on_ok_weaker _ (Probes-of _ _ _ _ _ _ _ c.in-Some.ensures) c.probe.ensures.ok
