@@ -1,6 +1,6 @@
 -- A table of places over leaves: how its rows are made, and what is read from it.
 use Rattle.std.proofs.Common.{◌≡◌, ◌≢◌, ℕ, ◌+◌, ◌*◌, ◌/◌, ◌%◌, ◌<◌, ◌≤◌, Bool, true, false, List, [], ◌∷◌, length, length-set, drop, get_or, set, get_or-set_other, get_or-set_same, refl, sym, ap, subst, ◌∙◌, arith}
-use Rattle.std.specs.Prelude.{◌==◌, Option, Some, None, slice_get}
+use Rattle.std.specs.Prelude.{◌==◌, Some, None, slice_get}
 use Rattle.std.specs.Option.{option_map_or}
 use Rattle.std.proofs.lemmas.Bool.Decides.{nat_tests}
 use Rattle.std.proofs.lemmas.Option.{slice_get-get_or, slice_get_within}
@@ -123,24 +123,40 @@ module _ (dims : List Dimension) (leaves : List ℕ) (pattern d rest code : ℕ)
         same = sym (pattern_behind-next dims leaves d code part.way rest dim is leaf has entry one.0) ∙ part.same;
       })
 
--- one dimension more has its row
-pub IsTable-next : (dims : List Dimension) (leaves : List ℕ) (n : ℕ) (table : List (List ℕ)) → n < MAX_DIMS → IsTable dims leaves n table
-    → (dim : Dimension) → slice_get dims n ≡ Some dim → (leaf : ℕ) → slice_get leaves n ≡ Some leaf → (row : List ℕ) → IsRow dim leaf (λ depth. NO_PLACE) row → IsTable dims leaves (n + 1) (set table n row)
-IsTable-next dims leaves n table room before dim is leaf has row is_row = record {
-  room = length-set table n row ∙ before.room;
-  rows = λ d other node below there at. here d other node below there at (d == n) refl;
-}
-  where
-    here : (d : ℕ) (other : Dimension) (node : ℕ) → d < n + 1 → slice_get dims d ≡ Some other → slice_get leaves d ≡ Some node → (b : Bool) → (d == n) ≡ b
-        → IsRow other node (λ depth. NO_PLACE) (get_or (set table n row) d [])
-    here d other node below there at true same =
-        let it : d ≡ n = grind (arith, nat_tests, same) in
-        let dim_is : Some other ≡ Some dim = sym there ∙ ap (slice_get dims) it ∙ is in
-        let leaf_is : Some node ≡ Some leaf = sym at ∙ ap (slice_get leaves) it ∙ has in
-        let one : other ≡ dim = grind (arith, dim_is) in
-        let two : node ≡ leaf = grind (arith, leaf_is) in
-        let written : get_or (set table n row) d [] ≡ row = ap (λ k. get_or (set table n row) k []) it ∙ get_or-set_same table n row [] (omega (arith, room, before.room)) in
-        rw (one, two, written) is_row
-    here d other node below there at false apart =
-        let differs : d ≢ n = grind (arith, nat_tests, apart) in
-        rw (get_or-set_other table n d row [] differs) (before.rows d other node (omega (arith, below, differs)) there at)
+-- The first so many dimensions have their rows, and those of the others are blank.
+pub record IsBegun (dims : List Dimension) (leaves : List ℕ) (n : ℕ) (table : List (List ℕ)) : Type 0 where
+  pub table_is : IsTable dims leaves n table
+  pub blank : (k depth : ℕ) → n ≤ k → k < MAX_DIMS → depth ≤ MAX_DEPTH → get_or (get_or table k []) depth 0 ≡ NO_PLACE
+
+-- one dimension more gets its row
+module _ (dims : List Dimension) (leaves : List ℕ) (n : ℕ) (table : List (List ℕ)) (room : n < MAX_DIMS) (begun : IsBegun dims leaves n table) (dim : Dimension) (is : slice_get dims n ≡ Some dim) (leaf : ℕ) (has : slice_get leaves n ≡ Some leaf)
+    (row : List ℕ) (noted : IsRow dim leaf (λ depth. get_or (get_or table n []) depth 0) row) where
+  over-blank : IsRow dim leaf (λ depth. NO_PLACE) row
+  over-blank = record {
+    each = λ depth most. subst (λ before. IsNoted (places_at_depth dim leaf depth) (length dim) before (get_or row depth 0)) (begun.blank n depth (omega arith) room most) (noted.each depth most);
+  }
+
+  with-row : (d : ℕ) (other : Dimension) (node : ℕ) → d < n + 1 → slice_get dims d ≡ Some other → slice_get leaves d ≡ Some node → (b : Bool) → (d == n) ≡ b
+      → IsRow other node (λ depth. NO_PLACE) (get_or (set table n row) d [])
+  with-row d other node below there at true same =
+      let it : d ≡ n = grind (arith, nat_tests, same) in
+      let dim_is : Some other ≡ Some dim = sym there ∙ ap (slice_get dims) it ∙ is in
+      let leaf_is : Some node ≡ Some leaf = sym at ∙ ap (slice_get leaves) it ∙ has in
+      let one : other ≡ dim = grind (arith, dim_is) in
+      let two : node ≡ leaf = grind (arith, leaf_is) in
+      let written : get_or (set table n row) d [] ≡ row = ap (λ k. get_or (set table n row) k []) it ∙ get_or-set_same table n row [] (omega (arith, room, begun.table_is.room)) in
+      rw (one, two, written) over-blank
+  with-row d other node below there at false apart =
+      let differs : d ≢ n = grind (arith, nat_tests, apart) in
+      rw (get_or-set_other table n d row [] differs) (begun.table_is.rows d other node (omega (arith, below, differs)) there at)
+
+  pub IsBegun-next : IsBegun dims leaves (n + 1) (set table n row)
+  IsBegun-next = record {
+    table_is = record {
+      room = length-set table n row ∙ begun.table_is.room;
+      rows = λ d other node below there at. with-row d other node below there at (d == n) refl;
+    };
+    blank = λ k depth past there most.
+        let differs : k ≢ n = omega (arith, past) in
+        rw (get_or-set_other table n k row [] differs) (begun.blank k depth (omega (arith, past)) there most);
+  }

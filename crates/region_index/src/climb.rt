@@ -1,6 +1,5 @@
 //! A climb from the leaves of a cell to the nodes of given depths, and the walk over regions that it makes.
 ghost use Rattle.std.specs.Prelude.{◌≡◌, ◌+◌, ◌<◌, ◌≤◌, OnErr, OnOk, length, option_to_list, slice_index};
-ghost use Rattle.region_index.specs.declared.climb.TheConstants.{NO_PLACE};
 ghost use Rattle.region_index.specs.Patterns.{codes_of_pattern, codes_of_patterns};
 ghost use Rattle.region_index.specs.PlaceTable.{IsRow, IsTable};
 ghost use Rattle.region_index.specs.Walk.{IsOnTheWay, Probes};
@@ -15,7 +14,7 @@ use std::sync::ledger::Ledger;
 /// What stands for a place where there is no node of a depth.
 const NO_PLACE: u32 = u32::MAX;
 
-/// So many depths there are.
+/// The number of depths, and of values of a pattern's digit.
 const DEPTHS: usize = 9;
 
 /// For each dimension and each depth, the place of a node.
@@ -49,7 +48,11 @@ impl Walk<'_> {
     {
         let mut table = [[NO_PLACE; DEPTHS]; MAX_DIMS];
         for d in 0..self.space.dims() {
-            table[d as usize] = row_of(self.space.dim(d), self.leaves.node(d));
+            note_places(
+                self.space.dim(d),
+                self.leaves.node(d),
+                &mut table[d as usize],
+            );
         }
         table
     }
@@ -95,17 +98,7 @@ impl Walk<'_> {
     }
 }
 
-/// At each depth the place of the node there that a node is under.
-fn row_of(dim: &Dim, node: u32) -> [u32; DEPTHS]
-    requires { node < length dim.now }
-    ensures { IsRow dim.now node (λ depth. NO_PLACE) result }
-{
-    let mut row = [NO_PLACE; DEPTHS];
-    note_places(dim, node, &mut row);
-    row
-}
-
-/// Writes these places over what stands there.
+/// Writes at each depth the place of the node there that a node is under, itself included. Elsewhere a row stays.
 fn note_places(dim: &Dim, node: u32, row: &mut [u32; DEPTHS])
     requires { node < length dim.now }
     ensures { IsRow dim.now node (slice_index row.old) row.new }

@@ -1,6 +1,5 @@
 -- Each dimension's node is read from the table, and makes the code with those before it.
-use Rattle.std.proofs.Common.{◌+◌, ◌*◌, ◌<◌, length, refl, ◌∙◌, arith, rules}
-use Rattle.cube_model.specs.Limits.{SPACE_LIMIT}
+use Rattle.std.proofs.Common.{refl, ◌∙◌, arith, rules}
 use Rattle.region_index.proofs.PlaceTable.{IsPart-end, IsPart-left, IsPart-next, IsPart-none, part-small}
 use Rattle.region_index.proofs.walk.Walk.code_of.Goals as goal
 
