@@ -87,12 +87,11 @@ module _ (dims : List Dimension) (facts : List Fact) (changes : List CellChange)
 
   -- over one more
   pub over-next : (more now : List ℕ) (after : ℕ) → ((code : ℕ) → is_among more code ≡ list_any (λ f. covers dims (get_or changes i d).0 f && has_code dims code f) facts)
-      → now ≡ codes ++ more → after ≤ before + length (codes_over dims (get_or changes i d).0) → AreOver dims facts (take (i + 1) changes) now start after
+      → ((code : ℕ) → is_among now code ≡ (is_among codes code || is_among more code)) → after ≤ before + length (codes_over dims (get_or changes i d).0) → AreOver dims facts (take (i + 1) changes) now start after
   unfolding cost
   over-next more now after held both counted = record {
     members = λ code.
-        ap (λ xs. is_among xs code) both
-        ∙ list_any-append (λ n. n == code) codes more
+        both code
         ∙ ap (λ b. b || is_among more code) (found.members code)
         ∙ ap (λ b. is_over_one dims (take i changes) facts code || b) (held code)
         ∙ sym (any-both

@@ -97,10 +97,8 @@ impl<P: WeightPolicy + Drop> State<P> {
             return Ok(codes);
         }
         for (cell, _, _) in changes {
-            let held = self
-                .index
-                .held_codes_by_pattern(&self.space, &self.patterns, *cell, steps)?;
-            codes.extend_from_slice(held.as_slice())?;
+            self.index
+                .held_codes_by_pattern(&self.space, &self.patterns, *cell, &mut codes, steps)?;
         }
         Ok(codes)
     }

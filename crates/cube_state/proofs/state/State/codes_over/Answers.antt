@@ -1,5 +1,5 @@
 -- Each cell adds the codes of the facts that cover it.
-use Rattle.std.proofs.Common.{◌∙◌, sym}
+use Rattle.std.proofs.Common.{refl, ◌∙◌, sym}
 use Rattle.region_index.proofs.HeldCodes.{HasPatterns-known}
 use Rattle.fact_indexes.proofs.ValidFacts.{valid-regions}
 use Rattle.cube_state.proofs.Covering.{over-all, over-broken, over-next, over-none}
@@ -14,21 +14,16 @@ held_codes_by_pattern-requires-clause-patterns g c =
     let kept = c.self.invariant.state in
     HasPatterns-known _ _ _ _ kept.trees (valid-regions _ _ _ kept.valid) kept.index c.self.invariant.known
 
-pub returns-in_err-held-clause-steps : goal.returns-in_err-held-clause-steps
-returns-in_err-held-clause-steps g c =
+pub returns-in_err-held_codes_by_pattern-clause-steps : goal.returns-in_err-held_codes_by_pattern-clause-steps
+returns-in_err-held_codes_by_pattern-clause-steps g c =
     bound-seen _ _ c.self.view_is c.args.changes.now c.args.steps.now _
-    (over-broken _ _ c.args.changes.now c.loop-cell.cell-index _ _ _ _ c.loop-cell-test.true c.loop-cell.invariant _ c.in_err-held.ensures.regions)
-
-pub returns-in_err-extend_from_slice-clause-steps : goal.returns-in_err-extend_from_slice-clause-steps
-returns-in_err-extend_from_slice-clause-steps g c =
-    bound-seen _ _ c.self.view_is c.args.changes.now c.args.steps.now _
-    (over-broken _ _ c.args.changes.now c.loop-cell.cell-index _ _ _ _ c.loop-cell-test.true c.loop-cell.invariant _ c.in_ok-held.ensures.regions)
+    (over-broken _ _ c.args.changes.now c.loop-cell.cell-index _ _ _ _ c.loop-cell-test.true c.loop-cell.invariant _ c.in_err-held_codes_by_pattern.ensures.regions)
 
 pub loop-cell-preserved : goal.loop-cell-preserved
 loop-cell-preserved g c =
     over-next _ _ c.args.changes.now c.loop-cell.cell-index _ _ _ _ c.loop-cell-test.true c.loop-cell.invariant _ _ _
-    (held-seen _ _ c.self.view_is g.P.WeightPolicy.weigh c.self.invariant.state _ _ c.self.invariant.state.trees (c.as_slice.ensures ∙ c.in_ok-held.ensures.codes))
-    c.in_ok-extend_from_slice.ensures.items c.in_ok-held.ensures.regions
+    (held-seen _ _ c.self.view_is g.P.WeightPolicy.weigh c.self.invariant.state _ _ c.self.invariant.state.trees refl)
+    c.in_ok-held_codes_by_pattern.ensures.codes c.in_ok-held_codes_by_pattern.ensures.regions
 
 pub returns-clause-codes : goal.returns-clause-codes
 returns-clause-codes g c = over-seen _ _ c.self.view_is c.args.changes.now _ (over-all _ _ c.args.changes.now c.loop-cell.cell-index _ _ _ c.loop-cell-test.false c.loop-cell.invariant).members
