@@ -7,6 +7,7 @@ pub mod EitherEnds
 pub mod EndsAt
 pub mod EndsOver
 pub mod EndsSoFar
+pub mod FactCells
 pub mod FactsGiven
 pub mod GroupAnswers
 pub mod GroupEnds

@@ -8,6 +8,7 @@ use Rattle.cube_model.specs.Facts.{after}
 use Rattle.cube_model.specs.Tree.{Dimension}
 use Rattle.alloc_rows.specs.Changed.{Change}
 use Rattle.cell_weight.specs.Stats.{IsStat}
+use Rattle.fact_groups.specs.Changes.{cell_of}
 use Rattle.fact_groups.specs.Edits.{given, taken}
 use Rattle.fact_records.specs.Judge.{fact_refusal}
 use Rattle.fact_records.specs.Shape.{IsShape, ShapeValue, policy_over}
@@ -37,15 +38,17 @@ module _ (weigh : CellStat → ℕ) (shape : ShapeValue) (dims : List Dimension)
 -- the moves of an edit, as a state is seen
 module _ {P : Type 0} (weigh : P → CellStat → ℕ) (state seen : StateValue P) (same : seen ≡ state) where
   pub moves-made : (edit : Edit) (moves : Moves) → IsEditOver state.dims edit → fact_refusal state.shape state.dims edit state.facts ≡ None
-      → moves.edit ≡ edit → moves.taken ≡ taken edit seen.facts → moves.given ≡ given edit → moves.taken_code ≡ region_code state.dims moves.taken → moves.given_code ≡ region_code state.dims moves.given → moves.touched ≡ touched (policy_in weigh state) state.dims edit state.facts
+      → moves.edit ≡ edit → moves.taken ≡ taken edit seen.facts → moves.given ≡ given edit → moves.taken_code ≡ region_code state.dims moves.taken → moves.given_code ≡ region_code state.dims moves.given → moves.taken_cell ≡ cell_of state.dims moves.taken → moves.given_cell ≡ cell_of state.dims moves.given → moves.touched ≡ touched (policy_in weigh state) state.dims edit state.facts
       → moves.reweighing ≡ reweighing (weigh seen.policy) moves.touched → AreMoves (policy_in weigh state) state.shape state.dims state.facts moves
-  moves-made edit moves over accepted is takes gives taken_at given_at touches reweighs = record {
+  moves-made edit moves over accepted is takes gives taken_at given_at taken_in given_in touches reweighs = record {
     over = subst (IsEditOver state.dims) (sym is) over;
     accepted = ap (λ e. fact_refusal state.shape state.dims e state.facts) is ∙ accepted;
     takes = takes ∙ ap (λ (s : StateValue P). taken edit s.facts) same ∙ ap (λ e. taken e state.facts) (sym is);
     gives = gives ∙ ap given (sym is);
     taken_at = taken_at;
     given_at = given_at;
+    taken_in = taken_in;
+    given_in = given_in;
     touches = touches ∙ ap (λ e. touched (policy_in weigh state) state.dims e state.facts) (sym is);
     reweighs =
         reweighs ∙ ap (λ (s : StateValue P). reweighing (weigh s.policy) moves.touched) same

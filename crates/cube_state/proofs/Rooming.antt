@@ -1,22 +1,20 @@
 -- Room made for what an edit sets leaves a state what it is, and what is staged is what the edit makes of it.
 use Rattle.std.proofs.Common.{◌≡◌, ◌≤◌, ℕ, true, List, [], ◌∷◌, length, refl, ap, sym, ◌∙◌, subst, arith}
-use Rattle.std.specs.Prelude.{IfSome, ◌==◌, Option, Some, None, slice_get}
+use Rattle.std.specs.Prelude.{IfSome, Option, Some, None, slice_get}
 use Rattle.std.specs.Option.{option_to_list}
 use Rattle.cube_model.specs.declared.edit.Fact.{Fact}
 use Rattle.cube_model.specs.declared.statistic.CellStat.{CellStat}
 use Rattle.cube_model.specs.Facts.{after}
 use Rattle.cube_model.specs.Tree.{Dimension}
-use Rattle.region_algebra.specs.Space.{IsRegion}
 use Rattle.staged_map.specs.Staged.{Entries, have_places}
 use Rattle.cell_weight.specs.Stats.{have_stat_places}
 use Rattle.alloc_rows.specs.Changed.{new_stats}
 use Rattle.region_index.specs.Changes.{IsStagedFor}
 use Rattle.region_index.specs.Patterns.{KnowsPatterns, Patterns}
-use Rattle.fact_groups.specs.Edits.{edited_id, taken}
+use Rattle.fact_groups.specs.Changes.{cell_of}
 use Rattle.fact_groups.specs.Groups.{Group}
-use Rattle.fact_groups.proofs.Groups.{first-holds}
 use Rattle.fact_records.specs.Shape.{IsShape, width_of_all}
-use Rattle.fact_records.specs.Valid.{AreValid, IsValid}
+use Rattle.fact_records.specs.Valid.{AreValid}
 use Rattle.view_store.specs.declared.change.ViewChange.{ViewChange}
 use Rattle.view_store.specs.Changes.{AreStagedFor, FitsViews, HaveSameViews, IsSameView, facts_put, facts_taken_away}
 use Rattle.view_store.specs.Facts.{FollowBy}
@@ -25,13 +23,14 @@ use Rattle.view_store.specs.Views.{ViewMap, ViewMaps}
 use Rattle.cube_state.specs.declared.edit_moves.Moves.{Moves}
 use Rattle.cube_state.specs.declared.changed_groups.Regrouped.{Regrouped}
 use Rattle.cube_state.specs.Knowing.{IsKnowingState}
-use Rattle.cube_state.specs.Moves.{AreMoves, indexed_as}
+use Rattle.cube_state.specs.Moves.{AreMoves, indexed_as, indexed_by, region_code}
 use Rattle.cube_state.specs.Sets.{AreSetsFor, SetGroups, SetStats, SetsValue, has_room}
 use Rattle.cube_state.specs.Regrouped.{IsRegrouped}
 use Rattle.fact_indexes.specs.Kept.{IsState, Kept}
 use Rattle.cube_state.specs.State.{HaveSameContent, StateValue, policy_in, rows_after, rows_in}
 use Rattle.cube_state.specs.ViewChanges.{SufficeFor, all_changes}
 use Rattle.cube_state.proofs.Accepting.{AreValid-after, allowed}
+use Rattle.cube_state.proofs.FactCells.{indexed-known}
 use Rattle.cube_state.proofs.Keeping.{IsSameKept, IsState-same}
 use Rattle.cube_state.proofs.Staging.{SetGroups-staged, SetIndex-staged, SetStats-staged}
 use Rattle.touched_cells.proofs.Touching.{IsStat-valid}
@@ -89,14 +88,17 @@ module _ {P : Type 0} (weigh : P → CellStat → ℕ) (state seen : StateValue 
       subst (λ (s : StateValue P). HaveSameContent s (record { policy = seen.policy; dims = seen.dims; shape = seen.shape; cuts = cuts; facts = facts; kept = new })) same
       (record { policy = refl; dims = refl; shape = refl; cuts = cuts_are; facts = facts_are })
 
-  -- the fact that an edit takes is in the space
-  pub lost-region : (edit_moves : Moves) → AreMoves (policy_in weigh state) state.shape state.dims state.facts edit_moves → IfSome edit_moves.taken (λ f. IsRegion seen.dims f.region)
-  lost-region edit_moves moves =
-      either edit_moves.taken ((subst (λ (s : StateValue P). AreMoves (policy_in weigh s) s.shape s.dims s.facts edit_moves) (sym same) moves).takes)
-    where
-      either : (took : Option Fact) → took ≡ taken edit_moves.edit seen.facts → IfSome took (λ f. IsRegion seen.dims f.region)
-      either None is = tt
-      either (Some f) is = (first-holds (IsValid seen.shape seen.dims) (λ f. f.id == edited_id edit_moves.edit) seen.facts f kept.valid.each (sym is)).accepted.placed.region
+  -- what is dropped from the index and put into it is told by the codes and the cells of the edit's facts
+  module _ (edit_moves : Moves) (moves : AreMoves (policy_in weigh state) state.shape state.dims state.facts edit_moves) where
+    indexed-seen : (fact : Option Fact) (code cell : Option ℕ) → code ≡ region_code state.dims fact → cell ≡ cell_of state.dims fact → option_to_list (indexed_by fact code cell) ≡ option_to_list (indexed_as seen.dims fact)
+    indexed-seen fact code cell code_is cell_is =
+        ap option_to_list (indexed-known state.dims fact code cell code_is cell_is ∙ ap (λ (s : StateValue P). indexed_as s.dims fact) (sym same))
+
+    pub drops-seen : option_to_list (indexed_by edit_moves.taken edit_moves.taken_code edit_moves.taken_cell) ≡ option_to_list (indexed_as seen.dims edit_moves.taken)
+    drops-seen = indexed-seen edit_moves.taken edit_moves.taken_code edit_moves.taken_cell moves.taken_at moves.taken_in
+
+    pub puts-seen : option_to_list (indexed_by edit_moves.given edit_moves.given_code edit_moves.given_cell) ≡ option_to_list (indexed_as seen.dims edit_moves.given)
+    puts-seen = indexed-seen edit_moves.given edit_moves.given_code edit_moves.given_cell moves.given_at moves.given_in
 
   -- the views can be changed
   pub fits-seen : (groups : Entries Group) (changes : List ViewChange) → SufficeFor state.dims state.kept.views (all_changes state groups) changes → FitsViews seen.dims changes seen.kept.views

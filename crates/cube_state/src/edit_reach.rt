@@ -1,7 +1,8 @@
 //! What an edit moves: the cells that it touches, and the regions whose groups may differ after it.
 ghost use Rattle.std.specs.Prelude.{◌≡◌, ◌==◌, ◌+◌, ◌<◌, ◌≤◌, ◌||◌, ℕ, All, IfOk, IfSome, None, false, length};
-ghost use Rattle.std.specs.Option.{option_copied, option_map_or};
+ghost use Rattle.std.specs.Option.{option_copied, option_map, option_map_or};
 ghost use Rattle.cube_model.specs.Cells.{all_cells, is_among};
+ghost use Rattle.fact_groups.specs.Changes.{cell_of};
 ghost use Rattle.fact_groups.specs.Edits.{given, taken};
 ghost use Rattle.fact_groups.specs.Groups.{has_code};
 ghost use Rattle.fact_records.specs.Judge.{fact_refusal};
@@ -28,6 +29,14 @@ use touched_cells::{Change, Few, cell_of_fact, changes, reweighing_changes};
 /// As many codes have most edits at most: so many fit without another list.
 const MOST_CODES: usize = 16;
 
+/// The cells of an edit's old fact and of its new fact, where their regions are one, and the changes of both.
+#[derive(Drop)]
+struct CellChanges {
+    taken_cell: Option<u64>,
+    given_cell: Option<u64>,
+    touched: Few<Change>,
+}
+
 impl<P: WeightPolicy + Drop> State<P> {
     /// What an edit moves, which no code refuses that is judged before the rows. The only error is running out of memory.
     pub fn moves(&self, edit: &Edit) -> Result<Moves, Memory>
@@ -40,7 +49,11 @@ impl<P: WeightPolicy + Drop> State<P> {
         let _ = self.shape().columns();
         let taken = taken_fact(edit, &self.facts);
         let given = given_fact(edit);
-        let touched = self.cell_changes(edit, taken, given);
+        let CellChanges {
+            taken_cell,
+            given_cell,
+            touched,
+        } = self.cell_changes(edit, taken, given);
         let reweighing = reweighing_changes(&self.policy, &touched);
         let taken_code = self.region_code(taken.as_ref());
         let given_code = self.region_code(given.as_ref());
@@ -50,6 +63,8 @@ impl<P: WeightPolicy + Drop> State<P> {
             given,
             taken_code,
             given_code,
+            taken_cell,
+            given_cell,
             touched,
             reweighing,
         })
@@ -103,19 +118,35 @@ impl<P: WeightPolicy + Drop> State<P> {
         Ok(codes)
     }
 
-    /// The cells that an edit touches, ascending, each with its statistics before and after it. These are its old fact and its new
-    /// fact, and no code that is judged before the rows refuses it.
-    fn cell_changes(&self, edit: &Edit, before: Option<Fact>, after: Option<Fact>) -> Few<Change>
+    /// The cells that an edit touches, ascending, each with its statistics before and after it, and the cells of its old fact and of
+    /// its new fact. These are given, and no code that is judged before the rows refuses the edit.
+    fn cell_changes(&self, edit: &Edit, before: Option<Fact>, after: Option<Fact>) -> CellChanges
         requires over { IsEditOver self.now.dims edit.now }
         requires accepted { fact_refusal self.now.shape self.now.dims edit.now self.now.facts ≡ None }
         requires before { before ≡ taken edit.now self.now.facts }
         requires after { after ≡ given edit.now }
-        ensures { result ≡ touched (policy_in P.weigh self.now) self.now.dims edit.now self.now.facts }
+        ensures taken_cell { result.taken_cell ≡ cell_of self.now.dims before }
+        ensures given_cell { result.given_cell ≡ cell_of self.now.dims after }
+        ensures touched { result.touched ≡ touched (policy_in P.weigh self.now) self.now.dims edit.now self.now.facts }
     {
         let _ = self.shape.columns();
         let lost = cell_of_fact(&self.space, &self.shape, before);
         let won = cell_of_fact(&self.space, &self.shape, after);
-        changes(&self.stats, lost, won)
+        CellChanges {
+            taken_cell: cell_of(lost),
+            given_cell: cell_of(won),
+            touched: changes(&self.stats, lost, won),
+        }
+    }
+}
+
+/// The cell, without what a fact adds there.
+fn cell_of(lying: Option<(u64, u64)>) -> Option<u64>
+    ensures { result ≡ option_map (λ l. l.0) lying }
+{
+    match lying {
+        Some((cell, _)) => Some(cell),
+        None => None,
     }
 }
 

@@ -43,7 +43,7 @@ impl<P: WeightPolicy + Drop> State<P> {
             return Ok(None);
         }
         let Some(region) = region else { unreachable!() };
-        let spread = self.spread_after(moves, *region, before, edited)?;
+        let spread = self.spread_after(moves, code, *region, before, edited)?;
         let sums = sums_after(columns, before, taken, given);
         Ok(Some(Group {
             spread,
@@ -97,7 +97,7 @@ impl<P: WeightPolicy + Drop> State<P> {
 }
 
 /// Whether there is a code, and it is this one.
-fn is_at(at: Option<u64>, code: u64) -> bool
+pub(crate) fn is_at(at: Option<u64>, code: u64) -> bool
     ensures { result ≡ option_map_or (λ k. k == code) at false }
 {
     match at {

@@ -143,7 +143,7 @@ impl<P: WeightPolicy + Drop> State<P> {
         if edited {
             let Some(region) = region else { unreachable!() };
             // Where no cell weighs otherwise, the rows are the same without a look at them.
-            if self.is_kept(moves, *region, edited) {
+            if self.is_kept(moves, code, *region, edited) {
                 return false;
             }
         }

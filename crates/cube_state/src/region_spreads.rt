@@ -1,17 +1,18 @@
 //! The groups of facts after an edit: of the regions whose groups may differ, each made anew from the one before.
-ghost use Rattle.std.specs.Prelude.{◌≡◌, ◌<◌, ◌≤◌, true, false, All, IfOk, IfSome, length};
+ghost use Rattle.std.specs.Prelude.{slice_get, ◌≡◌, ◌<◌, ◌≤◌, true, false, All, IfOk, IfSome, Some, length};
 ghost use Rattle.std.specs.List.{list_any};
 ghost use Rattle.std.specs.Option.{option_copied};
 ghost use Rattle.alloc_rows.specs.Changed.{changes_among};
-ghost use Rattle.cube_model.specs.Cells.{all_cells, cells_of, is_among};
+ghost use Rattle.cube_model.specs.Cells.{all_cells, cells_of, is_among, is_single};
 ghost use Rattle.cube_model.specs.Facts.{after};
 ghost use Rattle.cube_model.specs.Limits.{MAX_CELLS};
 ghost use Rattle.fact_groups.specs.Groups.{spread_at};
-ghost use Rattle.region_algebra.specs.Space.{IsRegion};
+ghost use Rattle.region_algebra.specs.Space.{IsRegion, all_regions};
 ghost use Rattle.cube_state.specs.Moves.{AreMoves};
 ghost use Rattle.cube_state.specs.State.{policy_in};
 
 use crate::edit_moves::Moves;
+use crate::group_after::is_at;
 use crate::{Group, State};
 use alloc_rows::{Alloc, allocate_at, step};
 use cell_weight::WeightPolicy;
@@ -21,23 +22,25 @@ use region_algebra::Space;
 use touched_cells::{Change, Few};
 
 impl<P: WeightPolicy + Drop> State<P> {
-    /// How a region is spread after an edit. Where it has a group, that is spread as the region is before it.
+    /// How the region of a code is spread after an edit. Where it has a group, that is spread as the region is before it.
     pub(crate) fn spread_after(
         &self,
         moves: &Moves,
+        code: u64,
         r: Region,
         group: Option<&Group>,
         edited: bool,
     ) -> Result<Alloc, Memory>
         requires moves { AreMoves (policy_in P.weigh self.now) self.now.shape self.now.dims self.now.facts moves.now }
         requires region { IsRegion self.now.dims r }
+        requires code { Some r ≡ slice_get (all_regions self.now.dims) code }
         requires few { length (cells_of self.now.dims r) ≤ MAX_CELLS }
         requires group { IfSome (option_copied group) (λ g. g.spread ≡ spread_at (policy_in P.weigh self.now) self.now.dims self.now.facts r) }
         ensures { IfOk result (λ a. a ≡ spread_at (policy_in P.weigh self.now) self.now.dims (after moves.now.edit self.now.facts) r) }
     {
         let _ = self.shape.columns();
         let before = self.spread_before(r, group)?;
-        if self.is_kept(moves, r, edited) {
+        if self.is_kept(moves, code, r, edited) {
             return Ok(before);
         }
         let changed = changes_inside(&self.space, r, &moves.touched);
@@ -52,16 +55,34 @@ impl<P: WeightPolicy + Drop> State<P> {
         )
     }
 
-    /// Whether a region is known to be spread after an edit as before: it is one cell, or none of its cells weighs otherwise. Its cells
-    /// are asked only where the edit's old or new fact is of the region: any other is looked at since one of them weighs otherwise.
-    pub(crate) fn is_kept(&self, moves: &Moves, r: Region, edited: bool) -> bool
+    /// Whether the region of a code is known to be spread after an edit as before: it is one cell, or none of its cells weighs
+    /// otherwise. Its cells are asked only where the edit's old or new fact is of the region: of any other one weighs otherwise.
+    pub(crate) fn is_kept(&self, moves: &Moves, code: u64, r: Region, edited: bool) -> bool
         requires moves { AreMoves (policy_in P.weigh self.now) self.now.shape self.now.dims self.now.facts moves.now }
         requires region { IsRegion self.now.dims r }
+        requires code { Some r ≡ slice_get (all_regions self.now.dims) code }
         ensures kept { result ≡ true → spread_at (policy_in P.weigh self.now) self.now.dims self.now.facts r ≡ spread_at (policy_in P.weigh self.now) self.now.dims (after moves.now.edit self.now.facts) r }
         ensures several { result ≡ false → 1 < length (cells_of self.now.dims r) }
     {
-        self.space.cell_count(r) == 1
+        self.is_one_cell(moves, code, r)
             || (edited && !holds_any(&self.space, r, moves.reweighing.as_slice()))
+    }
+
+    /// Whether the region of a code is one cell. Where a fact of the edit has the code, its cell tells without the space.
+    fn is_one_cell(&self, moves: &Moves, code: u64, r: Region) -> bool
+        requires moves { AreMoves (policy_in P.weigh self.now) self.now.shape self.now.dims self.now.facts moves.now }
+        requires region { IsRegion self.now.dims r }
+        requires code { Some r ≡ slice_get (all_regions self.now.dims) code }
+        ensures { result ≡ is_single (cells_of self.now.dims r) }
+    {
+        let _ = self.shape.columns();
+        if is_at(moves.given_code, code) {
+            return moves.given_cell.is_some();
+        }
+        if is_at(moves.taken_code, code) {
+            return moves.taken_cell.is_some();
+        }
+        self.space.cell_count(r) == 1
     }
 
     /// How a region is spread before it.

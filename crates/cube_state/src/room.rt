@@ -1,16 +1,15 @@
 //! Room for what an edit will set.
-ghost use Rattle.std.specs.Prelude.{◌≡◌, ◌+◌, ◌≤◌, ℕ, IfOk, IfSome, OnOk, true};
+ghost use Rattle.std.specs.Prelude.{◌≡◌, ◌+◌, ◌≤◌, ℕ, IfOk, OnOk, true};
 ghost use Rattle.std.specs.Option.{option_to_list};
 ghost use Rattle.alloc_rows.specs.Changed.{new_stats};
 ghost use Rattle.cell_weight.specs.Stats.{have_stat_places, stat_at};
 ghost use Rattle.fact_groups.specs.Edits.{given, taken};
 ghost use Rattle.fact_records.specs.Shape.{width_of_all};
-ghost use Rattle.region_algebra.specs.Space.{IsRegion};
 ghost use Rattle.region_index.specs.Changes.{IsStagedFor, IsUnchanged};
 ghost use Rattle.staged_map.specs.Staged.{have_places, value_at};
 ghost use Rattle.view_store.specs.Changes.{facts_put, facts_taken_away};
 ghost use Rattle.view_store.specs.Facts.{FollowBy};
-ghost use Rattle.cube_state.specs.Moves.{AreMoves, indexed_as};
+ghost use Rattle.cube_state.specs.Moves.{AreMoves, indexed_by};
 ghost use Rattle.cube_state.specs.Sets.{AreSetsFor, has_room};
 ghost use Rattle.cube_state.specs.Regrouped.{IsRegrouped};
 ghost use Rattle.cube_state.specs.State.{HaveSameContent, policy_in, rows_after, rows_in};
@@ -24,7 +23,6 @@ use cell_weight::{CellStat, StatIndex, WeightPolicy};
 use cube_base::Memory;
 use cube_model::Fact;
 use fact_records::FactList;
-use region_algebra::Space;
 use region_index::{RegionIndex, RegionStage, Steps};
 use staged_map::Staged;
 use std::sync::ledger::Ledger;
@@ -101,13 +99,7 @@ impl<P: WeightPolicy + Drop> State<P> {
             moves,
             regrouped.groups.as_slice(),
         )?;
-        let (stats, index) = stage_facts(
-            &mut self.stats,
-            &mut self.index,
-            &self.space,
-            moves,
-            steps,
-        )?;
+        let (stats, index) = stage_facts(&mut self.stats, &mut self.index, moves, steps)?;
         let views = self.views.stage(&self.space, changes)?;
         Ok(Stages {
             stats,
@@ -189,23 +181,20 @@ fn reserve_groups(
 fn stage_facts<L: Ledger>(
     stats: &mut StatIndex,
     index: &mut RegionIndex,
-    space: &Space,
     moves: &Moves,
     steps: &mut Steps<L>,
 ) -> Result<(Few<(u64, CellStat)>, RegionStage), Memory>
-    requires lost { IfSome moves.now.taken (λ f. IsRegion space.now f.region) }
-    requires won { IfSome moves.now.given (λ f. IsRegion space.now f.region) }
     ensures same_stats { (cell : ℕ) → stat_at stats.new cell ≡ stat_at stats.old cell }
     ensures same_index { IsUnchanged index.old index.new }
     ensures made { IfOk result (λ staged. staged.0 ≡ new_stats moves.now.touched) }
     ensures placed { IfOk result (λ staged. have_stat_places stats.new staged.0 ≡ true) }
-    ensures drops { IfOk result (λ staged. staged.1.drops ≡ option_to_list (indexed_as space.now moves.now.taken)) }
-    ensures puts { IfOk result (λ staged. staged.1.puts ≡ option_to_list (indexed_as space.now moves.now.given)) }
+    ensures drops { IfOk result (λ staged. staged.1.drops ≡ option_to_list (indexed_by moves.now.taken moves.now.taken_code moves.now.taken_cell)) }
+    ensures puts { IfOk result (λ staged. staged.1.puts ≡ option_to_list (indexed_by moves.now.given moves.now.given_code moves.now.given_cell)) }
     ensures ready { IfOk result (λ staged. IsStagedFor index.new staged.1) }
     ensures steps { steps.new ≤ steps.old + 2 }
 {
     let changes = stage_stats(stats, &moves.touched)?;
-    let stage = stage_index(index, space, moves.taken, moves.given, steps)?;
+    let stage = stage_index(index, moves, steps)?;
     Ok((changes, stage))
 }
 
@@ -234,34 +223,27 @@ fn new_stats(changes: &Few<Change>) -> Few<(u64, CellStat)>
 /// Makes ready what an edit changes in the index: its old fact is dropped, and its new fact is put, each of which is a step.
 fn stage_index<L: Ledger>(
     index: &mut RegionIndex,
-    space: &Space,
-    lost: Option<Fact>,
-    won: Option<Fact>,
+    moves: &Moves,
     steps: &mut Steps<L>,
 ) -> Result<RegionStage, Memory>
-    requires lost { IfSome lost (λ f. IsRegion space.now f.region) }
-    requires won { IfSome won (λ f. IsRegion space.now f.region) }
     ensures same { IsUnchanged index.old index.new }
-    ensures drops { IfOk result (λ stage. stage.drops ≡ option_to_list (indexed_as space.now lost)) }
-    ensures puts { IfOk result (λ stage. stage.puts ≡ option_to_list (indexed_as space.now won)) }
+    ensures drops { IfOk result (λ stage. stage.drops ≡ option_to_list (indexed_by moves.now.taken moves.now.taken_code moves.now.taken_cell)) }
+    ensures puts { IfOk result (λ stage. stage.puts ≡ option_to_list (indexed_by moves.now.given moves.now.given_code moves.now.given_cell)) }
     ensures staged { IfOk result (IsStagedFor index.new) }
     ensures steps { steps.new ≤ steps.old + 2 }
 {
-    let dropped = indexed_as(space, lost);
-    let put = indexed_as(space, won);
+    let dropped = indexed_by(moves.taken, moves.taken_code, moves.taken_cell);
+    let put = indexed_by(moves.given, moves.given_code, moves.given_cell);
     steps.add(looks_at(dropped) + looks_at(put));
     index.stage(put.as_slice(), dropped.as_slice())
 }
 
-/// An imprecise fact as an index of regions has it: the code of its region, and its id.
-fn indexed_as(space: &Space, fact: Option<Fact>) -> Option<(u64, u64)>
-    requires { IfSome fact (λ f. IsRegion space.now f.region) }
-    ensures { result ≡ indexed_as space.now fact }
+/// An imprecise fact as an index of regions has it: the code of its region, and its id. A fact is imprecise where it has no cell.
+fn indexed_by(fact: Option<Fact>, code: Option<u64>, cell: Option<u64>) -> Option<(u64, u64)>
+    ensures { result ≡ indexed_by fact code cell }
 {
-    match fact {
-        Some(fact) if space.cell_count(fact.region) != 1 => {
-            Some((space.code(fact.region), fact.id))
-        }
+    match (fact, code, cell) {
+        (Some(fact), Some(code), None) => Some((code, fact.id)),
         _ => None,
     }
 }

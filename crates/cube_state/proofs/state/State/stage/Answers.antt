@@ -1,12 +1,9 @@
 -- Room leaves the state what it is, and what is staged is what the edit makes of it.
-use Rattle.std.proofs.Common.{◌≡◌, refl, subst, true}
+use Rattle.std.proofs.Common.{◌≡◌, ◌∙◌, refl, subst, true}
 use Rattle.staged_map.specs.Staged.{have_places}
 use Rattle.fact_indexes.proofs.SameViews.{cuts-same}
-use Rattle.cube_state.proofs.Rooming.{content-kept, fits-seen, knowing-kept, lost-region, sets-staged, views-untouched}
+use Rattle.cube_state.proofs.Rooming.{content-kept, drops-seen, fits-seen, knowing-kept, puts-seen, sets-staged, views-untouched}
 use Rattle.cube_state.proofs.state.State.stage.Goals as goal
-
-pub stage_facts-requires-clause-lost : goal.stage_facts-requires-clause-lost
-stage_facts-requires-clause-lost g c = lost-region g.P.WeightPolicy.weigh _ _ c.self.view_is c.self.invariant.state c.args.moves.now c.requires.moves
 
 pub stage-requires-clause-changes : goal.stage-requires-clause-changes
 stage-requires-clause-changes g c = fits-seen g.P.WeightPolicy.weigh _ _ c.self.view_is c.self.invariant.state c.args.regrouped.now.groups c.args.changes.now c.requires.changes
@@ -73,8 +70,8 @@ returns-clause-sets g c =
       stats = c.in_ok-stats.ensures.made;
       stats_placed = c.in_ok-stats.ensures.placed;
       index = c.in_ok-stats.ensures.ready;
-      drops = c.in_ok-stats.ensures.drops;
-      puts = c.in_ok-stats.ensures.puts;
+      drops = c.in_ok-stats.ensures.drops ∙ drops-seen g.P.WeightPolicy.weigh _ _ c.self.view_is c.self.invariant.state c.args.moves.now c.requires.moves;
+      puts = c.in_ok-stats.ensures.puts ∙ puts-seen g.P.WeightPolicy.weigh _ _ c.self.view_is c.self.invariant.state c.args.moves.now c.requires.moves;
       groups = refl;
       groups_placed = subst (λ es. have_places c.reserve.new.groups es ≡ true) c.as_slice.ensures c.in_ok-reserve.ensures.placed;
       views = c.in_ok-views.ensures.staged;
