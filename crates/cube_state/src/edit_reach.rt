@@ -38,12 +38,12 @@ struct CellChanges {
 }
 
 impl<P: WeightPolicy + Drop> State<P> {
-    /// What an edit moves, which no code refuses that is judged before the rows. The only error is running out of memory.
-    pub fn moves(&self, edit: &Edit) -> Result<Moves, Memory>
+    /// What an edit moves, which no code refuses that is judged before the rows. It takes no memory.
+    pub fn moves(&self, edit: &Edit) -> Moves
         requires over { IsEditOver self.now.dims edit.now }
         requires accepted { fact_refusal self.now.shape self.now.dims edit.now self.now.facts ≡ None }
-        ensures moves { IfOk result (AreMoves (policy_in P.weigh self.now) self.now.shape self.now.dims self.now.facts) }
-        ensures edit { IfOk result (λ moves. moves.edit ≡ edit.now) }
+        ensures moves { AreMoves (policy_in P.weigh self.now) self.now.shape self.now.dims self.now.facts result }
+        ensures edit { result.edit ≡ edit.now }
     {
         let _ = self.facts();
         let _ = self.shape().columns();
@@ -57,7 +57,7 @@ impl<P: WeightPolicy + Drop> State<P> {
         let reweighing = reweighing_changes(&self.policy, &touched);
         let taken_code = self.region_code(taken.as_ref());
         let given_code = self.region_code(given.as_ref());
-        Ok(Moves {
+        Moves {
             edit: *edit,
             taken,
             given,
@@ -67,7 +67,7 @@ impl<P: WeightPolicy + Drop> State<P> {
             given_cell,
             touched,
             reweighing,
-        })
+        }
     }
 
     /// The code of a fact's region, if there is a fact.

@@ -1,5 +1,6 @@
 -- The facts that a plan leaves.
 use Rattle.std.proofs.Common.{◌≡◌, ℕ, List, ap, subst, sym}
+use Rattle.std.specs.Global.{Box}
 use Rattle.std.specs.Prelude.{Some}
 use Rattle.cube_model.specs.declared.edit.Edit.{Edit}
 use Rattle.cube_model.specs.declared.edit.Fact.{Fact}
@@ -17,7 +18,7 @@ facts-after_edit (plan_change.Edit its sets rows) edit facts is = let same : its
 facts-after_edit (plan_change.All new all) edit facts is = cc
 
 -- a state that has the facts which a plan of new ones keeps has those that it leaves
-pub leaves-new : {P : Type 0} (weigh : P → CellStat → ℕ) (old new : StateValue P) (change : PlanChange) (put : _) (all : FactsKept) → change ≡ plan_change.All put all → IsChangeFor weigh old change → HasFacts all.facts.facts old new
+pub leaves-new : {P : Type 0} (weigh : P → CellStat → ℕ) (old new : StateValue P) (change : PlanChange) (put : _) (all : Box FactsKept) → change ≡ plan_change.All put all → IsChangeFor weigh old change → HasFacts all.value.facts.facts old new
     → HasFacts (facts_after change old.facts) old new
 leaves-new weigh old new change put all is fits has =
     subst (λ c. HasFacts (facts_after c old.facts) old new) (sym is)

@@ -84,7 +84,7 @@ pub record AreNewFor {P : Type 0} (weigh : P → CellStat → ℕ) (state : Stat
 -- what a plan does fits a state
 abbrev pub IsChangeFor : {P : Type 0} → (P → CellStat → ℕ) → StateValue P → PlanChange → Type 0
 IsChangeFor weigh state (plan_change.Edit edit sets rows) = IsEditFor weigh state edit sets rows
-IsChangeFor weigh state (plan_change.All new all) = AreNewFor weigh state new.value all
+IsChangeFor weigh state (plan_change.All new all) = AreNewFor weigh state new.value all.value
 
 -- and so does a plan
 abbrev pub IsPlanFor : {P : Type 0} → (P → CellStat → ℕ) → StateValue P → PlanValue → Type 0

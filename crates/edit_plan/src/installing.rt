@@ -23,7 +23,7 @@ pub fn install<P: WeightPolicy + Drop>(state: &mut State<P>, plan: Plan)
         PlanChange::Edit { edit, sets, rows } => state.set(edit, sets, rows),
         PlanChange::All { new, all } => {
             drop(new);
-            state.replace(all);
+            state.replace(Box::into_inner(all));
         }
     }
 }

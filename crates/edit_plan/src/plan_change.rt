@@ -15,8 +15,9 @@ pub enum PlanChange {
         rows: u64,
     },
     /// It puts new facts, which clauses alone see: all facts then, with all that is kept of them, take the place of those that are there.
+    /// They stand in a box, so that an edit has not their size.
     All {
         new: Snapshot<FactRun>,
-        all: FactsKept,
+        all: Box<FactsKept>,
     },
 }

@@ -3,11 +3,13 @@ ghost use Rattle.std.specs.Prelude.{◌≡◌, ◌+◌, ◌*◌, ◌≤◌, true
 ghost use Rattle.cube_model.specs.Allocation.{row_count};
 ghost use Rattle.cube_model.specs.Ascending.{ascends_from};
 ghost use Rattle.cube_model.specs.Tree.{IsTree};
+ghost use Rattle.fact_records.specs.Judge.{fact_refusal};
 ghost use Rattle.fact_records.specs.Shape.{width_of_all};
 ghost use Rattle.fact_records.specs.Valid.{AreValid, IsEditOver};
 ghost use Rattle.edit_plan.specs.Bound.{covering_pairs, step_bound};
 ghost use Rattle.cube_state.specs.Covering.{probes_over};
 ghost use Rattle.cube_state.specs.Moves.{AreMoves};
+ghost use Rattle.edit_plan.specs.declared.fault.PlanFault.TheVariants as plan_fault;
 ghost use Rattle.edit_plan.specs.Plan.{IsPlanFaultOf, IsPlanFor, difference, edit_in, lists_for};
 ghost use Rattle.cube_state.specs.Regrouped.{IsRegrouped};
 ghost use Rattle.cube_state.specs.State.{HaveSameContent, judge_in, policy_in, refreshed_in, rows_after};
@@ -55,20 +57,49 @@ pub fn plan<P: WeightPolicy + Drop, L: Ledger>(
     ensures fault { IfErr result (IsPlanFaultOf P.weigh state.old edit.now) }
     ensures steps { steps.new ≤ steps.old + step_bound P.weigh state.old edit.now }
 {
-    let moves = judge_moves(state, edit)?;
-    let regrouped = match regroup_few(state, &moves, steps) {
-        Ok(regrouped) => regrouped,
-        Err(fault) => {
-            drop(moves);
-            return Err(fault);
-        }
-    };
-    let plan = plan_of(alloc, state, &moves, regrouped, detail, steps);
-    drop(moves);
-    Ok(plan?)
+    judge(state, edit)?;
+    let moves = state.moves(edit);
+    plan_moves(alloc, state, &moves, detail, steps)
 }
 
-/// The plan of an edit that nothing refuses.
+/// Judges an edit but for the number of rows.
+fn judge<P: WeightPolicy + Drop>(state: &State<P>, edit: &Edit) -> Result<(), PlanFault>
+    requires { IsEditOver state.now.dims edit.now }
+    ensures accepted { OnOk result (fact_refusal state.now.shape state.now.dims edit.now state.now.facts ≡ None) }
+    ensures trees { All IsTree state.now.dims }
+    ensures valid { AreValid state.now.shape state.now.dims state.now.facts }
+    ensures fault { IfErr result (IsPlanFaultOf P.weigh state.now edit.now) }
+{
+    match judge_fact(state.shape(), state.space(), edit, state.facts()) {
+        Ok(()) => Ok(()),
+        Err(code) => Err(PlanFault::Code(code)),
+    }
+}
+
+/// Prepares an edit that moves this, which no code refuses that is judged before the rows.
+fn plan_moves<P: WeightPolicy + Drop, L: Ledger>(
+    alloc: Global,
+    state: &mut State<P>,
+    moves: &Moves,
+    detail: Detail,
+    steps: &mut Steps<L>,
+) -> Result<Plan, PlanFault>
+    requires moves { AreMoves (policy_in P.weigh state.old) state.old.shape state.old.dims state.old.facts moves.now }
+    requires trees { All IsTree state.old.dims }
+    ensures same { HaveSameContent state.old state.new }
+    ensures edit { IfOk result (λ plan. edit_in plan.change ≡ Some moves.now.edit) }
+    ensures fits { IfOk result (IsPlanFor P.weigh state.new) }
+    ensures count { IfOk result (λ plan. plan.count ≡ length (refreshed_in P.weigh state.old moves.now.edit)) }
+    ensures lists { IfOk result (λ plan. plan.lists ≡ lists_for detail (refreshed_in P.weigh state.old moves.now.edit) (difference (policy_in P.weigh state.old) state.old.dims moves.now.edit state.old.facts)) }
+    ensures accepted { OnOk result (judge_in P.weigh state.old moves.now.edit ≡ None) }
+    ensures fault { IfErr result (IsPlanFaultOf P.weigh state.old moves.now.edit) }
+    ensures steps { steps.new ≤ steps.old + step_bound P.weigh state.old moves.now.edit }
+{
+    let regrouped = regroup_few(state, moves, steps)?;
+    plan_of(alloc, state, moves, regrouped, detail, steps)
+}
+
+/// The plan of an edit that nothing refuses. The only error is running out of memory.
 fn plan_of<P: WeightPolicy + Drop, L: Ledger>(
     alloc: Global,
     state: &mut State<P>,
@@ -76,7 +107,7 @@ fn plan_of<P: WeightPolicy + Drop, L: Ledger>(
     regrouped: Regrouped,
     detail: Detail,
     steps: &mut Steps<L>,
-) -> Result<Plan, Memory>
+) -> Result<Plan, PlanFault>
     requires moves { AreMoves (policy_in P.weigh state.old) state.old.shape state.old.dims state.old.facts moves.now }
     requires regrouped { IsRegrouped (policy_in P.weigh state.old) (width_of_all state.old.shape.measures) state.old.dims moves.now.edit state.old.facts regrouped }
     requires accepted { judge_in P.weigh state.old moves.now.edit ≡ None }
@@ -86,6 +117,7 @@ fn plan_of<P: WeightPolicy + Drop, L: Ledger>(
     ensures fits { IfOk result (IsPlanFor P.weigh state.new) }
     ensures count { IfOk result (λ plan. plan.count ≡ length (refreshed_in P.weigh state.old moves.now.edit)) }
     ensures lists { IfOk result (λ plan. plan.lists ≡ lists_for detail (refreshed_in P.weigh state.old moves.now.edit) (difference (policy_in P.weigh state.old) state.old.dims moves.now.edit state.old.facts)) }
+    ensures memory { IfErr result (λ fault. fault ≡ plan_fault.Memory) }
     ensures steps { steps.new ≤ steps.old + (2 * covering_pairs (policy_in P.weigh state.old) state.old.dims moves.now.edit state.old.facts + 2) }
 {
     let rows = regrouped.rows;
@@ -93,14 +125,14 @@ fn plan_of<P: WeightPolicy + Drop, L: Ledger>(
         Ok(told) => told,
         Err(fault) => {
             drop(regrouped);
-            return Err(fault);
+            return Err(PlanFault::from(fault));
         }
     };
     let sets = match state.stage_all(moves, regrouped, steps) {
         Ok(sets) => sets,
         Err(fault) => {
             drop(lists);
-            return Err(fault);
+            return Err(PlanFault::from(fault));
         }
     };
     Ok(Plan {
@@ -112,21 +144,6 @@ fn plan_of<P: WeightPolicy + Drop, L: Ledger>(
         count,
         lists,
     })
-}
-
-/// What an edit moves that is not refused before its rows are made.
-fn judge_moves<P: WeightPolicy + Drop>(state: &State<P>, edit: &Edit) -> Result<Moves, PlanFault>
-    requires { IsEditOver state.now.dims edit.now }
-    ensures moves { IfOk result (AreMoves (policy_in P.weigh state.now) state.now.shape state.now.dims state.now.facts) }
-    ensures edit { IfOk result (λ moves. moves.edit ≡ edit.now) }
-    ensures trees { All IsTree state.now.dims }
-    ensures valid { AreValid state.now.shape state.now.dims state.now.facts }
-    ensures fault { IfErr result (IsPlanFaultOf P.weigh state.now edit.now) }
-{
-    if let Err(code) = judge_fact(state.shape(), state.space(), edit, state.facts()) {
-        return Err(PlanFault::Code(code));
-    }
-    Ok(state.moves(edit)?)
 }
 
 /// The groups that an edit changes, which leaves no more than 2^21 rows.

@@ -57,6 +57,13 @@ pub fn plan_all<P: WeightPolicy + Drop>(
             return Err(PlanAllFault::from(fault));
         }
     };
+    let all = match in_box(alloc, all) {
+        Ok(all) => all,
+        Err(fault) => {
+            drop(lists);
+            return Err(PlanAllFault::from(fault));
+        }
+    };
     Ok(Plan {
         change: PlanChange::All {
             new: Snapshot::of(facts),
@@ -65,6 +72,13 @@ pub fn plan_all<P: WeightPolicy + Drop>(
         count,
         lists,
     })
+}
+
+/// What is kept, in a box: so the plan of an edit needs no room for it.
+fn in_box(alloc: Global, all: FactsKept) -> Result<Box<FactsKept>, Memory>
+    ensures { IfOk result (λ boxed. boxed.value ≡ all) }
+{
+    Ok(Box::new(alloc, all)?)
 }
 
 /// How many of all facts are new or have an allocation that changed, and the lists of a plan, where the detail asks for them.
