@@ -1,7 +1,7 @@
 -- What is answered where a cube does not do an edit or a growth.
 use Rattle.std.proofs.Common.{◌≡◌, ℕ, List, [], ◌∷◌, Option, Some, None, Result, Err, refl}
 use Rattle.std.specs.Option.{option_map_or}
-use Rattle.std.specs.Prelude.{if◌then◌else◌, is_none, IfErr, IfOk, OnErr, OnOk, ⊤}
+use Rattle.std.specs.Prelude.{if◌then◌else◌, is_none, IfErr, IfOk, IfSome, OnErr, OnOk, ⊤}
 use Rattle.cube_base.specs.declared.code.Code.{Code}
 use Rattle.cube_base.specs.declared.code.Code.TheVariants as code
 use Rattle.cube_model.specs.declared.edit.Edit.{Edit}
@@ -49,10 +49,10 @@ told_same tells old new same_content same_journal = rw (same_content, same_journ
 
 -- What a line is answered that does this step and commits these batches, or why it is not done, where a cube and a keeper stand so
 -- before it and after it.
-pub record IsAnswered {P : Type 0} (cube cube_after : CubeValue P) (before after : Told) (faults faults_after : ℕ) (step : Step) (committed : List Batch) (result : Result Reply LineStop) : Type 0 where
-  pub reply : IfOk result (λ said. Some said ≡ step.reply)
+pub record IsAnswered {P : Type 0} (cube cube_after : CubeValue P) (before after : Told) (faults faults_after : ℕ) (step : Step) (committed : List Batch) (result : Result (Option Reply) LineStop) : Type 0 where
+  pub reply : IfOk result (λ said. said ≡ step.reply)
   pub state : OnOk result (cube_after ≡ cube_at cube step.state)
-  pub cells : IfOk result (NamesCells cube_after.schema.dims)
+  pub cells : IfOk result (λ said. IfSome said (NamesCells cube_after.schema.dims))
   pub same : OnErr result (cube_after ≡ cube)
   pub kept : OnOk result (Commits committed before after)
   pub same_kept : OnErr result (after ≡ before)

@@ -1,5 +1,5 @@
 -- Which lines change a cube, and where the doing of a line stops.
-use Rattle.std.specs.Prelude.{◌≡◌, ℕ, Bool, true, false, List, [], length, Result, Ok, Err}
+use Rattle.std.specs.Prelude.{◌≡◌, ℕ, Bool, true, false, List, [], length, Option, Some, Result, Ok, Err}
 use Rattle.cube_base.specs.declared.code.Code.{Code}
 use Rattle.cube_base.specs.declared.code.Code.TheVariants as code
 use Rattle.cube_base.specs.Outside.{Rose}
@@ -35,8 +35,8 @@ IsStopOf committed before after Memory = after ≡ before
 IsStopOf committed before after KeepFault = Rose before after × (length committed ≡ 1)
 
 -- the reply to an edit or a growth that a cube refuses, where that has one
-abbrev pub refusal_reply : EditFault → Result Reply LineStop
-refusal_reply (edit_fault.Code refusal) = Ok (reply.Refused refusal)
-refusal_reply (edit_fault.Rows would) = Ok (reply.Refused code.Rows)
+abbrev pub refusal_reply : EditFault → Result (Option Reply) LineStop
+refusal_reply (edit_fault.Code refusal) = Ok (Some (reply.Refused refusal))
+refusal_reply (edit_fault.Rows would) = Ok (Some (reply.Refused code.Rows))
 refusal_reply edit_fault.KeepFault = Err KeepFault
 refusal_reply edit_fault.Memory = Err Memory

@@ -1,5 +1,5 @@
 //! Reading a line of a script, and doing it on a cube.
-ghost use Rattle.std.specs.Prelude.{◌≡◌, ◌<◌, if◌then◌else◌, IfErr, IfOk, IfSome, IsTrue, OnErr, OnOk, Some};
+ghost use Rattle.std.specs.Prelude.{◌≡◌, ◌<◌, if◌then◌else◌, IfErr, IfOk, IfSome, IsTrue, OnErr, OnOk};
 ghost use Rattle.fact_records.specs.Valid.{IsEditOf};
 ghost use Rattle.schema_text.specs.Growth.{IsGrowOf};
 ghost use Rattle.schema_text.specs.Schema.{shape_of, weigh_of};
@@ -111,14 +111,8 @@ fn do_said<Q: Keeper>(
     ensures stays_open { StaysOpen (Q.tells keeper.old) (Q.tells keeper.new) }
 {
     match said {
-        Line::Edit(edit) => match do_edit(cube, edit, keeper) {
-            Ok(reply) => Ok(Some(reply)),
-            Err(stop) => Err(stop),
-        },
-        Line::Grow(grow) => match do_growth(cube, grow, keeper) {
-            Ok(reply) => Ok(Some(reply)),
-            Err(stop) => Err(stop),
-        },
+        Line::Edit(edit) => do_edit(cube, edit, keeper),
+        Line::Grow(grow) => do_growth(cube, grow, keeper),
         Line::Ask(question) => Ok(Some(reply(alloc, cube, question)?)),
         Line::Nothing => Ok(None),
     }
@@ -129,12 +123,12 @@ fn do_edit<Q: Keeper>(
     cube: &mut Cube<PolicyWord>,
     edit: &Edit,
     keeper: &mut Q,
-) -> Result<Reply, LineStop>
+) -> Result<Option<Reply>, LineStop>
     requires edit { IsEditOf (shape_of cube.old.schema) cube.old.schema.dims edit.now }
     requires open { IsTrue (Q.tells keeper.old).is_open }
-    ensures reply { IfOk result (λ reply. Some reply ≡ (edit_step (weigh_of cube.old.policy) cube.old.schema (state_of cube.old) edit.now).reply) }
+    ensures reply { IfOk result (λ reply. reply ≡ (edit_step (weigh_of cube.old.policy) cube.old.schema (state_of cube.old) edit.now).reply) }
     ensures state { OnOk result (cube.new ≡ cube_at cube.old (edit_step (weigh_of cube.old.policy) cube.old.schema (state_of cube.old) edit.now).state) }
-    ensures cells { IfOk result (NamesCells cube.new.schema.dims) }
+    ensures cells { IfOk result (λ reply. IfSome reply (NamesCells cube.new.schema.dims)) }
     ensures same { OnErr result (cube.new ≡ cube.old) }
     ensures kept { OnOk result (Commits (batches_of (weigh_of cube.old.policy) cube.old.schema (state_of cube.old) (line.Edit edit.now)) (told_of Q.tells keeper.old) (told_of Q.tells keeper.new)) }
     ensures same_kept { OnErr result (told_of Q.tells keeper.new ≡ told_of Q.tells keeper.old) }
@@ -151,15 +145,15 @@ fn do_edit_by<L: Ledger, Q: Keeper>(
     edit: &Edit,
     keeper: &mut Q,
     blank: Blank,
-) -> Result<Reply, LineStop>
+) -> Result<Option<Reply>, LineStop>
     requires edit { IsEditOf (shape_of cube.old.schema) cube.old.schema.dims edit.now }
     requires open { IsTrue (Q.tells keeper.old).is_open }
     requires name { blank.name ≡ L.name }
     requires parts { blank.parts ≡ L.parts }
     requires some { 0 < L.parts }
-    ensures reply { IfOk result (λ reply. Some reply ≡ (edit_step (weigh_of cube.old.policy) cube.old.schema (state_of cube.old) edit.now).reply) }
+    ensures reply { IfOk result (λ reply. reply ≡ (edit_step (weigh_of cube.old.policy) cube.old.schema (state_of cube.old) edit.now).reply) }
     ensures state { OnOk result (cube.new ≡ cube_at cube.old (edit_step (weigh_of cube.old.policy) cube.old.schema (state_of cube.old) edit.now).state) }
-    ensures cells { IfOk result (NamesCells cube.new.schema.dims) }
+    ensures cells { IfOk result (λ reply. IfSome reply (NamesCells cube.new.schema.dims)) }
     ensures same { OnErr result (cube.new ≡ cube.old) }
     ensures kept { OnOk result (Commits (batches_of (weigh_of cube.old.policy) cube.old.schema (state_of cube.old) (line.Edit edit.now)) (told_of Q.tells keeper.old) (told_of Q.tells keeper.new)) }
     ensures same_kept { OnErr result (told_of Q.tells keeper.new ≡ told_of Q.tells keeper.old) }
@@ -169,7 +163,7 @@ fn do_edit_by<L: Ledger, Q: Keeper>(
 {
     let mut steps = Steps::<L>::new(blank);
     match cube.edit_and_count(edit, keeper, &mut steps) {
-        Ok(refreshed) => Ok(Reply::Done(refreshed)),
+        Ok(refreshed) => Ok(Some(Reply::Done(refreshed))),
         Err(fault) => reply_to(fault),
     }
 }
@@ -179,12 +173,12 @@ fn do_growth<Q: Keeper>(
     cube: &mut Cube<PolicyWord>,
     grow: &Grow,
     keeper: &mut Q,
-) -> Result<Reply, LineStop>
+) -> Result<Option<Reply>, LineStop>
     requires grow { IsGrowOf cube.old.schema.dims grow.now }
     requires open { IsTrue (Q.tells keeper.old).is_open }
-    ensures reply { IfOk result (λ reply. Some reply ≡ (growth (weigh_of cube.old.policy) cube.old.schema (state_of cube.old) grow.now).reply) }
+    ensures reply { IfOk result (λ reply. reply ≡ (growth (weigh_of cube.old.policy) cube.old.schema (state_of cube.old) grow.now).reply) }
     ensures state { OnOk result (cube.new ≡ cube_at cube.old (growth (weigh_of cube.old.policy) cube.old.schema (state_of cube.old) grow.now).state) }
-    ensures cells { IfOk result (NamesCells cube.new.schema.dims) }
+    ensures cells { IfOk result (λ reply. IfSome reply (NamesCells cube.new.schema.dims)) }
     ensures same { OnErr result (cube.new ≡ cube.old) }
     ensures kept { OnOk result (Commits (batches_of (weigh_of cube.old.policy) cube.old.schema (state_of cube.old) (line.Grow grow.now)) (told_of Q.tells keeper.old) (told_of Q.tells keeper.new)) }
     ensures same_kept { OnErr result (told_of Q.tells keeper.new ≡ told_of Q.tells keeper.old) }
@@ -193,18 +187,18 @@ fn do_growth<Q: Keeper>(
     ensures stays_open { StaysOpen (Q.tells keeper.old) (Q.tells keeper.new) }
 {
     match cube.grow(grow, keeper) {
-        Ok(grown) => Ok(Reply::Done(grown.refreshed.as_slice().len() as u64)),
+        Ok(grown) => Ok(Some(Reply::Done(grown.refreshed.as_slice().len() as u64))),
         Err(fault) => reply_to(fault),
     }
 }
 
 /// The reply to an edit or a growth that a cube refuses, where that has one.
-fn reply_to(fault: EditFault) -> Result<Reply, LineStop>
+fn reply_to(fault: EditFault) -> Result<Option<Reply>, LineStop>
     ensures { result ≡ refusal_reply fault }
 {
     match fault {
-        EditFault::Code(code) => Ok(Reply::Refused(code)),
-        EditFault::Rows { .. } => Ok(Reply::Refused(Code::Rows)),
+        EditFault::Code(code) => Ok(Some(Reply::Refused(code))),
+        EditFault::Rows { .. } => Ok(Some(Reply::Refused(Code::Rows))),
         EditFault::KeepFault => Err(LineStop::KeepFault),
         EditFault::Memory => Err(LineStop::Memory),
     }
